@@ -1,0 +1,52 @@
+-- What a loop leaves that stores one word a turn: the words from a up to e are new, the others are old. Assumes nothing.
+use mathlib.Core.Path.{_≡_, refl, sym, ap, _∙_}
+use mathlib.Core.List.{List}
+use Prim.Native.Nat.{ℕ, _+_, _-_, _≤_, _<_}
+use native.Mathlib.Omega.{arith}
+use lib.ListN.{length, getD, set, length-set}
+use lib.Seq.{getD-set-same, getD-set-other}
+use Rattle.word.proofs.Cases.{by-eq}
+
+-- a stored word, at any index
+pub getD-set : (ws : List ℕ) (i k v : ℕ) → i < length ws → k ≡ i → getD (set ws i v) k 0 ≡ v
+getD-set ws i k v h e = ap (λ (m : ℕ). getD (set ws i v) m 0) e ∙ getD-set-same ws i v 0 h
+
+pub record Swept (old : List ℕ) (new : ℕ → ℕ) (a e : ℕ) (ws : List ℕ) : Type 0 where
+  pub long : length ws ≡ length old
+  pub fresh : (k : ℕ) → a ≤ k → k < e → getD ws k 0 ≡ new k
+  pub below : (k : ℕ) → k < a → getD ws k 0 ≡ getD old k 0
+  pub above : (k : ℕ) → e ≤ k → getD ws k 0 ≡ getD old k 0
+
+pub sweep-none : (old : List ℕ) (new : ℕ → ℕ) (a : ℕ) → Swept old new a a old
+sweep-none old new a = record { long = refl; fresh = λ k p q. absurd (omega arith); below = λ k p. refl; above = λ k p. refl }
+
+-- the ends, by equations
+pub sweep-to : (old : List ℕ) (new : ℕ → ℕ) (a e a' e' : ℕ) (ws : List ℕ) → Swept old new a e ws → a ≡ a' → e ≡ e' → Swept old new a' e' ws
+sweep-to old new a e a' e' ws s p q = rw (← p, ← q) s
+
+-- one more word at the upper end
+pub sweep-up : (old : List ℕ) (new : ℕ → ℕ) (a e : ℕ) (ws : List ℕ) (v : ℕ) → Swept old new a e ws → e < length ws → a ≤ e → v ≡ new e
+    → Swept old new a (e + 1) (set ws e v)
+sweep-up old new a e ws v s h l q = record {
+  long = length-set ws e v ∙ s .long;
+  fresh = λ k p r.
+      by-eq k e (λ x. getD-set ws e k v h x ∙ q ∙ ap new (sym x)) (λ x. getD-set-other ws e k v 0 x ∙ s .fresh k p (omega arith));
+  below = λ k p. getD-set-other ws e k v 0 (omega arith) ∙ s .below k p;
+  above = λ k p. getD-set-other ws e k v 0 (omega arith) ∙ s .above k (omega arith);
+}
+
+-- one more word at the lower end
+pub sweep-down : (old : List ℕ) (new : ℕ → ℕ) (a e : ℕ) (ws : List ℕ) (v : ℕ) → Swept old new (a + 1) e ws → a < length ws → a < e → v ≡ new a
+    → Swept old new a e (set ws a v)
+sweep-down old new a e ws v s h l q = record {
+  long = length-set ws a v ∙ s .long;
+  fresh = λ k p r.
+      by-eq k a (λ x. getD-set ws a k v h x ∙ q ∙ ap new (sym x)) (λ x. getD-set-other ws a k v 0 x ∙ s .fresh k (omega arith) r);
+  below = λ k p. getD-set-other ws a k v 0 (omega arith) ∙ s .below k (omega arith);
+  above = λ k p. getD-set-other ws a k v 0 (omega arith) ∙ s .above k p;
+}
+
+pub sweep-back : (old : List ℕ) (new : ℕ → ℕ) (a e : ℕ) (ws : List ℕ) (v : ℕ) → Swept old new a e ws → 0 < a → a ≤ length ws → a ≤ e → v ≡ new (a - 1)
+    → Swept old new (a - 1) e (set ws (a - 1) v)
+sweep-back old new a e ws v s p h l q =
+    sweep-down old new (a - 1) e ws v (sweep-to old new a e (a - 1 + 1) e ws s (omega arith) refl) (omega arith) (omega arith) q
