@@ -1,0 +1,112 @@
+-- The promises of specs/Promises. Assumes nothing.
+use mathlib.Core.Path.{_≡_, refl, sym, ap, ap₂, _∙_, subst}
+use mathlib.Core.Bool.{Bool, true, false, not, _&&_, false≢true}
+use mathlib.Core.List.{List}
+use Prim.Native.Nat.{ℕ, _+_, _*_, _/_, _%_, _^_, _≤_, _<_}
+use native.Mathlib.Nat.{mod-eq-of-lt}
+use native.Mathlib.Omega.{arith}
+use lib.ListN.{length, getD}
+use lib.Dec.{leb, ltb, eqb}
+use borrow.Author.Tests.{lt-ltb, le-ltb, le-leb, lt-leb, eq-eqb, ne-eqb, eqb-true, eqb-false, not-true, not-false}
+use Rattle.word.specs.Sets.{choose, countBelow, leastFrom, topBelow, nth, Nth, Least, Top}
+use Rattle.word.specs.Bits.{bit, member, wordsOf, tabFrom}
+use Rattle.word.proofs.Cases.{by-lt, by-eq, by-test, and-false}
+use Rattle.word.proofs.Bits.{bit-zero, no-bits}
+use Rattle.word.proofs.Sets.{count-le, least, top, nth-has, nth-none}
+use Rattle.word.proofs.Lists.{Fit, past, at-place, member-at, member-past, member-words, length-words, length-tab}
+use Rattle.arch.specs.Scans.{Alike, firstOther, wordFound, nonzeroLen, isZero, countSet, filled}
+use Rattle.arch.specs.Select.{selectIn, selectTable, selectBy}
+use Rattle.arch.specs.Promises.{FirstOther, ZeroIsEmpty, CountIsWhole, Fills, TableRule, SelectsRank}
+use Rattle.arch.specs.declared.FoundWord.{FoundWord}
+use Rattle.arch.specs.declared.FoundWord.the-variants.{At, Nothing}
+use Rattle.arch.proofs.Scans.{nonzero-none}
+use Rattle.arch.proofs.Table.{table-entry, select-by-table}
+
+-- ---- scans
+
+pub first-other : (x : ℕ) (ws : List ℕ) → FirstOther x ws (wordFound ws (firstOther x ws))
+unfolding firstOther wordFound
+first-other x ws =
+    by-lt k (length ws)
+    (λ h.
+    subst (FirstOther x ws) (sym (ap (λ (t : Bool). choose t (At k (getD ws k 0)) Nothing) (lt-ltb k (length ws) h)))
+    (h, refl, eqb-false (getD ws k 0) x (not-true (eqb (getD ws k 0) x) (r .here (omega arith))), alike))
+    (λ h.
+    subst (FirstOther x ws) (sym (ap (λ (t : Bool). choose t (At k (getD ws k 0)) Nothing) (le-ltb k (length ws) h)))
+    (record { at = λ j a b. alike .at j a (omega arith) }))
+  where
+    s : ℕ → Bool
+    s j = not (eqb (getD ws j 0) x)
+
+    k : ℕ
+    k = leastFrom s 0 (length ws)
+
+    r : Least s 0 (0 + length ws) k
+    r = least s 0 (length ws)
+
+    alike : Alike ws x 0 k
+    alike = record { at = λ j a b. eqb-true (getD ws j 0) x (not-false (eqb (getD ws j 0) x) (r .under j a b)) }
+
+pub zero-is-empty : (ws : List ℕ) → Fit ws → ZeroIsEmpty ws
+unfolding isZero nonzeroLen
+zero-is-empty ws f = record {
+  empty = λ e i.
+      by-lt i (64 * length ws)
+      (λ l.
+      ap (member ws) (sym (at-place i)) ∙ member-at ws (i / 64) (i % 64) (omega arith)
+      ∙ ap (λ (x : ℕ). bit x (i % 64)) (zero-word e (i / 64) (omega arith)) ∙ bit-zero (i % 64))
+      (λ l. member-past ws i l);
+  zero = λ h.
+      eq-eqb (nonzeroLen ws) 0
+      (sym (nonzero-none ws (record { at = λ k a b. no-bits 64 (getD ws k 0) (f k) (λ j l. sym (member-at ws k j l) ∙ h (64 * k + j)) })));
+}
+  where
+    s : ℕ → Bool
+    s k = not (eqb (getD ws k 0) 0)
+
+    zero-word : eqb (topBelow s (length ws)) 0 ≡ true → (k : ℕ) → k < length ws → getD ws k 0 ≡ 0
+    zero-word e k l =
+        eqb-true (getD ws k 0) 0
+        (not-false (eqb (getD ws k 0) 0) (top s (length ws) .over k (omega (arith, eqb-true (topBelow s (length ws)) 0 e)) l))
+
+pub count-is-whole : CountIsWhole
+unfolding countSet
+count-is-whole ws h = mod-eq-of-lt (omega (arith, count-le (member ws) (64 * length ws)))
+
+-- ---- regions
+
+pub fills : (from end : ℕ) (v : Bool) (ws : List ℕ) → Fills from end v ws (filled from end v ws)
+unfolding filled
+fills from end v ws = record {
+  long = length-words s (length ws);
+  in-region = λ i l a b.
+      member-words s (length ws) i l
+      ∙ ap₂ (λ (p q : Bool). choose (p && q) v (member ws i)) (le-leb from i a) (lt-ltb i end b);
+  before = λ i h. outside i (ap (λ (p : Bool). p && ltb i end) (lt-leb from i h));
+  after = λ i h. outside i (ap (λ (p : Bool). leb from i && p) (le-ltb i end h) ∙ and-false (leb from i));
+}
+  where
+    s : ℕ → Bool
+    s i = choose (leb from i && ltb i end) v (member ws i)
+
+    outside : (i : ℕ) → leb from i && ltb i end ≡ false → member (wordsOf s (length ws)) i ≡ member ws i
+    outside i e =
+        by-lt i (64 * length ws)
+        (λ l. member-words s (length ws) i l ∙ ap (λ (p : Bool). choose p v (member ws i)) e)
+        (λ l. member-past (wordsOf s (length ws)) i (omega (arith, length-words s (length ws))) ∙ sym (member-past ws i l))
+
+-- ---- the member of a rank
+
+pub table-rule : TableRule
+unfolding selectTable
+table-rule = record {
+  size = length-tab 0 2048 (λ k. selectIn (k / 8) (k % 8));
+  one = λ byte rank hb hr h. subst (Nth (bit byte) rank 8) (sym (table-entry byte rank hb hr)) (nth-has (bit byte) rank 0 8 h);
+  none = λ byte rank hb hr h. table-entry byte rank hb hr ∙ nth-none (bit byte) rank 0 8 h;
+}
+
+pub selects-rank : (x r : ℕ) → SelectsRank x r (selectBy selectTable x r)
+selects-rank x r = record {
+  one = λ h. subst (Nth (bit x) r 64) (sym (select-by-table x r)) (nth-has (bit x) r 64 64 h);
+  none = λ h. select-by-table x r ∙ nth-none (bit x) r 64 64 h;
+}

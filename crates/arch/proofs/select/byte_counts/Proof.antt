@@ -1,0 +1,19 @@
+use native.Mathlib.Omega.{arith}
+use Rattle.arch.proofs.Counted.{paired, added-le, no-wrap, counted}
+use Rattle.arch.proofs.select.byte_counts.Statement.{statement}
+use Rattle.arch.proofs.select.byte_counts.Tie as tie
+
+sub-s : tie.Need-sub-s
+sub-s c = no-wrap (c .args .x) (c .fits .x .fits)
+
+add-s : tie.Need-add-s
+add-s c = omega (arith, added-le (paired (c .args .x)))
+
+add-result : tie.Need-add-result
+add-result c = omega (arith, added-le (paired (c .args .x)))
+
+returns : tie.Need-returns
+returns c = counted (c .args .x) (c .fits .x .fits)
+
+pub byte-counts-spec : {M : Type 1} → statement M
+byte-counts-spec = tie.close (tie.spec sub-s add-s add-result returns)

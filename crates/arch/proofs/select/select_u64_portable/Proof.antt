@@ -1,0 +1,22 @@
+use mathlib.Core.Path.{sym}
+use native.Mathlib.Omega.{arith}
+use borrow.Author.Needs.{needs}
+use Rattle.arch.proofs.Table.{select-none}
+use Rattle.arch.proofs.select.select_u64_portable.Statement.{statement}
+use Rattle.arch.proofs.select.select_u64_portable.Tie as tie
+
+count-ones-requires : tie.Need-count-ones-requires
+count-ones-requires c κs = search needs
+
+returns : tie.Need-returns
+returns c = sym (select-none _ _ _ (omega arith))
+
+select-present-requires : tie.Need-select-present-requires
+select-present-requires c κs = search needs
+
+returns-2 : tie.Need-returns-2
+returns-2 c = search needs
+
+pub select-u64-portable-spec : {M : Type 1} → statement M
+select-u64-portable-spec =
+    tie.close (tie.spec count-ones-requires returns select-present-requires returns-2)
