@@ -1,0 +1,5 @@
+pub mod Checks
+pub mod Views
+pub mod Stores
+pub mod Trims
+pub mod Promises

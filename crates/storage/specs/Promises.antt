@@ -1,0 +1,76 @@
+-- What the definitions promise, in words of their own. Each is proved in proofs/Promises.
+use Prim.Native.Nat.{ℕ, _*_, _≤_, _<_, _^_}
+use mathlib.Core.Path.{_≡_}
+use mathlib.Core.Bool.{Bool, true, false}
+use mathlib.Core.List.{List}
+use lib.ListN.{length, getD}
+use Rattle.word.specs.Bits.{member}
+use Rattle.storage.specs.Refusals.{numberOf, changeNumber, changeRecord}
+use Rattle.storage.specs.Stores.{Bits, Bounded, Outcome, refused, done, Op, limit, view, beside, within, trimmedCount, written, Changes}
+use Rattle.storage.specs.declared.Bitmap.{Bitmap}
+use Rattle.storage.specs.declared.Refusal.{Refusal}
+use Rattle.storage.specs.declared.Change.{Change}
+use Rattle.storage.specs.declared.Change.the-variants.{Done, Refused}
+
+-- demand 1: the numbers 1 to 14, each for one refusal
+pub record EachNumberOnce : Type 0 where
+  pub range : (e : Refusal) → (1 ≤ numberOf e) × (numberOf e ≤ 14)
+  pub once : (d e : Refusal) → numberOf d ≡ numberOf e → d ≡ e
+  pub each : (n : ℕ) → 1 ≤ n → n ≤ 14 → (e : Refusal) × (numberOf e ≡ n)
+
+-- demand 1: whatever the operation, a call whose number is not 0 returns the old record and leaves every word
+abbrev pub RefusalKeeps : Type 0
+RefusalKeeps =
+    (op : Op) (ws ws' : List ℕ) (b : Bitmap) (r : Change) → Changes op ws b r ws' → 0 < changeNumber r → (changeRecord r ≡ b) × (ws' ≡ ws)
+
+-- demand 1: whatever the operation, 1 comes first, then 2, then the second store's 1 and 2
+pub record StoresFirst : Type 0 where
+  pub long : (op : Op) (ws ws' : List ℕ) (b : Bitmap) (r : Change) → Changes op ws b r ws' → limit < length ws → changeNumber r ≡ 1
+  pub over : (op : Op) (ws ws' : List ℕ) (b : Bitmap) (r : Change) → Changes op ws b r ws' → length ws ≤ limit → length ws < b .count → changeNumber r ≡ 2
+  pub second-long : (op : Bits → Op) (os ws ws' : List ℕ) (n : ℕ) (b : Bitmap) (r : Change) → Changes (beside os n op) ws b r ws'
+      → length ws ≤ limit → b .count ≤ length ws → limit < length os → changeNumber r ≡ 1
+  pub second-over : (op : Bits → Op) (os ws ws' : List ℕ) (n : ℕ) (b : Bitmap) (r : Change) → Changes (beside os n op) ws b r ws'
+      → length ws ≤ limit → b .count ≤ length ws → length os ≤ limit → length os < n → changeNumber r ≡ 2
+
+-- demand 2: words and sets determine each other
+pub record WordsAndSets : Type 0 where
+  -- words of one length with the same members are equal
+  pub words : (xs ys : List ℕ) → ((k : ℕ) → getD xs k 0 < 2 ^ 64) → ((k : ℕ) → getD ys k 0 < 2 ^ 64) → length xs ≡ length ys
+      → ((i : ℕ) → member xs i ≡ member ys i) → xs ≡ ys
+  -- what is written reads back
+  pub back : (ws : List ℕ) (n : ℕ) (b : Bits) → b .count ≤ length ws → n ≤ length ws → Bounded b → view (written ws n b) (b .count) ≡ b
+  -- to write what is read changes nothing
+  pub same : (ws : List ℕ) (n : ℕ) → ((k : ℕ) → getD ws k 0 < 2 ^ 64) → ws ≡ written ws n (view ws n)
+
+-- demand 2: a word that enters use is the set's, one that leaves it is 0, one outside both counts is as it was
+pub record SpaceRules (ws : List ℕ) (n : ℕ) (b : Bits) (ws' : List ℕ) : Type 0 where
+  pub long : length ws' ≡ length ws
+  pub used : (i : ℕ) → i < 64 * b .count → member ws' i ≡ b .members i
+  pub dropped : (k : ℕ) → b .count ≤ k → k < n → getD ws' k 0 ≡ 0
+  pub kept : (k : ℕ) → b .count ≤ k → n ≤ k → getD ws' k 0 ≡ getD ws k 0
+
+-- demand 2: 6 exactly where the result has more words than there are
+pub record SpaceExact (c : ℕ) (b : Bits) : Type 0 where
+  pub enough : b .count ≤ c → within c b ≡ done b
+  pub lacking : c < b .count → (e : Refusal) × (within c b ≡ refused e) × (numberOf e ≡ 6)
+
+-- demand 2: the trimmed count holds all members, and is the least that does
+pub record LeastCount (s : ℕ → Bool) (n m : ℕ) : Type 0 where
+  pub low : m ≤ n
+  pub holds : (i : ℕ) → i < 64 * n → s i ≡ true → i < 64 * m
+  pub least : (k : ℕ) → ((i : ℕ) → i < 64 * n → s i ≡ true → i < 64 * k) → m ≤ k
+
+-- an operation whose results have space and hold no member past their words
+pub record Sound (op : Op) : Type 0 where
+  pub space : (c : ℕ) (b s : Bits) → Bounded b → b .count ≤ c → op c b ≡ done s → s .count ≤ c
+  pub bound : (c : ℕ) (b s : Bits) → Bounded b → b .count ≤ c → op c b ≡ done s → Bounded s
+
+-- calls in a row: the next call on the record and the store that a call left sees exactly what the operation made
+pub record Seen (op : Op) (ws : List ℕ) (b b' : Bitmap) (ws' : List ℕ) (s : Bits) : Type 0 where
+  pub made : op (length ws) (view ws (b .count)) ≡ done s
+  pub long : length ws' ≡ length ws
+  pub seen : view ws' (b' .count) ≡ s
+  pub inside : b' .count ≤ length ws'
+
+abbrev pub Chains : Type 0
+Chains = (op : Op) (ws ws' : List ℕ) (b b' : Bitmap) → Sound op → Changes op ws b (Done b') ws' → (s : Bits) × Seen op ws b b' ws' s

@@ -1,0 +1,109 @@
+-- What a call makes of a bitmap. Its meaning is a set of numbers and a word count; a call is an operation on those, and the words follow:
+-- word k in use is the set's, a word that falls out of use is 0, and a word outside both counts is as it was (01, "Words that enter and leave use").
+use Prim.Native.Nat.{ℕ, zero, suc, _+_, _*_, _/_, _≤_, _<_}
+use mathlib.Core.Path.{_≡_}
+use mathlib.Core.Bool.{Bool, true, false, _&&_}
+use mathlib.Core.List.{List}
+use lib.ListN.{length, getD}
+use lib.Dec.{ltb}
+use Rattle.word.specs.Sets.{choose, topBelow}
+use Rattle.word.specs.Bits.{wordOf, member, tabFrom}
+use Rattle.arch.specs.Scans.{filledWords}
+use Rattle.storage.specs.declared.Bitmap.{Bitmap}
+use Rattle.storage.specs.declared.Refusal.{Refusal}
+use Rattle.storage.specs.declared.Refusal.the-variants.{StoreTooLong, CountOverStore, NoSpace}
+use Rattle.storage.specs.declared.Change.{Change}
+use Rattle.storage.specs.declared.Change.the-variants.{Done, Refused}
+
+-- the meaning of a bitmap: its members, and the words in use
+pub record Bits : Type 0 where
+  pub members : ℕ → Bool
+  pub count : ℕ
+
+-- no number past the words in use is a member
+pub record Bounded (b : Bits) : Type 0 where
+  pub past : (i : ℕ) → 64 * b .count ≤ i → b .members i ≡ false
+
+pub data Outcome : Type 0 where
+  refused : Refusal → Outcome
+  done : Bits → Outcome
+
+-- an operation, from the store's capacity in words and the bitmap's meaning
+abbrev pub Op : Type 0
+Op = ℕ → Bits → Outcome
+
+-- the most words that a store may have
+abbrev pub limit : ℕ
+limit = 67_108_864
+
+-- 1 and then 2 come before all else: a store over the limit, a count over its store
+unfoldable pub checked : {A : Type 0} → ℕ → ℕ → (Refusal → A) → A → A
+checked c n refuse a = choose (ltb limit c) (refuse StoreTooLong) (choose (ltb c n) (refuse CountOverStore) a)
+
+-- the first n words of a store
+unfoldable pub view : List ℕ → ℕ → Bits
+view ws n = record { members = λ i. ltb (i / 64) n && member ws i; count = n }
+
+-- an operation with a second bitmap, the first n words of the store os: it is looked at after the first
+unfoldable pub beside : List ℕ → ℕ → (Bits → Op) → Op
+unfolding checked view
+beside os n op c b = checked (length os) n refused (op (view os n) c b)
+
+-- 6 where the result has more words than there are
+unfoldable pub within : ℕ → Bits → Outcome
+within c b = choose (ltb c (b .count)) (refused NoSpace) (done b)
+
+-- the words that n bits need
+unfoldable pub wordsFor : ℕ → ℕ
+wordsFor n = (n + 63) / 64
+
+-- the fewest words that hold every member of the first n words: trailing zero words are dropped
+unfoldable pub trimmedCount : (ℕ → Bool) → ℕ → ℕ
+unfolding wordsFor
+trimmedCount s n = wordsFor (topBelow s (64 * n))
+
+abbrev pub trimmed : Bits → Bits
+trimmed b = record { members = b .members; count = trimmedCount (b .members) (b .count) }
+
+-- word k of a store whose bitmap of n words has become b
+unfoldable pub wordAt : List ℕ → ℕ → Bits → ℕ → ℕ
+wordAt ws n b k =
+    let w = wordOf (b .members) k in
+    choose (ltb k (b .count)) w (choose (ltb k n) 0 (getD ws k 0))
+
+unfoldable pub written : List ℕ → ℕ → Bits → List ℕ
+unfolding tabFrom wordAt
+written ws n b = tabFrom 0 (length ws) (wordAt ws n b)
+
+-- growth: the words between the old and the new count are 0
+unfoldable pub zeroed : ℕ → ℕ → List ℕ → List ℕ
+unfolding filledWords
+zeroed old new ws = filledWords old new 0 ws
+
+-- what is answered, and what is left in the store: a refusal returns the old record and leaves every word
+unfoldable pub answer : Outcome → Bitmap → Change
+answer (refused e) b = Refused e b
+answer (done s) b = Done (record { count = s .count })
+
+unfoldable pub store : Outcome → List ℕ → ℕ → List ℕ
+unfolding written
+store (refused e) ws n = ws
+store (done s) ws n = written ws n s
+
+-- a call that came to the outcome o answers r and leaves ws' of the store ws, in which the bitmap was b
+pub record Leaves (o : Outcome) (ws : List ℕ) (b : Bitmap) (r : Change) (ws' : List ℕ) : Type 0 where
+  pub answers : r ≡ answer o b
+  pub leaves : ws' ≡ store o ws (b .count)
+
+-- what an operation makes of the bitmap in a store
+unfoldable pub outcome : Op → List ℕ → ℕ → Outcome
+unfolding checked view
+outcome op ws n = checked (length ws) n refused (op (length ws) (view ws n))
+
+-- a call that carries out op on the store ws and the bitmap b
+abbrev pub Changes : Op → List ℕ → Bitmap → Change → List ℕ → Type 0
+Changes op ws b r ws' = Leaves (outcome op ws (b .count)) ws b r ws'
+
+-- a call that makes a bitmap in a store with no earlier count: no word was in use, and a refusal returns 0
+abbrev pub Makes : Op → List ℕ → Change → List ℕ → Type 0
+Makes op ws r ws' = Changes op ws (record { count = 0 }) r ws'
