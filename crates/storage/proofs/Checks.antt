@@ -6,7 +6,7 @@ use native.Mathlib.Omega.{arith}
 use lib.ListN.{length}
 use borrow.Author.Tests.{lt-ltb, le-ltb}
 use Rattle.word.proofs.Cases.{by-lt}
-use Rattle.storage.specs.Stores.{Bits, Outcome, refused, done, Op, limit, checked, view, beside, within}
+use Rattle.storage.specs.Stores.{Bits, Outcome, refused, done, Op, limit, checked, view, reading, beside, within}
 use Rattle.storage.specs.declared.Refusal.{Refusal}
 use Rattle.storage.specs.declared.Refusal.the-variants.{StoreTooLong, CountOverStore, NoSpace}
 use Rattle.storage.specs.declared.Guard.{Guard}
@@ -49,6 +49,17 @@ stopped c n e refuse a p =
     (λ h. by-lt c n
     (λ l. let q : Stop e ≡ Stop CountOverStore = p ∙ checked-over c n Stop Pass h l in checked-over c n refuse a h l ∙ ap refuse (cc))
     (λ l. absurd (never e (p ∙ checked-ok c n Stop Pass h l))))
+
+-- ---- calls that only read
+
+pub reading-ok : {A : Type 0} (ws : List ℕ) (n : ℕ) (refuse : Refusal → A) (f : Bits → A) → Passed (length ws) n → reading ws n refuse f ≡ f (view ws n)
+unfolding reading
+reading-ok ws n refuse f p = checked-ok (length ws) n refuse (f (view ws n)) (p .short) (p .inside)
+
+pub reading-stopped : {A : Type 0} (ws : List ℕ) (n : ℕ) (e : Refusal) (refuse : Refusal → A) (f : Bits → A) → Stop e ≡ checked (length ws) n Stop Pass
+    → reading ws n refuse f ≡ refuse e
+unfolding reading
+reading-stopped ws n e refuse f p = stopped (length ws) n e refuse (f (view ws n)) p
 
 -- ---- a second store
 

@@ -2,4 +2,5 @@ pub mod Checks
 pub mod Views
 pub mod Stores
 pub mod Trims
+pub mod Sizes
 pub mod Promises

@@ -1,18 +1,20 @@
 -- What is written reads back, and what a call leaves. Assumes nothing.
 use mathlib.Core.Path.{_≡_, refl, sym, ap, _∙_, fun-ext, subst}
 use mathlib.Core.Bool.{Bool, true, false, _&&_}
-use mathlib.Core.List.{List}
+use mathlib.Core.List.{List, _++_}
 use mathlib.Core.Logic.{_⊎_, inl, inr}
-use Prim.Native.Nat.{ℕ, _+_, _*_, _/_, _%_, _^_, _≤_, _<_}
+use Prim.Native.Nat.{ℕ, _+_, _-_, _*_, _/_, _%_, _^_, _≤_, _<_}
 use native.Mathlib.Omega.{arith}
-use lib.ListN.{length, getD}
+use lib.ListN.{length, getD, set, take, drop, length-set, length-append, length-drop, List·getD-append}
+use lib.Seq.{getD-append-add, getD-drop, getD-set-other, length-take-le}
 use lib.Dec.{ltb}
 use borrow.Author.Tests.{lt-ltb, le-ltb}
 use Rattle.word.specs.Sets.{choose}
-use Rattle.word.specs.Bits.{bit, pack, wordOf, member, tabFrom}
-use Rattle.word.proofs.Cases.{by-lt}
+use Rattle.word.specs.Bits.{bit, pack, wordOf, member, tabFrom, wordsOf}
+use Rattle.word.proofs.Cases.{by-lt, by-eq}
 use Rattle.word.proofs.Bits.{bit-zero, bit-pack, pack-is, pack-lt}
-use Rattle.word.proofs.Lists.{Fit, at-place, past, length-tab, tab-at, tab-is}
+use Rattle.word.proofs.Lists.{Fit, at-place, past, length-tab, tab-at, tab-is, length-words, word-at, words-fit}
+use Rattle.word.proofs.Sweep.{getD-set}
 use Rattle.arch.specs.Scans.{filledWords}
 use Rattle.arch.proofs.Regions.{length-filled-words, filled-in, filled-below, filled-above}
 use Rattle.storage.specs.Stores.{Bits, Bounded, Outcome, refused, done, Op, limit, checked, view, wordAt, written, zeroed, answer, store, Leaves, outcome, Changes}
@@ -184,3 +186,55 @@ module _ (op : Op) (ws : List ℕ) (b : Bitmap) where
   pub changes-done : (ws' : List ℕ) (s : Bits) (m : ℕ) → Passed (length ws) (b .count) → op (length ws) (view ws (b .count)) ≡ done s
       → Stored ws (b .count) s ws' → m ≡ s .count → Changes op ws b (Done (record { count = m })) ws'
   changes-done ws' s m p q t e = leaves-done (outcome-ok p ∙ q) t e
+
+-- ---- a kernel on the words in use, which the rest of the store follows
+
+pub part-stored : (ws ws' : List ℕ) (n : ℕ) (f : ℕ → Bool) (s : Bits) → n ≤ length ws → ws' ≡ wordsOf f n ++ drop n ws → s .count ≡ n
+    → ((i : ℕ) → i < 64 * n → f i ≡ s .members i) → Stored ws n s ws'
+unfolding wordOf
+part-stored ws ws' n f s h e q g = record {
+  long = ap length e ∙ length-append (wordsOf f n) (drop n ws) ∙ omega (arith, length-words f n, length-drop n ws);
+  fits = λ k p. subst (λ (x : ℕ). x < 2 ^ 64) (sym (front k (omega arith))) (words-fit f n k);
+  used = λ k j p l.
+      ap (λ (x : ℕ). bit x j) (front k (omega arith) ∙ word-at f n k (omega arith))
+      ∙ bit-pack 64 (λ j. f (64 * k + j)) j l ∙ g (64 * k + j) (omega arith);
+  dropped = λ k p r. absurd (omega arith);
+  kept = λ k p r.
+      ap (λ (y : List ℕ). getD y k 0) e ∙ ap (λ (m : ℕ). getD (wordsOf f n ++ drop n ws) m 0) (omega (arith, length-words f n))
+      ∙ getD-append-add (wordsOf f n) (drop n ws) (k - n) 0 ∙ getD-drop n ws (k - n) 0 ∙ ap (λ (m : ℕ). getD ws m 0) (omega arith);
+}
+  where
+    front : (k : ℕ) → k < n → getD ws' k 0 ≡ getD (wordsOf f n) k 0
+    front k l = ap (λ (y : List ℕ). getD y k 0) e ∙ List·getD-append (wordsOf f n) (drop n ws) 0 k (omega (arith, length-words f n))
+
+-- a call that keeps the count, by a kernel that leaves the words of g
+pub part-changes : (op : Op) (ws part : List ℕ) (b : Bitmap) (g : ℕ → Bool) (s : Bits) → Passed (length ws) (b .count)
+    → op (length ws) (view ws (b .count)) ≡ done s → s .count ≡ b .count → part ≡ wordsOf g (length (take (b .count) ws))
+    → ((i : ℕ) → i < 64 * b .count → g i ≡ s .members i) → Changes op ws b (Done b) (part ++ drop (b .count) ws)
+part-changes op ws part b g s p q e w h =
+    changes-done op ws b (part ++ drop n ws) s n p q
+    (part-stored ws (part ++ drop n ws) n g s (p .inside)
+    (ap (λ (y : List ℕ). y ++ drop n ws) (w ∙ ap (wordsOf g) (length-take-le n ws (p .inside)))) e h)
+    (sym e)
+  where
+    n : ℕ
+    n = b .count
+
+-- ---- one word changed
+
+pub word-stored : (ws : List ℕ) (n k v : ℕ) (s : Bits) → Fit ws → n ≤ length ws → k < n → s .count ≡ n → v < 2 ^ 64
+    → ((j : ℕ) → j < 64 → bit v j ≡ s .members (64 * k + j)) → ((m j : ℕ) → (m ≡ k → ⊥) → j < 64 → view ws n .members (64 * m + j) ≡ s .members (64 * m + j))
+    → Stored ws n s (set ws k v)
+word-stored ws n k v s f h l e hv here there = record {
+  long = length-set ws k v;
+  fits = λ m p.
+      by-eq m k
+      (λ q. subst (λ (x : ℕ). x < 2 ^ 64) (sym (getD-set ws k m v (omega arith) q)) hv)
+      (λ q. subst (λ (x : ℕ). x < 2 ^ 64) (sym (getD-set-other ws k m v 0 q)) (f m));
+  used = λ m j p r.
+      by-eq m k
+      (λ q. ap (λ (x : ℕ). bit x j) (getD-set ws k m v (omega arith) q) ∙ here j r ∙ ap (λ (x : ℕ). s .members (64 * x + j)) (sym q))
+      (λ q. ap (λ (x : ℕ). bit x j) (getD-set-other ws k m v 0 q) ∙ sym (view-in ws n m j (omega arith) r) ∙ there m j q r);
+  dropped = λ m p q. absurd (omega arith);
+  kept = λ m p q. getD-set-other ws k m v 0 (omega arith);
+}

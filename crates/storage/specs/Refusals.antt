@@ -1,10 +1,19 @@
 -- The fourteen numbers of document 01, and what a changing call answers in its terms.
 use Prim.Native.Nat.{ℕ}
+use Rattle.word.specs.Sets.{val}
 use Rattle.storage.specs.declared.Bitmap.{Bitmap}
 use Rattle.storage.specs.declared.Refusal.{Refusal}
 use Rattle.storage.specs.declared.Refusal.the-variants.{StoreTooLong, CountOverStore, WidthOver, IndexOver, PastLength, NoSpace, NotList, NotAscii, NotSheet, CutRecord, BytesRemain, BadPayload, NewerKind, NoEdition}
 use Rattle.storage.specs.declared.Change.{Change}
 use Rattle.storage.specs.declared.Change.the-variants.{Done, Refused}
+use Rattle.storage.specs.declared.Found.{Found}
+use Rattle.storage.specs.declared.Found.the-variants.{At, Nothing, Refused}
+use Rattle.storage.specs.declared.Number.{Number}
+use Rattle.storage.specs.declared.Number.the-variants.{Is, Refused}
+use Rattle.storage.specs.declared.Field.{Field}
+use Rattle.storage.specs.declared.Field.the-variants.{Is, Refused}
+use Rattle.storage.specs.declared.Truth.{Truth}
+use Rattle.storage.specs.declared.Truth.the-variants.{Is, Refused}
 
 abbrev pub numberOf : Refusal → ℕ
 numberOf StoreTooLong = 1
@@ -22,11 +31,45 @@ numberOf BadPayload = 12
 numberOf NewerKind = 13
 numberOf NoEdition = 14
 
--- number 0 means done
+-- of each answer its number, 0 for done, and its value, 0 where it is refused
+abbrev pub foundNumber : Found → ℕ
+foundNumber (At p) = 0
+foundNumber Nothing = 0
+foundNumber (Found.Refused e) = numberOf e
+
+abbrev pub foundValue : Found → ℕ
+foundValue (At p) = p
+foundValue Nothing = 0
+foundValue (Found.Refused e) = 0
+
+abbrev pub numberNumber : Number → ℕ
+numberNumber (Number.Is n) = 0
+numberNumber (Number.Refused e) = numberOf e
+
+abbrev pub numberValue : Number → ℕ
+numberValue (Number.Is n) = n
+numberValue (Number.Refused e) = 0
+
+abbrev pub fieldNumber : Field → ℕ
+fieldNumber (Field.Is x) = 0
+fieldNumber (Field.Refused e) = numberOf e
+
+abbrev pub fieldValue : Field → ℕ
+fieldValue (Field.Is x) = x
+fieldValue (Field.Refused e) = 0
+
+abbrev pub truthNumber : Truth → ℕ
+truthNumber (Truth.Is t) = 0
+truthNumber (Truth.Refused e) = numberOf e
+
+abbrev pub truthValue : Truth → ℕ
+truthValue (Truth.Is t) = val t
+truthValue (Truth.Refused e) = 0
+
 abbrev pub changeNumber : Change → ℕ
 changeNumber (Done b) = 0
-changeNumber (Refused e b) = numberOf e
+changeNumber (Change.Refused e b) = numberOf e
 
 abbrev pub changeRecord : Change → Bitmap
 changeRecord (Done b) = b
-changeRecord (Refused e b) = b
+changeRecord (Change.Refused e b) = b

@@ -1,17 +1,19 @@
 -- What a call makes of a bitmap. Its meaning is a set of numbers and a word count; a call is an operation on those, and the words follow:
 -- word k in use is the set's, a word that falls out of use is 0, and a word outside both counts is as it was (01, "Words that enter and leave use").
-use Prim.Native.Nat.{ℕ, zero, suc, _+_, _*_, _/_, _≤_, _<_}
+use Prim.Native.Nat.{ℕ, _+_, _-_, _*_, _/_, _≤_, max}
 use mathlib.Core.Path.{_≡_}
-use mathlib.Core.Bool.{Bool, true, false, _&&_}
+use mathlib.Core.Bool.{Bool, false, not, _&&_}
 use mathlib.Core.List.{List}
 use lib.ListN.{length, getD}
 use lib.Dec.{ltb}
-use Rattle.word.specs.Sets.{choose, topBelow}
+use Rattle.word.specs.Sets.{choose, countBelow, leastFrom, topBelow}
 use Rattle.word.specs.Bits.{wordOf, member, tabFrom}
 use Rattle.arch.specs.Scans.{filledWords}
 use Rattle.storage.specs.declared.Bitmap.{Bitmap}
 use Rattle.storage.specs.declared.Refusal.{Refusal}
 use Rattle.storage.specs.declared.Refusal.the-variants.{StoreTooLong, CountOverStore, NoSpace}
+use Rattle.storage.specs.declared.Found.{Found}
+use Rattle.storage.specs.declared.Found.the-variants.{At, Nothing}
 use Rattle.storage.specs.declared.Change.{Change}
 use Rattle.storage.specs.declared.Change.the-variants.{Done, Refused}
 
@@ -48,6 +50,32 @@ view ws n = record { members = λ i. ltb (i / 64) n && member ws i; count = n }
 unfoldable pub beside : List ℕ → ℕ → (Bits → Op) → Op
 unfolding checked view
 beside os n op c b = checked (length os) n refused (op (view os n) c b)
+
+-- a call that only reads: what f answers of the bitmap of n words, after 1 and 2
+unfoldable pub reading : {A : Type 0} → List ℕ → ℕ → (Refusal → A) → (Bits → A) → A
+unfolding checked view
+reading ws n refuse f = checked (length ws) n refuse (f (view ws n))
+
+-- how many members there are
+unfoldable pub size : Bits → ℕ
+size b = countBelow (b .members) (64 * b .count)
+
+-- the numbers where f holds of the two memberships, in as many words as the longer
+unfoldable pub combined : (Bool → Bool → Bool) → Bits → Bits → Bits
+combined f b o = record { members = λ i. f (b .members i) (o .members i); count = max (b .count) (o .count) }
+
+-- a member of the first and not of the second
+abbrev pub andNot : Bool → Bool → Bool
+andNot p q = p && not q
+
+-- a place found below e, or nothing
+unfoldable pub foundBelow : ℕ → ℕ → Found
+foundBelow e p = choose (ltb p e) (At p) Nothing
+
+-- the least member from i on
+unfoldable pub nextFrom : Bits → ℕ → Found
+unfolding foundBelow
+nextFrom b i = foundBelow (64 * b .count) (leastFrom (b .members) i (64 * b .count - i))
 
 -- 6 where the result has more words than there are
 unfoldable pub within : ℕ → Bits → Outcome

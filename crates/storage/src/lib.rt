@@ -62,6 +62,31 @@ pub enum Change {
     Refused(Refusal, Bitmap),
 }
 
+// What a search answers.
+pub enum Found {
+    At(usize),
+    Nothing,
+    Refused(Refusal),
+}
+
+// What a call answers that counts or measures.
+pub enum Number {
+    Is(usize),
+    Refused(Refusal),
+}
+
+// What a call answers that reads a field.
+pub enum Field {
+    Is(u64),
+    Refused(Refusal),
+}
+
+// What a call answers that tests.
+pub enum Truth {
+    Is(bool),
+    Refused(Refusal),
+}
+
 // What is found of a store before a call's work.
 pub enum Guard {
     Pass,

@@ -6,3 +6,4 @@ pub mod Reverse
 pub mod Product
 pub mod Lists
 pub mod Sweep
+pub mod Ends

@@ -15,6 +15,16 @@ use Rattle.word.proofs.Bits.{bit-zero, pack-lt, bit-pack, pack-is}
 abbrev pub Fit : List ℕ → Type 0
 Fit ws = (k : ℕ) → getD ws k 0 < 2 ^ 64
 
+-- those below e have, as far as a loop has come
+pub record FitTo (ws : List ℕ) (e : ℕ) : Type 0 where
+  pub at : (k : ℕ) → k < e → getD ws k 0 < 2 ^ 64
+
+pub fit-none : (ws : List ℕ) → FitTo ws 0
+fit-none ws = record { at = λ k l. absurd (omega arith) }
+
+pub fit-more : {ws : List ℕ} {e : ℕ} → FitTo ws e → getD ws e 0 < 2 ^ 64 → FitTo ws (e + 1)
+fit-more {ws} {e} f h = record { at = λ k l. by-lt k e (λ p. f .at k p) (λ p. subst (λ (m : ℕ). getD ws m 0 < 2 ^ 64) (omega arith) h) }
+
 pub past : (ws : List ℕ) (k : ℕ) → length ws ≤ k → getD ws k 0 ≡ 0
 past ws k h = List·getD-eq-default ws 0 h
 

@@ -207,3 +207,9 @@ nth-has s r none (suc m) h = go (s m) refl (eqb (countBelow s m) r) refl (λ l. 
         let v : val (s m) ≡ 1 = ap val e in
         further (ih (lt-of-le-ne (omega arith) (λ z. eqb-false (countBelow s m) r q (sym z))))
     go false e b q ih = let v : val (s m) ≡ 0 = ap val e in further (ih (omega arith))
+
+pub nth-le : (s : ℕ → Bool) (r m : ℕ) → nth s r m m ≤ m
+nth-le s r m =
+    by-lt r (countBelow s m)
+    (λ h. omega (arith, nth-has s r m m h .within))
+    (λ h. omega (arith, nth-none s r m m h))

@@ -1,11 +1,14 @@
 -- What a loop leaves that stores one word a turn: the words from a up to e are new, the others are old. Assumes nothing.
-use mathlib.Core.Path.{_≡_, refl, sym, ap, _∙_}
+use mathlib.Core.Path.{_≡_, refl, sym, ap, _∙_, subst}
+use mathlib.Core.Bool.{Bool}
 use mathlib.Core.List.{List}
-use Prim.Native.Nat.{ℕ, _+_, _-_, _≤_, _<_}
+use Prim.Native.Nat.{ℕ, _+_, _-_, _*_, _^_, _≤_, _<_}
 use native.Mathlib.Omega.{arith}
 use lib.ListN.{length, getD, set, length-set}
 use lib.Seq.{getD-set-same, getD-set-other}
+use Rattle.word.specs.Bits.{bit, wordsOf}
 use Rattle.word.proofs.Cases.{by-eq}
+use Rattle.word.proofs.Lists.{words-is}
 
 -- a stored word, at any index
 pub getD-set : (ws : List ℕ) (i k v : ℕ) → i < length ws → k ≡ i → getD (set ws i v) k 0 ≡ v
@@ -50,3 +53,11 @@ pub sweep-back : (old : List ℕ) (new : ℕ → ℕ) (a e : ℕ) (ws : List ℕ
     → Swept old new (a - 1) e (set ws (a - 1) v)
 sweep-back old new a e ws v s p h l q =
     sweep-down old new (a - 1) e ws v (sweep-to old new a e (a - 1 + 1) e ws s (omega arith) refl) (omega arith) (omega arith) q
+
+-- every word swept: the words of a set where each new word has the set's bits
+pub swept-words : (old : List ℕ) (new : ℕ → ℕ) (s : ℕ → Bool) (e : ℕ) (ws : List ℕ) → Swept old new 0 e ws → length old ≤ e
+    → ((k : ℕ) → k < length old → new k < 2 ^ 64) → ((k j : ℕ) → k < length old → j < 64 → bit (new k) j ≡ s (64 * k + j)) → ws ≡ wordsOf s (length old)
+swept-words old new s e ws w h f g =
+    words-is (length old) s ws (w .long)
+    (λ k l. subst (λ (x : ℕ). x < 2 ^ 64) (sym (w .fresh k (omega arith) (omega arith))) (f k l))
+    (λ k j l m. ap (λ (x : ℕ). bit x j) (w .fresh k (omega arith) (omega arith)) ∙ g k j l m)

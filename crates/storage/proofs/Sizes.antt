@@ -1,0 +1,32 @@
+-- How many members the words in use have. Assumes nothing.
+use mathlib.Core.Path.{_≡_, refl, sym, ap, _∙_}
+use mathlib.Core.List.{List}
+use Prim.Native.Nat.{ℕ, _*_, _≤_}
+use native.Mathlib.Omega.{arith}
+use lib.ListN.{length, take}
+use lib.Seq.{length-take-le}
+use Rattle.word.specs.Sets.{countBelow}
+use Rattle.word.specs.Bits.{member}
+use Rattle.word.proofs.Sets.{count-le, count-ext}
+use Rattle.arch.specs.Scans.{countSet}
+use Rattle.arch.proofs.Promises.{count-is-whole}
+use Rattle.storage.specs.Stores.{Bits, view, size}
+use Rattle.storage.proofs.Checks.{Passed}
+use Rattle.storage.proofs.Views.{view-count, view-part}
+
+pub size-le : (b : Bits) → size b ≤ 64 * b .count
+unfolding size
+size-le b = count-le (b .members) (64 * b .count)
+
+pub size-part : (ws : List ℕ) (n : ℕ) → n ≤ length ws → size (view ws n) ≡ countBelow (member (take n ws)) (64 * n)
+unfolding size
+size-part ws n h =
+    ap (λ (m : ℕ). countBelow (view ws n .members) (64 * m)) (view-count ws n)
+    ∙ count-ext (view ws n .members) (member (take n ws)) (64 * n) (λ i l. view-part ws n i h)
+
+-- what the kernel counts is the size, within the limit
+pub size-counted : (ws : List ℕ) (n : ℕ) → Passed (length ws) n → countSet (take n ws) ≡ size (view ws n)
+size-counted ws n p =
+    let e : length (take n ws) ≡ n = length-take-le n ws (p .inside) in
+    count-is-whole (take n ws) (omega (arith, p .short, p .inside))
+    ∙ ap (λ (m : ℕ). countBelow (member (take n ws)) (64 * m)) e ∙ sym (size-part ws n (p .inside))
