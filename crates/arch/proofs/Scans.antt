@@ -86,6 +86,10 @@ nonzero-none ws s =
       over = λ k a b. ap not (eq-eqb (getD ws k 0) 0 (s .at k a b));
     }))
 
+pub nonzero-le : (ws : List ℕ) → nonzeroLen ws ≤ length ws
+unfolding nonzeroLen
+nonzero-le ws = top (λ k. not (eqb (getD ws k 0) 0)) (length ws) .within
+
 -- ---- no word at all is other than 0
 
 pub zero-is : (ws : List ℕ) (i : ℕ) → i ≡ firstOther 0 ws → eqb i (length ws) ≡ isZero ws

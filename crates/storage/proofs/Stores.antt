@@ -17,13 +17,13 @@ use Rattle.word.proofs.Lists.{Fit, at-place, past, length-tab, tab-at, tab-is, 
 use Rattle.word.proofs.Sweep.{getD-set}
 use Rattle.arch.specs.Scans.{filledWords}
 use Rattle.arch.proofs.Regions.{length-filled-words, filled-in, filled-below, filled-above}
-use Rattle.storage.specs.Stores.{Bits, Bounded, Outcome, refused, done, Op, limit, checked, view, wordAt, written, zeroed, answer, store, Leaves, outcome, Changes}
+use Rattle.storage.specs.Stores.{Bits, Bounded, Outcome, refused, done, Op, limit, checked, view, beside, wordAt, written, zeroed, answer, store, Leaves, outcome, Changes}
 use Rattle.storage.specs.declared.Bitmap.{Bitmap}
 use Rattle.storage.specs.declared.Refusal.{Refusal}
 use Rattle.storage.specs.declared.Change.{Change}
 use Rattle.storage.specs.declared.Change.the-variants.{Done, Refused}
 use Rattle.storage.specs.declared.Guard.the-variants.{Pass, Stop}
-use Rattle.storage.proofs.Checks.{Passed, checked-ok, stopped}
+use Rattle.storage.proofs.Checks.{Passed, checked-ok, stopped, beside-stopped}
 use Rattle.storage.proofs.Views.{view-in, view-out, view-count, bounded-view}
 
 -- ---- the store afterwards, by its words and their bits
@@ -238,3 +238,8 @@ word-stored ws n k v s f h l e hv here there = record {
   dropped = λ m p q. absurd (omega arith);
   kept = λ m p q. getD-set-other ws k m v 0 (omega arith);
 }
+
+-- refused by the second store's 1 or 2
+pub second-stopped : (op : Bits → Op) (ws os : List ℕ) (b : Bitmap) (m : ℕ) (e : Refusal) → Passed (length ws) (b .count) → Stop e ≡ checked (length os) m Stop Pass
+    → Changes (beside os m op) ws b (Refused e b) ws
+second-stopped op ws os b m e p q = changes-refused (beside os m op) ws b e p (beside-stopped os m op (length ws) (view ws (b .count)) e q)

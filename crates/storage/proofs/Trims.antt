@@ -6,7 +6,7 @@ use Prim.Native.Nat.{ℕ, zero, suc, _+_, _*_, _/_, _%_, _^_, _≤_, _<_}
 use native.Mathlib.Nat.{le-antisymm}
 use native.Mathlib.Omega.{arith}
 use lib.ListN.{length, getD, take}
-use lib.Seq.{length-take-le}
+use lib.Seq.{length-take-le, getD-take}
 use lib.Dec.{eqb}
 use borrow.Author.Tests.{eqb-true, eqb-false, not-true, not-false}
 use Rattle.word.specs.Sets.{leastFrom, topBelow, Least, Top}
@@ -18,7 +18,8 @@ use Rattle.word.proofs.Words.{least-bit}
 use Rattle.word.proofs.Lists.{Fit, member-at, at-place}
 use Rattle.arch.specs.Scans.{nonzeroLen}
 use Rattle.storage.specs.Stores.{Bits, Bounded, view, wordsFor, trimmedCount, trimmed}
-use Rattle.storage.proofs.Views.{view-whole}
+use Rattle.storage.proofs.Views.{view-in, view-out, view-whole}
+use Rattle.storage.proofs.Stores.{Stored}
 
 module _ (s : ℕ → Bool) (n : ℕ) where
   abbrev t : ℕ
@@ -109,3 +110,77 @@ pub bounded-trimmed : (b : Bits) → Bounded b → Bounded (trimmed b)
 bounded-trimmed b h = record {
   past = λ i p. by-lt i (64 * b .count) (λ l. trimmed-past (b .members) (b .count) i p l) (λ l. h .past i l);
 }
+
+-- ---- a result that is trimmed, by the words that a call left: the first u of them hold the set, and nothing of it lies past them
+
+module _ (ws' : List ℕ) (u : ℕ) (s : Bits) (fit : Fit ws') (h : u ≤ length ws') (low : u ≤ s .count)
+    (bits : (k j : ℕ) → k < u → j < 64 → bit (getD ws' k 0) j ≡ s .members (64 * k + j))
+    (none : (i : ℕ) → 64 * u ≤ i → i < 64 * s .count → s .members i ≡ false) where
+  long : length (take u ws') ≡ u
+  long = length-take-le u ws' h
+
+  found : Top (λ k. not (eqb (getD (take u ws') k 0) 0)) (length (take u ws')) (nonzeroLen (take u ws'))
+  unfolding nonzeroLen
+  found = top (λ k. not (eqb (getD (take u ws') k 0) 0)) (length (take u ws'))
+
+  m-le : nonzeroLen (take u ws') ≤ u
+  m-le = omega (arith, found .within, long)
+
+  zero-word : (k : ℕ) → nonzeroLen (take u ws') ≤ k → k < u → getD ws' k 0 ≡ 0
+  zero-word k a b =
+      sym (getD-take u ws' k 0 b)
+      ∙ eqb-true (getD (take u ws') k 0) 0 (not-false (eqb (getD (take u ws') k 0) 0) (found .over k a (omega (arith, long))))
+
+  pub trimmed-length : nonzeroLen (take u ws') ≡ trimmedCount (s .members) (s .count)
+  unfolding wordOf
+  trimmed-length =
+      sym
+      (trimmed-is (s .members) (s .count) (nonzeroLen (take u ws')) (omega (arith, m-le))
+      (λ i a b. by-lt i (64 * u)
+      (λ l.
+      ap (s .members) (sym (at-place i)) ∙ sym (bits (i / 64) (i % 64) (omega arith) (omega arith))
+      ∙ ap (λ (x : ℕ). bit x (i % 64)) (zero-word (i / 64) (omega arith) (omega arith)) ∙ bit-zero (i % 64))
+      (λ l. none i l b))
+      (λ k e z.
+      eqb-false (getD (take u ws') k 0) 0 (not-true (eqb (getD (take u ws') k 0) 0) (found .last k e))
+      (getD-take u ws' k 0 (omega (arith, m-le))
+      ∙ pack-is 64 (getD ws' k 0) (λ j. s .members (64 * k + j)) (fit k) (λ j l. bits k j (omega (arith, m-le)) l) ∙ z)))
+
+  pub trimmed-stored : (ws : List ℕ) (n : ℕ) → n ≤ u → length ws' ≡ length ws → ((k : ℕ) → nonzeroLen (take u ws') ≤ k → n ≤ k → getD ws' k 0 ≡ getD ws k 0)
+      → Stored ws n (trimmed s) ws'
+  trimmed-stored ws n l e keep = record {
+    long = e;
+    fits = λ k p. fit k;
+    used = λ k j p q. bits k j (omega (arith, m-le, trimmed-length)) q;
+    dropped = λ k p q. zero-word k (omega (arith, trimmed-length)) (omega arith);
+    kept = λ k p q. keep k (omega (arith, trimmed-length)) q;
+  }
+
+-- past the last nonzero word in use there is no member, and that word has one
+pub front-none : (ws : List ℕ) (n k j : ℕ) → n ≤ length ws → nonzeroLen (take n ws) ≤ k → j < 64 → view ws n .members (64 * k + j) ≡ false
+unfolding nonzeroLen
+front-none ws n k j h l m =
+    by-lt k n
+    (λ p.
+    view-in ws n k j p m
+    ∙ ap (λ (x : ℕ). bit x j)
+    (sym (getD-take n ws k 0 p)
+    ∙ eqb-true (getD (take n ws) k 0) 0
+    (not-false (eqb (getD (take n ws) k 0) 0) (top (λ k. not (eqb (getD (take n ws) k 0) 0)) (length (take n ws)) .over k l (omega (arith, length-take-le n ws h)))))
+    ∙ bit-zero j)
+    (λ p. view-out ws n (64 * k + j) (omega arith))
+
+pub front-last : (ws : List ℕ) (n k : ℕ) → n ≤ length ws → suc k ≡ nonzeroLen (take n ws) → getD ws k 0 ≡ 0 → ⊥
+unfolding nonzeroLen
+front-last ws n k h e z =
+    let r : Top (λ k. not (eqb (getD (take n ws) k 0) 0)) (length (take n ws)) (suc k) =
+    subst (Top (λ k. not (eqb (getD (take n ws) k 0) 0)) (length (take n ws))) (sym e) (top (λ k. not (eqb (getD (take n ws) k 0) 0)) (length (take n ws))) in
+    eqb-false (getD (take n ws) k 0) 0 (not-true (eqb (getD (take n ws) k 0) 0) (r .last k refl))
+    (getD-take n ws k 0 (omega (arith, r .within, length-take-le n ws h)) ∙ z)
+
+pub front-zero : (ws : List ℕ) (n k : ℕ) → n ≤ length ws → nonzeroLen (take n ws) ≤ k → k < n → getD ws k 0 ≡ 0
+unfolding nonzeroLen
+front-zero ws n k h l p =
+    sym (getD-take n ws k 0 p)
+    ∙ eqb-true (getD (take n ws) k 0) 0
+    (not-false (eqb (getD (take n ws) k 0) 0) (top (λ k. not (eqb (getD (take n ws) k 0) 0)) (length (take n ws)) .over k l (omega (arith, length-take-le n ws h))))

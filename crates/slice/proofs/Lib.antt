@@ -1,0 +1,7 @@
+pub mod Answers
+pub mod Firsts
+pub mod Fields
+pub mod Scans
+pub mod Eights
+pub mod Equals
+pub mod Promises

@@ -1,0 +1,42 @@
+use mathlib.Core.Path.{sym, ap, _∙_}
+use borrow.Author.Needs.{needs}
+use lib.Seq.{length-take-le}
+use Rattle.storage.proofs.Checks.{passed}
+use Rattle.slice.proofs.Answers.{reading-stopped, reading-is}
+use Rattle.slice.proofs.Scans.{count-is}
+use Rattle.storage.specs.declared.Number.{Number}
+use Rattle.slice.proofs.count_set_bits.Statement.{statement}
+use Rattle.slice.proofs.count_set_bits.Tie as tie
+
+check-requires : tie.Need-check-requires
+check-requires c κs = search needs
+
+enum-known-e : tie.Need-enum-known-e
+enum-known-e c = search needs
+
+returns : tie.Need-returns
+returns c = reading-stopped _ _ _ _ _ (sym (c .before .e .given .1) ∙ c .before .before .before .check .ensures)
+
+enum-told : tie.Need-enum-told
+enum-told c = search needs
+
+slice-aggregate-count-set-bits : tie.Need-slice-aggregate-count-set-bits
+slice-aggregate-count-set-bits c = sym (length-take-le _ _ (passed _ _ (sym (c .before .enum-told .given .1) ∙ c .before .before .before .check .ensures) .inside))
+
+count-set-bits-requires : tie.Need-count-set-bits-requires
+count-set-bits-requires c κs = search needs
+
+returns-2 : tie.Need-returns-2
+returns-2 c = reading-is _ _ _ _ _ (passed _ _ (sym (c .before .before .enum-told .given .1) ∙ c .before .before .before .before .check .ensures)) (ap Number.Is (count-is _ _ _ (passed _ _ (sym (c .before .before .enum-told .given .1) ∙ c .before .before .before .before .check .ensures)) (c .count-set-bits .ensures)))
+
+pub count-set-bits-spec : {M : Type 1} → statement M
+count-set-bits-spec =
+    tie.close
+    (tie.spec
+    check-requires
+    enum-known-e
+    returns
+    enum-told
+    slice-aggregate-count-set-bits
+    count-set-bits-requires
+    returns-2)

@@ -1,0 +1,51 @@
+use mathlib.Core.Path.{sym, ap, _∙_}
+use native.Mathlib.Omega.{arith}
+use borrow.Author.Needs.{needs}
+use Rattle.slice.proofs.Fields.{bit-of}
+use Rattle.storage.proofs.Checks.{passed}
+use Rattle.slice.proofs.Answers.{reading-stopped, reading-is}
+use Rattle.storage.specs.declared.Truth.{Truth}
+use Rattle.storage.proofs.Views.{view-out}
+use Rattle.slice.proofs.get.Statement.{statement}
+use Rattle.slice.proofs.get.Tie as tie
+
+check-requires : tie.Need-check-requires
+check-requires c κs = search needs
+
+enum-known-e : tie.Need-enum-known-e
+enum-known-e c = search needs
+
+returns : tie.Need-returns
+returns c = reading-stopped _ _ _ _ _ (sym (c .before .e .given .1) ∙ c .before .before .before .check .ensures)
+
+enum-told : tie.Need-enum-told
+enum-told c = search needs
+
+returns-2 : tie.Need-returns-2
+returns-2 c = reading-is _ _ _ _ _ (passed _ _ (sym (c .before .enum-told .given .1) ∙ c .before .before .before .check .ensures)) (ap Truth.Is (sym (view-out _ _ _ (omega arith))))
+
+mul-t8 : tie.Need-mul-t8
+mul-t8 c = search needs
+
+shared-slice-read-t11 : tie.Need-shared-slice-read-t11
+shared-slice-read-t11 c = omega (arith, passed _ _ (sym (c .before .before .enum-told .given .1) ∙ c .before .before .before .before .check .ensures))
+
+shr-t14 : tie.Need-shr-t14
+shr-t14 c = search needs
+
+returns-3 : tie.Need-returns-3
+returns-3 c = reading-is _ _ _ _ _ (passed _ _ (sym (c .before .before .enum-told .given .1) ∙ c .before .before .before .before .check .ensures)) (ap Truth.Is (bit-of _ _ _ (omega arith)))
+
+pub get-spec : {M : Type 1} → statement M
+get-spec =
+    tie.close
+    (tie.spec
+    check-requires
+    enum-known-e
+    returns
+    enum-told
+    returns-2
+    mul-t8
+    shared-slice-read-t11
+    shr-t14
+    returns-3)

@@ -1,0 +1,70 @@
+use mathlib.Core.Path.{sym, _∙_}
+use native.Mathlib.Omega.{arith}
+use borrow.Author.Needs.{needs}
+use lib.Seq.{length-take-le}
+use Rattle.storage.proofs.Checks.{passed}
+use Rattle.slice.proofs.Answers.{reading-stopped, reading-is}
+use Rattle.slice.proofs.Fields.{field-wide, field-is}
+use Rattle.slice.proofs.get_field.Statement.{statement}
+use Rattle.slice.proofs.get_field.Tie as tie
+
+check-requires : tie.Need-check-requires
+check-requires c κs = search needs
+
+enum-known-e : tie.Need-enum-known-e
+enum-known-e c = search needs
+
+returns : tie.Need-returns
+returns c = reading-stopped _ _ _ _ _ (sym (c .before .e .given .1) ∙ c .before .before .before .check .ensures)
+
+enum-told : tie.Need-enum-told
+enum-told c = search needs
+
+returns-2 : tie.Need-returns-2
+returns-2 c = reading-is _ _ _ _ _ (passed _ _ (sym (c .before .enum-told .given .1) ∙ c .before .before .before .check .ensures)) (field-wide _ _ _ (c .if1 .taken))
+
+slice-aggregate-word-at : tie.Need-slice-aggregate-word-at
+slice-aggregate-word-at c = sym (length-take-le _ _ (passed _ _ (sym (c .before .before .enum-told .given .1) ∙ c .before .before .before .before .check .ensures) .inside))
+
+word-at-requires : tie.Need-word-at-requires
+word-at-requires c κs = search needs
+
+slice-aggregate-word-at-2 : tie.Need-slice-aggregate-word-at-2
+slice-aggregate-word-at-2 c = sym (length-take-le _ _ (passed _ _ (sym (c .before .before .before .before .enum-told .given .1) ∙ c .before .before .before .before .before .before .check .ensures) .inside))
+
+add-word-at : tie.Need-add-word-at
+add-word-at c = search needs
+
+word-at-requires-2 : tie.Need-word-at-requires-2
+word-at-requires-2 c κs = search needs
+
+sub-funnel : tie.Need-sub-funnel
+sub-funnel c = search needs
+
+funnel-requires : tie.Need-funnel-requires
+funnel-requires c κs = search needs
+
+low-mask-requires : tie.Need-low-mask-requires
+low-mask-requires c κs = search needs
+
+returns-3 : tie.Need-returns-3
+returns-3 c = reading-is _ _ _ _ _ (passed _ _ (sym (c .before .before .before .before .before .before .before .enum-told .given .1) ∙ c .before .before .before .before .before .before .before .before .before .check .ensures)) (field-is _ _ _ _ _ _ _ _ (λ k. omega (arith, c .before .before .before .before .before .before .before .before .before .before .shared-slice-known .given k)) (passed _ _ (sym (c .before .before .before .before .before .before .before .enum-told .given .1) ∙ c .before .before .before .before .before .before .before .before .before .check .ensures) .inside) (omega arith) (c .before .before .before .before .word-at .ensures) (c .before .before .word-at2 .ensures) (c .before .funnel .ensures) (c .low-mask .ensures))
+
+pub get-field-spec : {M : Type 1} → statement M
+get-field-spec =
+    tie.close
+    (tie.spec
+    check-requires
+    enum-known-e
+    returns
+    enum-told
+    returns-2
+    slice-aggregate-word-at
+    word-at-requires
+    slice-aggregate-word-at-2
+    add-word-at
+    word-at-requires-2
+    sub-funnel
+    funnel-requires
+    low-mask-requires
+    returns-3)

@@ -1,0 +1,126 @@
+use mathlib.Core.Path.{sym, ap, _∙_}
+use native.Mathlib.Omega.{arith}
+use borrow.Author.Needs.{needs}
+use Rattle.storage.proofs.Checks.{passed}
+use Rattle.slice.proofs.Answers.{reading-stopped, reading-is}
+use Rattle.slice.proofs.Scans.{zeros-le, other-found, none-found, clear-here, clear-after, clear-none, clear-past}
+use Rattle.storage.specs.declared.Number.{Number}
+use Rattle.slice.proofs.next_clear.Statement.{statement}
+use Rattle.slice.proofs.next_clear.Tie as tie
+
+check-requires : tie.Need-check-requires
+check-requires c κs = search needs
+
+enum-known-e : tie.Need-enum-known-e
+enum-known-e c = search needs
+
+returns : tie.Need-returns
+returns c = reading-stopped _ _ _ _ _ (sym (c .before .e .given .1) ∙ c .before .before .before .check .ensures)
+
+enum-told : tie.Need-enum-told
+enum-told c = search needs
+
+returns-2 : tie.Need-returns-2
+returns-2 c = reading-is _ _ _ _ _ (passed _ _ (sym (c .before .enum-told .given .1) ∙ c .before .before .before .check .ensures)) (ap Number.Is (clear-past _ _ _ (omega arith)))
+
+mul-t : tie.Need-mul-t
+mul-t c = search needs
+
+shared-slice-read-t : tie.Need-shared-slice-read-t
+shared-slice-read-t c = omega (arith, passed _ _ (sym (c .before .before .enum-told .given .1) ∙ c .before .before .before .before .check .ensures))
+
+shr-t : tie.Need-shr-t
+shr-t c = search needs
+
+shl-t : tie.Need-shl-t
+shl-t c = search needs
+
+mul-t22 : tie.Need-mul-t22
+mul-t22 c = search needs
+
+trailing-zeros-requires : tie.Need-trailing-zeros-requires
+trailing-zeros-requires c κs = search needs
+
+add-t24 : tie.Need-add-t24
+add-t24 c = omega (arith, zeros-le _ _ (c .trailing-zeros .ensures), passed _ _ (sym (c .before .before .before .before .enum-told .given .1) ∙ c .before .before .before .before .before .before .check .ensures))
+
+returns-3 : tie.Need-returns-3
+returns-3 c = reading-is _ _ _ _ _ (passed _ _ (sym (c .before .before .before .before .enum-told .given .1) ∙ c .before .before .before .before .before .before .check .ensures)) (ap Number.Is (clear-here _ _ _ (λ k. omega (arith, c .before .before .before .before .before .before .before .shared-slice-known .given k)) (omega arith) _ (c .before .if2 .taken) (c .trailing-zeros .ensures)))
+
+add-next : tie.Need-add-next
+add-next c = search needs
+
+mul-first-not-ones : tie.Need-mul-first-not-ones
+mul-first-not-ones c = search needs
+
+sub-first-not-ones : tie.Need-sub-first-not-ones
+sub-first-not-ones c = search needs
+
+part-first-not-ones-start : tie.Need-part-first-not-ones-start
+part-first-not-ones-start c = search needs
+
+part-first-not-ones-end : tie.Need-part-first-not-ones-end
+part-first-not-ones-end c = omega (arith, passed _ _ (sym (c .before .before .before .enum-told .given .1) ∙ c .before .before .before .before .before .check .ensures))
+
+first-not-ones-requires : tie.Need-first-not-ones-requires
+first-not-ones-requires c κs = search needs
+
+enum-known-p : tie.Need-enum-known-p
+enum-known-p c = search needs
+
+add-t30 : tie.Need-add-t30
+add-t30 c = omega (arith, other-found _ _ _ _ _ _ (passed _ _ (sym (c .before .before .before .before .before .before .before .before .enum-told .given .1) ∙ c .before .before .before .before .before .before .before .before .before .before .check .ensures) .inside) (sym (c .before .p .given .1) ∙ c .before .before .before .first-not-ones .ensures), passed _ _ (sym (c .before .before .before .before .before .before .before .before .enum-told .given .1) ∙ c .before .before .before .before .before .before .before .before .before .before .check .ensures))
+
+mul-t31 : tie.Need-mul-t31
+mul-t31 c = omega (arith, other-found _ _ _ _ _ _ (passed _ _ (sym (c .before .before .before .before .before .before .before .before .enum-told .given .1) ∙ c .before .before .before .before .before .before .before .before .before .before .check .ensures) .inside) (sym (c .before .p .given .1) ∙ c .before .before .before .first-not-ones .ensures), passed _ _ (sym (c .before .before .before .before .before .before .before .before .enum-told .given .1) ∙ c .before .before .before .before .before .before .before .before .before .before .check .ensures))
+
+trailing-zeros-requires-2 : tie.Need-trailing-zeros-requires-2
+trailing-zeros-requires-2 c κs = search needs
+
+add-t34 : tie.Need-add-t34
+add-t34 c = omega (arith, other-found _ _ _ _ _ _ (passed _ _ (sym (c .before .before .before .before .before .before .before .before .before .enum-told .given .1) ∙ c .before .before .before .before .before .before .before .before .before .before .before .check .ensures) .inside) (sym (c .before .before .p .given .1) ∙ c .before .before .before .before .first-not-ones .ensures), zeros-le _ _ (c .trailing-zeros2 .ensures), passed _ _ (sym (c .before .before .before .before .before .before .before .before .before .enum-told .given .1) ∙ c .before .before .before .before .before .before .before .before .before .before .before .check .ensures))
+
+enum-told-2 : tie.Need-enum-told-2
+enum-told-2 c = search needs
+
+mul-t35 : tie.Need-mul-t35
+mul-t35 c = omega (arith, passed _ _ (sym (c .before .before .before .before .before .before .before .enum-told .given .1) ∙ c .before .before .before .before .before .before .before .before .before .check .ensures))
+
+returns-4 : tie.Need-returns-4
+returns-4 c = reading-is _ _ _ _ _ (passed _ _ (sym (c .before .before .before .before .before .before .before .before .before .enum-told .given .1) ∙ c .before .before .before .before .before .before .before .before .before .before .before .check .ensures)) (ap Number.Is (clear-after _ _ _ (λ k. omega (arith, c .before .before .before .before .before .before .before .before .before .before .before .before .shared-slice-known .given k)) (omega arith) (passed _ _ (sym (c .before .before .before .before .before .before .before .before .before .enum-told .given .1) ∙ c .before .before .before .before .before .before .before .before .before .before .before .check .ensures) .inside) _ _ _ (c .before .before .before .before .before .before .if2 .left) (other-found _ _ _ _ _ _ (passed _ _ (sym (c .before .before .before .before .before .before .before .before .before .enum-told .given .1) ∙ c .before .before .before .before .before .before .before .before .before .before .before .check .ensures) .inside) (sym (c .before .before .p .given .1) ∙ c .before .before .before .before .first-not-ones .ensures)) (c .trailing-zeros2 .ensures)))
+
+returns-5 : tie.Need-returns-5
+returns-5 c = reading-is _ _ _ _ _ (passed _ _ (sym (c .before .before .before .before .before .before .before .enum-told .given .1) ∙ c .before .before .before .before .before .before .before .before .before .check .ensures)) (ap Number.Is (clear-none _ _ _ (λ k. omega (arith, c .before .before .before .before .before .before .before .before .before .before .shared-slice-known .given k)) (omega arith) (passed _ _ (sym (c .before .before .before .before .before .before .before .enum-told .given .1) ∙ c .before .before .before .before .before .before .before .before .before .check .ensures) .inside) (c .before .before .before .before .if2 .left) (none-found _ _ _ _ (passed _ _ (sym (c .before .before .before .before .before .before .before .enum-told .given .1) ∙ c .before .before .before .before .before .before .before .before .before .check .ensures) .inside) (sym (c .enum-told2 .given .1) ∙ c .before .before .first-not-ones .ensures))))
+
+pub next-clear-spec : {M : Type 1} → statement M
+next-clear-spec =
+    tie.close
+    (tie.spec
+    check-requires
+    enum-known-e
+    returns
+    enum-told
+    returns-2
+    mul-t
+    shared-slice-read-t
+    shr-t
+    shl-t
+    mul-t22
+    trailing-zeros-requires
+    add-t24
+    returns-3
+    add-next
+    mul-first-not-ones
+    sub-first-not-ones
+    part-first-not-ones-start
+    part-first-not-ones-end
+    first-not-ones-requires
+    enum-known-p
+    add-t30
+    mul-t31
+    trailing-zeros-requires-2
+    add-t34
+    enum-told-2
+    mul-t35
+    returns-4
+    returns-5)

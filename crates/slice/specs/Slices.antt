@@ -1,0 +1,47 @@
+-- The calls of slice.rs, on sets: reading, fields, scans and equality within the words in use.
+use Prim.Native.Nat.{ℕ, _+_, _-_, _*_}
+use mathlib.Core.Bool.{Bool, not, _&&_}
+use mathlib.Core.List.{List}
+use lib.Dec.{ltb, leb, eqb}
+use lib.ListN.{take}
+use Rattle.word.specs.Sets.{choose, xorb, leastFrom, topBelow}
+use Rattle.word.specs.Bits.{bit, pack}
+use Rattle.arch.specs.Scans.{nonzeroLen}
+use Rattle.storage.specs.Stores.{Bits, refused, done, Op, size, combined}
+use Rattle.storage.specs.declared.Refusal.the-variants.{WidthOver, PastLength}
+use Rattle.storage.specs.declared.Found.{Found}
+use Rattle.storage.specs.declared.Found.the-variants.{At, Nothing}
+use Rattle.storage.specs.declared.Field.{Field}
+use Rattle.storage.specs.declared.Field.the-variants.{Is, Refused}
+
+-- the front part of the words, up to the last nonzero one
+unfoldable pub frontPart : List ℕ → List ℕ
+frontPart ws = take (nonzeroLen ws) ws
+
+-- no number is a member of one only
+unfoldable pub equal : Bits → Bits → Bool
+equal b o = eqb (size (combined xorb b o)) 0
+
+-- the number whose binary digit j is i + j's membership; 3 over 64 digits
+unfoldable pub fieldAt : ℕ → ℕ → Bits → Field
+fieldAt i width b = choose (ltb 64 width) (Field.Refused WidthOver) (Field.Is (pack width (λ j. b .members (i + j))))
+
+-- the numbers from i on, below i + width, become the digits of value
+unfoldable pub withField : ℕ → ℕ → ℕ → Bits → Bits
+withField i value width b =
+    record { members = λ p. choose (leb i p && ltb p (i + width)) (bit value (p - i)) (b .members p); count = b .count }
+
+-- 3, then 5 where a place of the field is past the length; a field of no places changes nothing
+unfoldable pub fieldSetting : ℕ → ℕ → ℕ → Op
+unfolding withField
+fieldSetting i value width c b =
+    let inside = choose (ltb (64 * b .count) (i + width)) (refused PastLength) (done (withField i value width b)) in
+    choose (ltb 64 width) (refused WidthOver) (choose (eqb width 0) (done b) inside)
+
+-- the greatest member
+unfoldable pub lastSet : Bits → Found
+lastSet b = let t = topBelow (b .members) (64 * b .count) in choose (eqb t 0) Nothing (At (t - 1))
+
+-- the least number from i on that is no member; past the length that is i
+unfoldable pub nextClear : Bits → ℕ → ℕ
+nextClear b i = leastFrom (λ p. not (b .members p)) i (64 * b .count - i)

@@ -1,0 +1,265 @@
+// Reading calls and strict fields within the words in use: single bits, fields, scans, the number of bits and equality.
+//
+// A read past the end gives zeros. Each call looks at its store first: 1, then 2.
+use arch::FoundWord;
+use storage::Bitmap;
+use storage::Change;
+use storage::Field;
+use storage::Found;
+use storage::Guard;
+use storage::Number;
+use storage::Refusal;
+use storage::Truth;
+use word::Word;
+ghost use mathlib.Core.Path.{_≡_};
+ghost use mathlib.Core.Bool.{true};
+ghost use Prim.Native.Nat.{_+_, _≤_, _<_};
+ghost use lib.ListN.{length, getD, set};
+ghost use Rattle.storage.specs.Stores.{reading, size, nextFrom, Changes};
+ghost use Rattle.slice.specs.Slices.{frontPart, equal, fieldAt, fieldSetting, lastSet, nextClear};
+ghost use Rattle.slice.specs.Kernels.{Agree, Tells, overlaid};
+
+// The words without trailing zero words: the front part of the caller's words.
+pub fn trimmed(words: &[u64]) -> &[u64]
+    ensures { λ r. ⌜ now r ≡ frontPart (now (words .entry)) ⌝ }
+{
+    let n = arch::nonzero_len(words);
+    &words[..n]
+}
+
+// Bit i; false past the end.
+pub fn get(words: &[u64], b: Bitmap, i: usize) -> Truth
+    ensures { λ r. ⌜ r ≡ reading (now (words .entry)) (b .count) Truth.Refused (λ s. Truth.Is (s .members i)) ⌝ }
+{
+    let n = b.count;
+    match storage::check(words.len(), n) {
+        Guard::Stop(e) => return Truth::Refused(e),
+        Guard::Pass => {}
+    }
+    let k = i / 64;
+    if k >= n {
+        return Truth::Is(false);
+    }
+    Truth::Is((words[k] >> (i % 64)) & 1 != 0)
+}
+
+// Word k; 0 past the end.
+fn word_at(words: &[u64], k: usize) -> u64
+    ensures { λ r. ⌜ r ≡ getD (now (words .entry)) k 0 ⌝ }
+{
+    if k < words.len() { words[k] } else { 0 }
+}
+
+// The bits from i on, below i + width, as a number; zeros past the end, whatever i. 3 over 64 bits.
+pub fn get_field(words: &[u64], b: Bitmap, i: usize, width: usize) -> Field
+    ensures { λ r. ⌜ r ≡ reading (now (words .entry)) (b .count) Field.Refused (fieldAt i width) ⌝ }
+{
+    let n = b.count;
+    match storage::check(words.len(), n) {
+        Guard::Stop(e) => return Field::Refused(e),
+        Guard::Pass => {}
+    }
+    if width > 64 {
+        return Field::Refused(Refusal::WidthOver);
+    }
+    let k = i / 64;
+    let lo = word_at(&words[..n], k);
+    let hi = word_at(&words[..n], k + 1);
+    let from = Word::funnel(lo, hi, i % 64, 64 - i % 64);
+    Field::Is(from & Word::low_mask(width))
+}
+
+// Word k takes the bits of x at the places of the mask.
+fn overlay(words: &mut [u64], k: usize, x: u64, mask: u64)
+    requires { ⌜ k < length (now words) ⌝ }
+    ensures { λ r. ⌜ now (words .exit) ≡ set (now (words .entry)) k (overlaid (getD (now (words .entry)) k 0) x mask) ⌝ }
+{
+    words[k] = (words[k] & !mask) | (x & mask);
+}
+
+// The bits from i on, below i + width, become the low bits of value. 3 over 64 bits; 5 if one of them is past the length, before anything is written.
+pub fn set_field_strict(words: &mut [u64], b: Bitmap, i: usize, value: u64, width: usize) -> Change
+    ensures { λ r. ⌜ Changes (fieldSetting i value width) (now (words .entry)) b r (now (words .exit)) ⌝ }
+{
+    let n = b.count;
+    match storage::check(words.len(), n) {
+        Guard::Stop(e) => return Change::Refused(e, b),
+        Guard::Pass => {}
+    }
+    if width > 64 {
+        return Change::Refused(Refusal::WidthOver, b);
+    }
+    if width == 0 {
+        return Change::Done(b);
+    }
+    if width > word::saturating_sub(64 * n, i) {
+        return Change::Refused(Refusal::PastLength, b);
+    }
+    let k = i / 64;
+    let r = i % 64;
+    overlay(words, k, value << r, Word::low_mask(width) << r);
+    if r + width <= 64 {
+        return Change::Done(b);
+    }
+    let done = 64 - r;
+    overlay(words, k + 1, value >> done, Word::low_mask(width - done));
+    Change::Done(b)
+}
+
+// The lowest set bit.
+pub fn first_set(words: &[u64], b: Bitmap) -> Found
+    ensures { λ r. ⌜ r ≡ reading (now (words .entry)) (b .count) Found.Refused (λ s. nextFrom s 0) ⌝ }
+{
+    next_set(words, b, 0)
+}
+
+// The highest set bit.
+pub fn last_set(words: &[u64], b: Bitmap) -> Found
+    ensures { λ r. ⌜ r ≡ reading (now (words .entry)) (b .count) Found.Refused lastSet ⌝ }
+{
+    let n = b.count;
+    match storage::check(words.len(), n) {
+        Guard::Stop(e) => return Found::Refused(e),
+        Guard::Pass => {}
+    }
+    let m = arch::nonzero_len(&words[..n]);
+    if m == 0 {
+        return Found::Nothing;
+    }
+    Found::At(64 * m - 1 - Word::leading_zeros(words[m - 1]))
+}
+
+// The lowest clear bit; the length if every bit below it is set.
+pub fn first_clear(words: &[u64], b: Bitmap) -> Number
+    ensures { λ r. ⌜ r ≡ reading (now (words .entry)) (b .count) Number.Refused (λ s. Number.Is (nextClear s 0)) ⌝ }
+{
+    next_clear(words, b, 0)
+}
+
+// The number of set bits.
+pub fn count_set_bits(words: &[u64], b: Bitmap) -> Number
+    ensures { λ r. ⌜ r ≡ reading (now (words .entry)) (b .count) Number.Refused (λ s. Number.Is (size s)) ⌝ }
+{
+    let n = b.count;
+    match storage::check(words.len(), n) {
+        Guard::Stop(e) => return Number::Refused(e),
+        Guard::Pass => {}
+    }
+    let count = arch::count_set_bits(&words[..n]);
+    Number::Is(count)
+}
+
+// The first set bit from i on: in the word of i by itself, then in the first word after it that is not zero.
+pub fn next_set(words: &[u64], b: Bitmap, i: usize) -> Found
+    ensures { λ r. ⌜ r ≡ reading (now (words .entry)) (b .count) Found.Refused (λ s. nextFrom s i) ⌝ }
+{
+    let n = b.count;
+    match storage::check(words.len(), n) {
+        Guard::Stop(e) => return Found::Refused(e),
+        Guard::Pass => {}
+    }
+    let k = i / 64;
+    if k >= n {
+        return Found::Nothing;
+    }
+    let t = (words[k] >> (i % 64)) << (i % 64);
+    if t != 0 {
+        return Found::At(64 * k + Word::trailing_zeros(t));
+    }
+    let next = k + 1;
+    match arch::first_nonzero(&words[next..n]) {
+        FoundWord::At(p, x) => Found::At(64 * (next + p) + Word::trailing_zeros(x)),
+        FoundWord::Nothing => Found::Nothing,
+    }
+}
+
+// The first clear bit from i on; from the length on that is i.
+pub fn next_clear(words: &[u64], b: Bitmap, i: usize) -> Number
+    ensures { λ r. ⌜ r ≡ reading (now (words .entry)) (b .count) Number.Refused (λ s. Number.Is (nextClear s i)) ⌝ }
+{
+    let n = b.count;
+    match storage::check(words.len(), n) {
+        Guard::Stop(e) => return Number::Refused(e),
+        Guard::Pass => {}
+    }
+    let k = i / 64;
+    if k >= n {
+        return Number::Is(i);
+    }
+    let t = (!words[k] >> (i % 64)) << (i % 64);
+    if t != 0 {
+        return Number::Is(64 * k + Word::trailing_zeros(t));
+    }
+    let next = k + 1;
+    match arch::first_not_ones(&words[next..n]) {
+        FoundWord::At(p, x) => Number::Is(64 * (next + p) + Word::trailing_zeros(!x)),
+        FoundWord::Nothing => Number::Is(64 * n),
+    }
+}
+
+// Some bit is set where one of the eight words from i on is another in b.
+fn differing_in_eight(a: &[u64], b: &[u64], i: usize) -> u64
+    requires { ⌜ (i + 8 ≤ length (now a)) × (i + 8 ≤ length (now b)) ⌝ }
+    ensures { λ r. ⌜ (r ≡ 0 → Agree (now (a .entry)) (now (b .entry)) i (i + 8)) ⌝ }
+{
+    (a[i] ^ b[i])
+        | (a[i + 1] ^ b[i + 1])
+        | (a[i + 2] ^ b[i + 2])
+        | (a[i + 3] ^ b[i + 3])
+        | (a[i + 4] ^ b[i + 4])
+        | (a[i + 5] ^ b[i + 5])
+        | (a[i + 6] ^ b[i + 6])
+        | (a[i + 7] ^ b[i + 7])
+}
+
+// How many words from the start agree, as far as eights tell.
+fn agreeing_eights(a: &[u64], b: &[u64]) -> usize
+    requires { ⌜ length (now a) ≡ length (now b) ⌝ }
+    ensures { λ r. ⌜ Agree (now (a .entry)) (now (b .entry)) 0 r ⌝ }
+{
+    let n = a.len();
+    let mut i = 0;
+    while n - i >= 8 {
+        if differing_in_eight(a, b, i) != 0 {
+            return i;
+        }
+        i += 8;
+    }
+    i
+}
+
+// Are the words the same? The lengths first, then eight words at a time.
+fn same_words(a: &[u64], b: &[u64]) -> bool
+    ensures { λ r. ⌜ Tells r (now (a .entry) ≡ now (b .entry)) ⌝ }
+{
+    if a.len() != b.len() {
+        return false;
+    }
+    let mut i = agreeing_eights(a, b);
+    while i < a.len() {
+        if a[i] != b[i] {
+            return false;
+        }
+        i += 1;
+    }
+    true
+}
+
+// Do both have the same bits set? Trailing zero words do not count.
+pub fn eq(words: &[u64], b: Bitmap, other: &[u64], o: Bitmap) -> Truth
+    ensures { λ r. ⌜ r ≡ reading (now (words .entry)) (b .count) Truth.Refused (λ s. reading (now (other .entry)) (o .count) Truth.Refused (λ t. Truth.Is (equal s t))) ⌝ }
+{
+    let n = b.count;
+    match storage::check(words.len(), n) {
+        Guard::Stop(e) => return Truth::Refused(e),
+        Guard::Pass => {}
+    }
+    let m = o.count;
+    match storage::check(other.len(), m) {
+        Guard::Stop(e) => return Truth::Refused(e),
+        Guard::Pass => {}
+    }
+    let x = trimmed(&words[..n]);
+    let y = trimmed(&other[..m]);
+    Truth::Is(same_words(x, y))
+}
