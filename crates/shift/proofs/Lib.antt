@@ -1,0 +1,6 @@
+pub mod Moves
+pub mod Rings
+pub mod Reversals
+pub mod Turns
+pub mod Calls
+pub mod Promises

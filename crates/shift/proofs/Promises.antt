@@ -1,0 +1,170 @@
+-- The promises of specs/Promises, and that the four operations stay within their store and their length. Assumes nothing.
+use mathlib.Core.Path.{_≡_, refl, sym, ap, ap₂, _∙_, fun-ext, subst}
+use mathlib.Core.Bool.{Bool, true, false, _&&_, false≢true}
+use Prim.Native.Nat.{ℕ, _+_, _-_, _*_, _%_, _≤_, _<_}
+use native.Mathlib.Nat.{mod-lt, mod-eq-of-lt, add-mod-right}
+use native.Mathlib.Omega.{arith}
+use borrow.Author.Tests.{lt-ltb, le-ltb, ltb-true}
+use lib.Dec.{ltb}
+use Rattle.word.proofs.Cases.{by-lt, and-true}
+use Rattle.storage.specs.Stores.{Bits, Bounded, done, Op}
+use Rattle.storage.specs.Promises.{Sound}
+use Rattle.shift.specs.Shifts.{movedUp, movedDown, turnedUp, turnedDown, kept, shiftingLeft, shiftingRight, rotatingLeft, rotatingRight}
+use Rattle.shift.specs.Promises.{Moves, ShiftedLeft, ShiftedRight, RotatedLeft, RotatedRight, Rotations}
+use Rattle.shift.proofs.Rings.{there, back, turned-from}
+use Rattle.shift.proofs.Moves.{moved-up, moved-in}
+
+-- ---- below the length and past it
+
+within : (f : ℕ → Bool) (b : Bits) (i : ℕ) → i < 64 * b .count → kept f b .members i ≡ f i
+within f b i l = ap (λ (t : Bool). t && f i) (lt-ltb i (64 * b .count) l)
+
+past-it : (f : ℕ → Bool) (b : Bits) (i : ℕ) → 64 * b .count ≤ i → kept f b .members i ≡ false
+past-it f b i l = ap (λ (t : Bool). t && f i) (le-ltb i (64 * b .count) l)
+
+-- a member is below the length, and is one of f's
+inside : (f : ℕ → Bool) (b : Bits) (i : ℕ) → kept f b .members i ≡ true → (i < 64 * b .count) × (f i ≡ true)
+inside f b i e = let t = and-true (ltb i (64 * b .count)) (f i) e in (ltb-true i (64 * b .count) (t .0), t .1)
+
+-- a member of a bounded set is below its length
+below : (b : Bits) (i : ℕ) → Bounded b → b .members i ≡ true → i < 64 * b .count
+below b i h e = by-lt i (64 * b .count) (λ l. l) (λ l. absurd (false≢true (sym (h .past i l) ∙ e)))
+
+-- a set that is b's below the length is b's
+kept-is : (f : ℕ → Bool) (b s : Bits) → Bounded b → s .count ≡ b .count → ((i : ℕ) → i < 64 * b .count → f i ≡ b .members i) → done (kept f s) ≡ done b
+kept-is f b s h e g =
+    ap₂ (λ (m : ℕ → Bool) (n : ℕ). done (record { members = m; count = n }))
+    (fun-ext (λ i. by-lt i (64 * b .count)
+    (λ l. within f s i (omega (arith, e)) ∙ g i l)
+    (λ l. past-it f s i (omega (arith, e)) ∙ sym (h .past i l))))
+    e
+
+-- ---- the shifts
+
+pub shifts-left : (k : ℕ) → Moves (shiftingLeft k) (ShiftedLeft k)
+unfolding shiftingLeft
+shifts-left k c b h = (
+  kept (movedUp k (b .members)) b,
+  refl,
+  refl,
+  record {
+    goes = λ i e l. within (movedUp k (b .members)) b (i + k) l ∙ moved-up k (b .members) (i + k) (omega arith) ∙ ap (b .members) (omega arith) ∙ e;
+    comes = λ m e. came m (inside (movedUp k (b .members)) b m e);
+  },
+)
+  where
+    came : (m : ℕ) → (m < 64 * b .count) × (movedUp k (b .members) m ≡ true) → (i : ℕ) × (b .members i ≡ true) × (i + k ≡ m) × (m < 64 * b .count)
+    came m p =
+        by-lt m k
+        (λ l. absurd (false≢true (sym (moved-in k (b .members) m l) ∙ p .1)))
+        (λ l. (m - k, sym (moved-up k (b .members) m l) ∙ p .1, omega arith, p .0))
+
+pub shifts-right : (k : ℕ) → Moves (shiftingRight k) (ShiftedRight k)
+unfolding shiftingRight
+shifts-right k c b h = (
+  kept (movedDown k (b .members)) b,
+  refl,
+  refl,
+  record {
+    goes = λ i e l.
+        within (movedDown k (b .members)) b (i - k) (omega (arith, below b i h e)) ∙ ap (b .members) (omega arith) ∙ e;
+    comes = λ m e.
+        let p = inside (movedDown k (b .members)) b m e in
+        (m + k, p .1, omega arith, omega arith, p .0);
+  },
+)
+
+-- ---- the rotations
+
+pub rotates-left : (k : ℕ) → Moves (rotatingLeft k) (RotatedLeft k)
+unfolding rotatingLeft
+rotates-left k c b h = (
+  kept (turnedUp (64 * b .count) k (b .members)) b,
+  refl,
+  refl,
+  record {
+    goes = λ i l.
+        within (turnedUp (64 * b .count) k (b .members)) b ((i + k) % (64 * b .count)) (mod-lt (i + k) (omega arith))
+        ∙ turned-from (64 * b .count) (b .members) k ((i + k) % (64 * b .count)) i l refl;
+    comes = λ m l.
+        ((m + (64 * b .count - k % (64 * b .count))) % (64 * b .count), mod-lt (m + (64 * b .count - k % (64 * b .count))) (omega arith), there (64 * b .count) k m l);
+    past = λ m l. past-it (turnedUp (64 * b .count) k (b .members)) b m l;
+  },
+)
+
+pub rotates-right : (k : ℕ) → Moves (rotatingRight k) (RotatedRight k)
+unfolding rotatingRight
+rotates-right k c b h = (
+  kept (turnedDown (64 * b .count) k (b .members)) b,
+  refl,
+  refl,
+  record {
+    goes = λ i l. within (turnedDown (64 * b .count) k (b .members)) b i l;
+    past = λ m l. past-it (turnedDown (64 * b .count) k (b .members)) b m l;
+  },
+)
+
+-- the result of an operation on sets that keeps below the length has no member where there are no words
+none : (f : ℕ → Bool) (b s : Bits) → b .count ≡ 0 → done (kept f b) ≡ done s → (i : ℕ) → s .members i ≡ false
+none f b s e q i =
+    let r : kept f b ≡ s = cc in
+    ap (λ (x : Bits). x .members i) (sym r) ∙ past-it f b i (omega arith)
+
+pub rotations : Rotations
+unfolding rotatingLeft rotatingRight turnedUp turnedDown
+rotations = record {
+  left-right = λ k c b h.
+      let len : ℕ = 64 * b .count in
+      let s : Bits = kept (turnedUp len k (b .members)) b in (
+        s,
+        refl,
+        kept-is (turnedDown len k (s .members)) b s h refl
+            (λ i l. within (turnedUp len k (b .members)) b ((i + k) % len) (mod-lt (i + k) (omega arith)) ∙ ap (b .members) (back len k i l)),
+      );
+  right-left = λ k c b h.
+      let len : ℕ = 64 * b .count in
+      let s : Bits = kept (turnedDown len k (b .members)) b in (
+        s,
+        refl,
+        kept-is (turnedUp len k (s .members)) b s h refl
+            (λ i l.
+            within (turnedDown len k (b .members)) b ((i + (len - k % len)) % len) (mod-lt (i + (len - k % len)) (omega arith))
+            ∙ ap (b .members) (there len k i l)),
+      );
+  round-left = λ c b h.
+      let len : ℕ = 64 * b .count in
+      kept-is (turnedUp len len (b .members)) b b h refl
+      (λ i l. turned-from len (b .members) len i i l (add-mod-right i len ∙ mod-eq-of-lt l));
+  round-right = λ c b h.
+      let len : ℕ = 64 * b .count in
+      kept-is (turnedDown len len (b .members)) b b h refl (λ i l. ap (b .members) (add-mod-right i len ∙ mod-eq-of-lt l));
+  empty-left = λ k c b s e q. none (turnedUp (64 * b .count) k (b .members)) b s e q;
+  empty-right = λ k c b s e q. none (turnedDown (64 * b .count) k (b .members)) b s e q;
+}
+
+-- ---- in a row with other calls
+
+kept-sound : (op : Op) (f : Bits → ℕ → Bool) → ((c : ℕ) (b : Bits) → op c b ≡ done (kept (f b) b)) → Sound op
+kept-sound op f e = record {
+  space = λ c b s h l q. let r : kept (f b) b ≡ s = same c b s q in subst (λ (x : Bits). x .count ≤ c) r l;
+  bound = λ c b s h l q. subst Bounded (same c b s q) (record { past = λ i p. past-it (f b) b i p });
+}
+  where
+    same : (c : ℕ) (b s : Bits) → op c b ≡ done s → kept (f b) b ≡ s
+    same c b s q = let r : done (kept (f b) b) ≡ done s = sym (e c b) ∙ q in cc
+
+pub sound-left : (k : ℕ) → Sound (shiftingLeft k)
+unfolding shiftingLeft
+sound-left k = kept-sound (shiftingLeft k) (λ b. movedUp k (b .members)) (λ c b. refl)
+
+pub sound-right : (k : ℕ) → Sound (shiftingRight k)
+unfolding shiftingRight
+sound-right k = kept-sound (shiftingRight k) (λ b. movedDown k (b .members)) (λ c b. refl)
+
+pub sound-rotate-left : (k : ℕ) → Sound (rotatingLeft k)
+unfolding rotatingLeft
+sound-rotate-left k = kept-sound (rotatingLeft k) (λ b. turnedUp (64 * b .count) k (b .members)) (λ c b. refl)
+
+pub sound-rotate-right : (k : ℕ) → Sound (rotatingRight k)
+unfolding rotatingRight
+sound-rotate-right k = kept-sound (rotatingRight k) (λ b. turnedDown (64 * b .count) k (b .members)) (λ c b. refl)

@@ -1,0 +1,30 @@
+use mathlib.Core.Path.{refl}
+use native.Mathlib.Nat.{mod-lt}
+use native.Mathlib.Omega.{arith}
+use borrow.Author.Needs.{needs}
+use Rattle.shift.proofs.Turns.{no-words, turn-whole, turn-left-is}
+use Rattle.shift.proofs.turn_left.Statement.{statement}
+use Rattle.shift.proofs.turn_left.Tie as tie
+
+returns : tie.Need-returns
+returns c = no-words _ _ (omega arith)
+
+rem-turn-whole : tie.Need-rem-turn-whole
+rem-turn-whole c = omega arith
+
+turn-whole-requires : tie.Need-turn-whole-requires
+turn-whole-requires c κs = mod-lt _ (omega arith)
+
+turn-up-requires : tie.Need-turn-up-requires
+turn-up-requires c κs = search needs
+
+same-length : tie.Need-same-length
+same-length c = search needs
+
+returns-2 : tie.Need-returns-2
+returns-2 c = turn-left-is (c .before .before .before .before .before .before .before .before .before .before .args .words .now) (c .before .before .before .before .before .before .turn-whole .last .0) (c .before .before .turn-up .last .0) _ (omega arith) (c .before .before .before .before .before .before .turn-whole .ensures) _ refl (c .before .before .turn-up .ensures)
+
+pub turn-left-spec : {M : Type 1} → statement M
+turn-left-spec =
+    tie.close
+    (tie.spec returns rem-turn-whole turn-whole-requires turn-up-requires same-length returns-2)
