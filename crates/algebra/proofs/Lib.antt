@@ -1,0 +1,6 @@
+pub mod Tables
+pub mod Readings
+pub mod Counts
+pub mod Tests
+pub mod Walks
+pub mod Promises

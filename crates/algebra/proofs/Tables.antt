@@ -1,0 +1,98 @@
+-- The words of a set that a truth table makes of two lists of words. Assumes nothing.
+use mathlib.Core.Path.{_≡_, refl, sym, ap, ap₂, _∙_, subst}
+use mathlib.Core.Bool.{Bool, true, false, not, _&&_, _||_}
+use mathlib.Core.List.{List}
+use Prim.Native.Nat.{ℕ, _+_, _-_, _*_, _^_, _<_}
+use native.Mathlib.Omega.{arith}
+use lib.ListN.{getD}
+use lib.Pow.{ones-sub-lt}
+use lib.Bits.{bitAnd, bitOr, bitXor, and-lt, or-lt, xor-lt, xor-zero-r}
+use borrow.Author.Tests.{lt-ltb}
+use Rattle.word.specs.Sets.{xorb}
+use Rattle.word.specs.Bits.{bit}
+use Rattle.word.specs.Words.{allOnes}
+use Rattle.word.proofs.Cases.{or-false, and-false, and-keep}
+use Rattle.word.proofs.Bits.{bit-and, bit-or, bit-xor, bit-not, bit-ones}
+use Rattle.word.proofs.Lists.{member-at}
+use Rattle.storage.specs.Stores.{Bits, combined, andNot}
+use Rattle.algebra.specs.Kernels.{made}
+
+-- an operation on words whose truth table, place by place, is f
+pub record WordOp (f : Bool → Bool → Bool) (op : ℕ → ℕ → ℕ) : Type 0 where
+  pub bits : (x y j : ℕ) → y < 2 ^ 64 → j < 64 → bit (op x y) j ≡ f (bit x j) (bit y j)
+  pub fits : (x y : ℕ) → x < 2 ^ 64 → y < 2 ^ 64 → op x y < 2 ^ 64
+
+pub word-and : WordOp (λ p q. p && q) bitAnd
+word-and = record { bits = λ x y j h l. bit-and x y j; fits = and-lt 64 }
+
+pub word-or : WordOp (λ p q. p || q) bitOr
+word-or = record { bits = λ x y j h l. bit-or x y j; fits = or-lt 64 }
+
+pub word-xor : WordOp xorb bitXor
+word-xor = record { bits = λ x y j h l. bit-xor x y j; fits = xor-lt 64 }
+
+pub word-andnot : WordOp andNot (λ x y. bitAnd x ((2 ^ 64 - 1) - y))
+word-andnot = record {
+  bits = λ x y j h l. bit-and x ((2 ^ 64 - 1) - y) j ∙ ap (λ (t : Bool). bit x j && t) (bit-not y 64 j h l);
+  fits = λ x y p q. and-lt 64 x ((2 ^ 64 - 1) - y) p (ones-sub-lt 64 y);
+}
+
+-- `x & (y ^ z)` at the two masks that are used
+pub met-and : WordOp (λ p q. p && q) (λ x y. bitAnd x (bitXor y 0))
+met-and = record {
+  bits = λ x y j h l. bit-and x (bitXor y 0) j ∙ ap (λ (z : ℕ). bit x j && bit z j) (xor-zero-r y);
+  fits = λ x y p q. and-lt 64 x (bitXor y 0) p (xor-lt 64 y 0 q (omega arith));
+}
+
+xor-true : (p : Bool) → xorb p true ≡ not p
+xor-true true = refl
+xor-true false = refl
+
+pub met-andnot : WordOp andNot (λ x y. bitAnd x (bitXor y allOnes))
+met-andnot = record {
+  bits = λ x y j h l.
+      bit-and x (bitXor y allOnes) j
+      ∙ ap (λ (t : Bool). bit x j && t)
+      (bit-xor y allOnes j ∙ ap (xorb (bit y j)) (bit-ones 64 j ∙ lt-ltb j 64 l) ∙ xor-true (bit y j));
+  fits = λ x y p q. and-lt 64 x (bitXor y allOnes) p (xor-lt 64 y allOnes q (omega arith));
+}
+
+-- x is word k of the set
+pub record Holds (c : Bits) (k x : ℕ) : Type 0 where
+  pub fits : x < 2 ^ 64
+  pub bits : (j : ℕ) → j < 64 → bit x j ≡ c .members (64 * k + j)
+
+module _ {f : Bool → Bool → Bool} {op : ℕ → ℕ → ℕ} (t : WordOp f op) where
+  pub holds : (xs ys : List ℕ) (k : ℕ) → getD xs k 0 < 2 ^ 64 → getD ys k 0 < 2 ^ 64 → Holds (made f xs ys) k (op (getD xs k 0) (getD ys k 0))
+  unfolding combined
+  holds xs ys k p q = record {
+    fits = t .fits (getD xs k 0) (getD ys k 0) p q;
+    bits = λ j l. t .bits (getD xs k 0) (getD ys k 0) j q l ∙ ap₂ f (sym (member-at xs k j l)) (sym (member-at ys k j l));
+  }
+
+  -- the same of a word that was worked out before
+  pub holds-is : (xs ys : List ℕ) (k : ℕ) {x : ℕ} → getD xs k 0 < 2 ^ 64 → getD ys k 0 < 2 ^ 64 → x ≡ op (getD xs k 0) (getD ys k 0) → Holds (made f xs ys) k x
+  holds-is xs ys k p q e = subst (Holds (made f xs ys) k) (sym e) (holds xs ys k p q)
+
+-- ---- where only one of the two lists has words
+
+-- what a truth table lets through where one of two words is missing
+pub record Keeps (f : Bool → Bool → Bool) (one two : Bool) : Type 0 where
+  pub first : (p : Bool) → f p false ≡ one && p
+  pub second : (q : Bool) → f false q ≡ two && q
+
+pub keeps-and : Keeps (λ p q. p && q) false false
+keeps-and = record { first = λ p. and-false p; second = λ q. refl }
+
+pub keeps-or : Keeps (λ p q. p || q) true true
+keeps-or = record { first = λ p. or-false p; second = λ q. refl }
+
+xor-none : (p : Bool) → xorb p false ≡ p
+xor-none true = refl
+xor-none false = refl
+
+pub keeps-xor : Keeps xorb true true
+keeps-xor = record { first = xor-none; second = λ q. refl }
+
+pub keeps-andnot : Keeps andNot true false
+keeps-andnot = record { first = λ p. and-keep p; second = λ q. refl }

@@ -1,0 +1,210 @@
+-- Two lists of words tested: eight words at once, word by word, and the words that only the first has. Assumes nothing.
+use mathlib.Core.Path.{_≡_, refl, sym, ap, _∙_, subst}
+use mathlib.Core.Bool.{Bool, true, false, not, _&&_}
+use mathlib.Core.List.{List}
+use Prim.Native.Nat.{ℕ, zero, suc, _+_, _-_, _*_, _/_, _%_, _^_, _≤_, _<_, min, max}
+use native.Mathlib.Nat.{add-zero}
+use native.Mathlib.Omega.{arith}
+use lib.ListN.{length, take, drop}
+use lib.Seq.{getD-drop}
+use lib.Dec.{eqb}
+use lib.Bits.{bitAnd, bitOr, bitXor, and-le-l, and-le-r, or-add-and}
+use borrow.Author.Tests.{eq-eqb, ne-eqb, eqb-true, not-false, not-true, eqb-false}
+use Rattle.word.specs.Sets.{countBelow, leastFrom, Least}
+use Rattle.word.specs.Bits.{bit, member}
+use Rattle.word.specs.Words.{allOnes}
+use Rattle.word.proofs.Cases.{by-lt, by-eq, by-test, and-keep, and-false}
+use Rattle.word.proofs.Bits.{bit-zero}
+use Rattle.word.proofs.Sets.{count-none, count-more, least, least-is}
+use Rattle.word.proofs.Words.{least-bit}
+use Rattle.word.proofs.Lists.{Fit, at-place, member-past}
+use Rattle.arch.specs.Scans.{isZero}
+use Rattle.arch.proofs.Promises.{zero-is-empty}
+use Rattle.storage.specs.Stores.{size, combined, andNot}
+use Rattle.algebra.specs.Kernels.{made, metAt, Apart, firstMet}
+use Rattle.algebra.proofs.Tables.{WordOp, Holds, holds, met-and, met-andnot}
+use Rattle.algebra.proofs.Counts.{part-drop, member-drop}
+
+-- ---- stretches of words with nothing met
+
+pub apart-none : (x : ℕ) (xs ys : List ℕ) → Apart x xs ys 0 0
+apart-none x xs ys = record { at = λ k p q. absurd (omega arith) }
+
+pub apart-join : {x : ℕ} {xs ys : List ℕ} {a m e : ℕ} → Apart x xs ys a m → Apart x xs ys m e → Apart x xs ys a e
+apart-join {x} {xs} {ys} {a} {m} s t = record { at = λ k p q. by-lt k m (λ l. s .at k p l) (λ l. t .at k l q) }
+
+pub apart-one : (x : ℕ) (xs ys : List ℕ) (k : ℕ) → metAt x xs ys k ≡ 0 → Apart x xs ys k (k + 1)
+apart-one x xs ys k e = record { at = λ j p q. ap (metAt x xs ys) (omega arith) ∙ e }
+
+-- ---- eight words at once
+
+or-none : (a b : ℕ) → bitOr a b ≡ 0 → (a ≡ 0) × (b ≡ 0)
+or-none a b e =
+    let s : bitOr a b + bitAnd a b ≡ a + b = or-add-and a b in
+    (omega (arith, and-le-l a b, and-le-r a b), omega (arith, and-le-l a b, and-le-r a b))
+
+each : (f : ℕ → ℕ) → f 0 ≡ 0 → f 1 ≡ 0 → f 2 ≡ 0 → f 3 ≡ 0 → f 4 ≡ 0 → f 5 ≡ 0 → f 6 ≡ 0 → f 7 ≡ 0 → (j : ℕ) → j < 8 → f j ≡ 0
+each f e₀ e₁ e₂ e₃ e₄ e₅ e₆ e₇ zero l = e₀
+each f e₀ e₁ e₂ e₃ e₄ e₅ e₆ e₇ (suc zero) l = e₁
+each f e₀ e₁ e₂ e₃ e₄ e₅ e₆ e₇ (suc (suc zero)) l = e₂
+each f e₀ e₁ e₂ e₃ e₄ e₅ e₆ e₇ (suc (suc (suc zero))) l = e₃
+each f e₀ e₁ e₂ e₃ e₄ e₅ e₆ e₇ (suc (suc (suc (suc zero)))) l = e₄
+each f e₀ e₁ e₂ e₃ e₄ e₅ e₆ e₇ (suc (suc (suc (suc (suc zero))))) l = e₅
+each f e₀ e₁ e₂ e₃ e₄ e₅ e₆ e₇ (suc (suc (suc (suc (suc (suc zero)))))) l = e₆
+each f e₀ e₁ e₂ e₃ e₄ e₅ e₆ e₇ (suc (suc (suc (suc (suc (suc (suc zero))))))) l = e₇
+each f e₀ e₁ e₂ e₃ e₄ e₅ e₆ e₇ (suc (suc (suc (suc (suc (suc (suc (suc j)))))))) l = absurd (omega arith)
+
+-- eight numbers joined are 0 only where each is
+pub eight-none : (f : ℕ → ℕ) (i : ℕ)
+    → bitOr (bitOr (bitOr (bitOr (bitOr (bitOr (bitOr (f i) (f (i + 1))) (f (i + 2))) (f (i + 3))) (f (i + 4))) (f (i + 5))) (f (i + 6))) (f (i + 7)) ≡ 0
+    → (k : ℕ) → i ≤ k → k < i + 8 → f k ≡ 0
+eight-none f i e k p q =
+    let e₇ = or-none _ _ e in
+    let e₆ = or-none _ _ (e₇ .0) in
+    let e₅ = or-none _ _ (e₆ .0) in
+    let e₄ = or-none _ _ (e₅ .0) in
+    let e₃ = or-none _ _ (e₄ .0) in
+    let e₂ = or-none _ _ (e₃ .0) in
+    let e₁ = or-none _ _ (e₂ .0) in
+    ap f (omega arith)
+    ∙ each (λ j. f (i + j)) (ap f (add-zero i) ∙ e₁ .0) (e₁ .1) (e₂ .1) (e₃ .1) (e₄ .1) (e₅ .1) (e₆ .1) (e₇ .1) (k - i) (omega arith)
+
+-- ---- the first word met
+
+module _ (x : ℕ) (xs ys : List ℕ) where
+  abbrev n : ℕ
+  n = min (length xs) (length ys)
+
+  s : ℕ → Bool
+  s k = not (eqb (metAt x xs ys k) 0)
+
+  pub met-here : (i : ℕ) → Apart x xs ys 0 i → i < n → (metAt x xs ys i ≡ 0 → ⊥) → i ≡ firstMet x xs ys
+  unfolding firstMet s
+  met-here i a h z =
+      sym
+      (least-is s 0 n i
+      (record {
+        from = omega arith;
+        within = omega arith;
+        here = λ l. ap not (ne-eqb (metAt x xs ys i) 0 z);
+        under = λ k p q. ap not (eq-eqb (metAt x xs ys k) 0 (a .at k p q));
+      }))
+
+  pub met-nowhere : (i : ℕ) → Apart x xs ys 0 i → n ≤ i → n ≡ firstMet x xs ys
+  unfolding firstMet s
+  met-nowhere i a h =
+      sym
+      (least-is s 0 n n
+      (record {
+        from = omega arith;
+        within = omega arith;
+        here = λ l. absurd (omega arith);
+        under = λ k p q. ap not (eq-eqb (metAt x xs ys k) 0 (a .at k p (omega arith)));
+      }))
+
+  first : Least s 0 (0 + n) (firstMet x xs ys)
+  unfolding firstMet s
+  first = least s 0 n
+
+  met-under : (k : ℕ) → k < firstMet x xs ys → metAt x xs ys k ≡ 0
+  unfolding s
+  met-under k l = eqb-true (metAt x xs ys k) 0 (not-false (eqb (metAt x xs ys k) 0) (first .under k (omega arith) l))
+
+  met-there : firstMet x xs ys < n → metAt x xs ys (firstMet x xs ys) ≡ 0 → ⊥
+  unfolding s
+  met-there l = eqb-false (metAt x xs ys (firstMet x xs ys)) 0 (not-true (eqb (metAt x xs ys (firstMet x xs ys)) 0) (first .here (omega arith)))
+
+  pub met-le : firstMet x xs ys ≤ n
+  met-le = omega (arith, first .within)
+
+-- ---- no members
+
+pub none-below : (t : ℕ → Bool) (m i : ℕ) → countBelow t m ≡ 0 → i < m → t i ≡ false
+none-below t m i e l = by-test (t i) (λ h. absurd (omega (arith, count-more t i m l h))) (λ h. h)
+
+same-truth : (a b : Bool) → (a ≡ true → b ≡ true) → (b ≡ true → a ≡ true) → a ≡ b
+same-truth true b f g = sym (f refl)
+same-truth false true f g = g refl
+same-truth false false f g = refl
+
+module _ {f : Bool → Bool → Bool} (x : ℕ) (t : WordOp f (λ u v. bitAnd u (bitXor v x))) (xs ys : List ℕ) (fx : Fit xs) (fy : Fit ys) where
+  word : (k : ℕ) → Holds (made f xs ys) k (metAt x xs ys k)
+  word k = holds t xs ys k (fx k) (fy k)
+
+  -- a word met has a member
+  pub test-fails : firstMet x xs ys < min (length xs) (length ys) → false ≡ eqb (size (made f xs ys)) 0
+  unfolding size combined
+  test-fails l =
+      let k : ℕ = firstMet x xs ys in
+      let w : ℕ = metAt x xs ys k in
+      let h : Holds (made f xs ys) k w = word k in
+      let m : leastFrom (bit w) 0 64 < 64 = least-bit 64 w (by-eq w 0 (λ e. absurd (met-there x xs ys l e)) (λ e. omega arith)) (h .fits) in
+      let j : ℕ = leastFrom (bit w) 0 64 in
+      sym
+      (ne-eqb (size (made f xs ys)) 0
+      (λ e.
+      let z : made f xs ys .members (64 * k + j) ≡ false = none-below (made f xs ys .members) (64 * max (length xs) (length ys)) (64 * k + j) e (omega arith) in
+      let o : made f xs ys .members (64 * k + j) ≡ true = sym (h .bits j m) ∙ least (bit w) 0 64 .here (omega arith) in
+      let y : true ≡ false = sym o ∙ z in
+      let q : _≡_ {A = ℕ} 0 1 = cc in omega arith))
+
+  -- below the words that both have there is none where no word is met
+  pub none-common : min (length xs) (length ys) ≤ firstMet x xs ys → (i : ℕ) → i < 64 * min (length xs) (length ys) → made f xs ys .members i ≡ false
+  none-common h i l =
+      ap (made f xs ys .members) (sym (at-place i))
+      ∙ sym (word (i / 64) .bits (i % 64) (omega arith))
+      ∙ ap (λ (y : ℕ). bit y (i % 64)) (met-under x xs ys (i / 64) (omega arith))
+      ∙ bit-zero (i % 64)
+
+-- ---- the two tests
+
+module _ (xs ys : List ℕ) (fx : Fit xs) (fy : Fit ys) where
+  pub disjoint-is : eqb (firstMet 0 xs ys) (min (length xs) (length ys)) ≡ eqb (size (made (λ p q. p && q) xs ys)) 0
+  unfolding size combined
+  disjoint-is =
+      by-lt (firstMet 0 xs ys) (min (length xs) (length ys))
+      (λ l. ne-eqb (firstMet 0 xs ys) (min (length xs) (length ys)) (omega arith) ∙ test-fails 0 met-and xs ys fx fy l)
+      (λ l.
+      eq-eqb (firstMet 0 xs ys) (min (length xs) (length ys)) (omega (arith, met-le 0 xs ys))
+      ∙ sym (eq-eqb (size (made (λ p q. p && q) xs ys)) 0 (count-none (made (λ p q. p && q) xs ys .members) (64 * max (length xs) (length ys)) (λ i m. none l i))))
+    where
+      none : min (length xs) (length ys) ≤ firstMet 0 xs ys → (i : ℕ) → member xs i && member ys i ≡ false
+      none l i =
+          by-lt i (64 * min (length xs) (length ys))
+          (λ h. none-common 0 met-and xs ys fx fy l i h)
+          (λ h. by-lt (length xs) (length ys)
+          (λ m. ap (λ (p : Bool). p && member ys i) (member-past xs i (omega arith)))
+          (λ m. ap (λ (q : Bool). member xs i && q) (member-past ys i (omega arith)) ∙ and-false (member xs i)))
+
+  pub subset-fails : firstMet allOnes xs ys < min (length xs) (length ys) → false ≡ eqb (size (made andNot xs ys)) 0
+  subset-fails l = test-fails allOnes met-andnot xs ys fx fy l
+
+  -- where no common word is met it is left to the words that only the first has
+  pub subset-is : (k : ℕ) → k ≡ min (length xs) (length ys) → k ≤ firstMet allOnes xs ys → isZero (take (length xs - k) (drop k xs)) ≡ eqb (size (made andNot xs ys)) 0
+  unfolding size combined
+  subset-is k min-is l = ap isZero (part-drop xs k) ∙ same-truth (isZero (drop k xs)) (eqb (size (made andNot xs ys)) 0) holds-then then-holds
+    where
+      fit : Fit (drop k xs)
+      fit i = subst (λ (y : ℕ). y < 2 ^ 64) (sym (getD-drop k xs i 0)) (fx (k + i))
+
+      holds-then : isZero (drop k xs) ≡ true → eqb (size (made andNot xs ys)) 0 ≡ true
+      holds-then e =
+          eq-eqb (size (made andNot xs ys)) 0
+          (count-none (made andNot xs ys .members) (64 * max (length xs) (length ys))
+          (λ i m.
+          by-lt i (64 * k)
+          (λ h. none-common allOnes met-andnot xs ys fx fy (omega arith) i (omega arith))
+          (λ h. ap (λ (p : Bool). p && not (member ys i)) (ap (member xs) (omega arith) ∙ sym (member-drop xs k (i - 64 * k)) ∙ zero-is-empty (drop k xs) fit .empty e (i - 64 * k)))))
+
+      then-holds : eqb (size (made andNot xs ys)) 0 ≡ true → isZero (drop k xs) ≡ true
+      then-holds e =
+          zero-is-empty (drop k xs) fit .zero
+          (λ i.
+          member-drop xs k i
+          ∙ by-lt (64 * k + i) (64 * length xs)
+          (λ m.
+          sym
+          (ap (λ (q : Bool). member xs (64 * k + i) && not q) (member-past ys (64 * k + i) (omega arith))
+          ∙ and-keep (member xs (64 * k + i)))
+          ∙ none-below (made andNot xs ys .members) (64 * max (length xs) (length ys)) (64 * k + i) (eqb-true (size (made andNot xs ys)) 0 e) (omega arith))
+          (λ m. member-past xs (64 * k + i) m))

@@ -1,0 +1,43 @@
+use mathlib.Core.Path.{sym, _∙_}
+use borrow.Author.Needs.{needs}
+use lib.Seq.{length-take-le}
+use Rattle.algebra.proofs.Readings.{both-passed, part-short, walk-stopped, walked}
+use Rattle.algebra.proofs.iter_andnot.Statement.{statement}
+use Rattle.algebra.proofs.iter_andnot.Tie as tie
+
+check-both-requires : tie.Need-check-both-requires
+check-both-requires c κs = search needs
+
+enum-known-e : tie.Need-enum-known-e
+enum-known-e c = search needs
+
+returns : tie.Need-returns
+returns c = walk-stopped _ _ _ _ _ _ (sym (c .before .e .given .1) ∙ c .before .before .before .check-both .ensures)
+
+enum-told : tie.Need-enum-told
+enum-told c = search needs
+
+slice-aggregate-next-andnot : tie.Need-slice-aggregate-next-andnot
+slice-aggregate-next-andnot c = sym (length-take-le _ _ (both-passed _ _ _ _ (sym (c .before .enum-told .given .1) ∙ c .before .before .before .check-both .ensures) .one .inside))
+
+slice-aggregate-next-andnot-2 : tie.Need-slice-aggregate-next-andnot-2
+slice-aggregate-next-andnot-2 c = sym (length-take-le _ _ (both-passed _ _ _ _ (sym (c .before .before .enum-told .given .1) ∙ c .before .before .before .before .check-both .ensures) .two .inside))
+
+next-andnot-requires : tie.Need-next-andnot-requires
+next-andnot-requires c κs = (part-short _ _ (both-passed _ _ _ _ (sym (c .before .before .enum-told .given .1) ∙ c .before .before .before .before .check-both .ensures) .one), part-short _ _ (both-passed _ _ _ _ (sym (c .before .before .enum-told .given .1) ∙ c .before .before .before .before .check-both .ensures) .two))
+
+returns-2 : tie.Need-returns-2
+returns-2 c = walked _ _ _ _ _ _ (both-passed _ _ _ _ (sym (c .before .before .before .enum-told .given .1) ∙ c .before .before .before .before .before .check-both .ensures)) (c .next-andnot .ensures)
+
+pub iter-andnot-spec : {M : Type 1} → statement M
+iter-andnot-spec =
+    tie.close
+    (tie.spec
+    check-both-requires
+    enum-known-e
+    returns
+    enum-told
+    slice-aggregate-next-andnot
+    slice-aggregate-next-andnot-2
+    next-andnot-requires
+    returns-2)

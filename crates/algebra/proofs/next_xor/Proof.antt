@@ -1,0 +1,80 @@
+use Prim.Native.Nat.{_+_, _-_, _/_, _^_, _<_, max}
+use native.Mathlib.Omega.{arith}
+use borrow.Author.Needs.{needs}
+use Rattle.algebra.proofs.Tables.{holds-is, word-xor, keeps-xor}
+use Rattle.algebra.proofs.Walks.{Ahead, ahead-start, ahead-next, ahead-none, least64, ends, walk-in, walk-found}
+use Rattle.algebra.specs.Kernels.{made}
+use Rattle.word.specs.Sets.{xorb}
+use Rattle.algebra.proofs.next_xor.Statement.{statement}
+use Rattle.algebra.proofs.next_xor.Tie as tie
+
+abbrev Inv-loop : tie.InvT-loop
+Inv-loop a b i end k₀ w₀ k w = (k < 2 ^ 59) × Ahead (made xorb a b) i k w
+
+abbrev μ-loop : tie.MeasureT-loop
+μ-loop a b i end k₀ w₀ k w = end - k
+
+max-requires : tie.Need-max-requires Inv-loop μ-loop
+max-requires c κs = search needs
+
+xor-at-requires : tie.Need-xor-at-requires Inv-loop μ-loop
+xor-at-requires c κs = search needs
+
+shr-w : tie.Need-shr-w Inv-loop μ-loop
+shr-w c = omega arith
+
+shl-w : tie.Need-shl-w Inv-loop μ-loop
+shl-w c = omega arith
+
+loop-holds : tie.Need-loop-holds Inv-loop μ-loop
+loop-holds c = (omega arith, ahead-start _ (holds-is word-xor _ _ _ (omega (arith, c .before .before .before .shared-slice-known .given (c .before .before .before .before .args .i / 64))) (omega (arith, c .before .before .shared-slice-known2 .given (c .before .before .before .before .args .i / 64))) (c .xor-at .ensures)))
+
+add-k : tie.Need-add-k Inv-loop μ-loop
+add-k c = omega arith
+
+returns : tie.Need-returns Inv-loop μ-loop
+returns c = ahead-none {e = c .before .before .before .before .max .result} (c .before .before .loop .inv .1) (c .before .loop-test .taken) (ends keeps-xor _ _ _ (omega arith) (omega arith) (omega arith)) (omega arith)
+
+xor-at-requires-2 : tie.Need-xor-at-requires-2 Inv-loop μ-loop
+xor-at-requires-2 c κs = search needs
+
+loop-less : tie.Need-loop-less Inv-loop μ-loop
+loop-less c = omega arith
+
+loop-again : tie.Need-loop-again Inv-loop μ-loop
+loop-again c =
+    let l = c .before .before .before .loop in
+    (omega arith, ahead-next (l .inv .1) (c .before .before .loop-test .taken) (holds-is word-xor _ _ _ (omega (arith, c .before .before .before .before .before .before .before .shared-slice-known .given (l .k + 1))) (omega (arith, c .before .before .before .before .before .before .shared-slice-known2 .given (l .k + 1))) (c .xor-at2 .ensures)))
+
+mul-place : tie.Need-mul-place Inv-loop μ-loop
+mul-place c = omega (arith, walk-in keeps-xor _ _ (c .before .loop .inv .1) (c .loop-test .left) (omega arith) (omega arith))
+
+trailing-zeros-requires : tie.Need-trailing-zeros-requires Inv-loop μ-loop
+trailing-zeros-requires c κs = search needs
+
+add-place : tie.Need-add-place Inv-loop μ-loop
+add-place c = omega (arith, walk-in keeps-xor _ _ (c .before .before .loop .inv .1) (c .before .loop-test .left) (omega arith) (omega arith), least64 (c .before .before .loop .w), c .trailing-zeros .ensures)
+
+returns-2 : tie.Need-returns-2 Inv-loop μ-loop
+returns-2 c = walk-found keeps-xor _ _ (c .before .before .loop .inv .1) (c .before .loop-test .left) (c .trailing-zeros .ensures)
+
+pub next-xor-spec : {M : Type 1} → statement M
+next-xor-spec =
+    tie.close
+    (tie.spec
+    Inv-loop
+    μ-loop
+    max-requires
+    xor-at-requires
+    shr-w
+    shl-w
+    loop-holds
+    add-k
+    returns
+    xor-at-requires-2
+    loop-less
+    loop-again
+    mul-place
+    trailing-zeros-requires
+    add-place
+    returns-2)

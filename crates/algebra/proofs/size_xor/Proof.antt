@@ -1,0 +1,35 @@
+use native.Mathlib.Omega.{arith}
+use borrow.Author.Needs.{needs}
+use Rattle.algebra.proofs.Tables.{keeps-xor}
+use Rattle.algebra.proofs.Counts.{common-small, from-small, size-both}
+use Rattle.algebra.proofs.size_xor.Statement.{statement}
+use Rattle.algebra.proofs.size_xor.Tie as tie
+
+common-xor-requires : tie.Need-common-xor-requires
+common-xor-requires c κs = search needs
+
+count-from-requires : tie.Need-count-from-requires
+count-from-requires c κs = search needs
+
+add-result : tie.Need-add-result
+add-result c = omega (arith, common-small _ _ _ (c .before .common-xor .ensures) (omega arith), from-small _ _ (c .count-from .ensures) (omega arith))
+
+count-from-requires-2 : tie.Need-count-from-requires-2
+count-from-requires-2 c κs = search needs
+
+add-result-2 : tie.Need-add-result-2
+add-result-2 c = omega (arith, common-small _ _ _ (c .before .before .common-xor .ensures) (omega arith), from-small _ _ (c .before .count-from .ensures) (omega arith), from-small _ _ (c .count-from2 .ensures) (omega arith))
+
+returns : tie.Need-returns
+returns c = size-both keeps-xor _ _ (c .before .before .common-xor .ensures) (c .before .count-from .ensures) (c .count-from2 .ensures)
+
+pub size-xor-spec : {M : Type 1} → statement M
+size-xor-spec =
+    tie.close
+    (tie.spec
+    common-xor-requires
+    count-from-requires
+    add-result
+    count-from-requires-2
+    add-result-2
+    returns)
