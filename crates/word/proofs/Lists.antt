@@ -1,6 +1,6 @@
 -- Lists made from an index, and words that are determined by their set. Assumes nothing.
 use mathlib.Core.Path.{_≡_, refl, sym, ap, ap₂, _∙_, subst}
-use mathlib.Core.Bool.{Bool}
+use mathlib.Core.Bool.{Bool, false}
 use mathlib.Core.List.{List, [], _∷_}
 use Prim.Native.Nat.{ℕ, zero, suc, _+_, _*_, _/_, _%_, _^_, _≤_, _<_}
 use native.Mathlib.Nat.{not-suc-le-zero, le-of-suc-le-suc, add-zero, add-suc, suc-add, zero-add}
@@ -65,7 +65,7 @@ pub member-at : (ws : List ℕ) (k j : ℕ) → j < 64 → member ws (64 * k + j
 unfolding member
 member-at ws k j l = ap₂ (λ (x y : ℕ). bit (getD ws x 0) y) (at-word k j l) (at-bit k j l)
 
-pub member-past : (ws : List ℕ) (i : ℕ) → 64 * length ws ≤ i → member ws i ≡ mathlib.Core.Bool.false
+pub member-past : (ws : List ℕ) (i : ℕ) → 64 * length ws ≤ i → member ws i ≡ false
 unfolding member
 member-past ws i h = ap (λ (x : ℕ). bit x (i % 64)) (past ws (i / 64) (omega arith)) ∙ bit-zero (i % 64)
 
@@ -85,6 +85,15 @@ words-fit s n k =
     by-lt k n
     (λ h. subst (λ (x : ℕ). x < 2 ^ 64) (sym (word-at s n k h)) (pack-lt 64 (λ j. s (64 * k + j))))
     (λ h. subst (λ (x : ℕ). x < 2 ^ 64) (sym (past (wordsOf s n) k (omega (arith, length-words s n)))) (omega arith))
+
+-- a word of a set is 0 exactly where none of its numbers is a member
+pub word-none : (s : ℕ → Bool) (k : ℕ) → ((j : ℕ) → j < 64 → s (64 * k + j) ≡ false) → wordOf s k ≡ 0
+unfolding wordOf
+word-none s k h = sym (pack-is 64 0 (λ j. s (64 * k + j)) (omega arith) (λ j l. bit-zero j ∙ sym (h j l)))
+
+pub word-zero : (s : ℕ → Bool) (k j : ℕ) → wordOf s k ≡ 0 → j < 64 → s (64 * k + j) ≡ false
+unfolding wordOf
+word-zero s k j e l = sym (bit-pack 64 (λ j. s (64 * k + j)) j l) ∙ ap (λ (x : ℕ). bit x j) e ∙ bit-zero j
 
 -- a list of words is a set's where each of its bits is the set's
 pub words-is : (n : ℕ) (s : ℕ → Bool) (ws : List ℕ) → length ws ≡ n → ((k : ℕ) → k < n → getD ws k 0 < 2 ^ 64)

@@ -1,0 +1,223 @@
+-- The promises of specs/Promises. Assumes nothing.
+use mathlib.Core.Path.{_≡_, refl, sym, ap, ap₂, _∙_, subst}
+use mathlib.Core.Bool.{Bool, true, false, not, _&&_, _||_, false≢true}
+use mathlib.Core.Logic.{_⊎_, inl, inr}
+use Prim.Native.Nat.{ℕ, suc, _+_, _-_, _*_, _/_, _%_, _^_, _≤_, _<_, max}
+use native.Mathlib.Omega.{arith}
+use lib.Dec.{ltb, leb, eqb}
+use borrow.Author.Tests.{lt-ltb, le-ltb, le-leb, lt-leb, eq-eqb, ne-eqb}
+use Rattle.word.specs.Sets.{choose, xorb}
+use Rattle.word.specs.Bits.{wordOf}
+use Rattle.word.proofs.Cases.{by-lt, by-eq, or-false, and-false, and-keep}
+use Rattle.word.proofs.Lists.{word-none, word-zero}
+use Rattle.storage.specs.Refusals.{numberOf}
+use Rattle.storage.specs.Stores.{Bits, Outcome, refused, done, Op, within, trimmedCount, trimmed, combined}
+use Rattle.storage.specs.Promises.{LeastCount}
+use Rattle.storage.specs.declared.Refusal.{Refusal}
+use Rattle.storage.specs.declared.Refusal.the-variants.{NoSpace, IndexOver}
+use Rattle.storage.proofs.Checks.{within-ok, within-no, within-done}
+use Rattle.storage.proofs.Promises.{least-count}
+use Rattle.bitmap.specs.Bitmaps.{trimming, setting, unsetting, settingRegion, combining, uniting, tidied, keepingBit, droppingBit, flippingBit}
+use Rattle.bitmap.specs.Promises.{Meets, Never, Lacks, WithBit, WithoutBit, Fewest, WithRegion, Combines, Unites, Tidied, OnlyBit, FlippedBit, ThenTidied}
+use Rattle.bitmap.proofs.Regions.{region-none, region-over, region-put}
+
+same : {b s : Bits} → done b ≡ done s → b ≡ s
+same e = cc
+
+never : {b : Bits} {e : Refusal} → done b ≡ refused e → ⊥
+never q = let z : _≡_ {A = ℕ} 0 1 = cc in omega arith
+
+which : {d e : Refusal} → refused d ≡ refused e → d ≡ e
+which q = cc
+
+-- a result that was refused for space has too many words
+lacks : (c : ℕ) (b : Bits) (e : Refusal) → within c b ≡ refused e → (numberOf e ≡ 6) × (c < b .count)
+lacks c b e q =
+    by-lt c (b .count)
+    (λ h. (ap numberOf (which (sym q ∙ within-no c b h)), h))
+    (λ h. absurd (never (sym (within-ok c b h) ∙ q)))
+
+or-true : (t : Bool) → t || true ≡ true
+or-true true = refl
+or-true false = refl
+
+pub sets : (i : ℕ) → Meets (setting i) (λ c b s. WithBit i b s) (Lacks (λ b. max (b .count) (i / 64 + 1)))
+unfolding setting
+sets i = record {
+  made = λ c b s e.
+      subst (WithBit i b) (within-done c _ s e .0)
+      (record {
+        count = refl;
+        here = ap (λ (t : Bool). b .members i || t) (eq-eqb i i refl) ∙ or-true (b .members i);
+        others = λ j n. ap (λ (t : Bool). b .members j || t) (ne-eqb j i n) ∙ or-false (b .members j);
+      });
+  why = λ c b e q. lacks c _ e q;
+}
+
+pub unsets : (i : ℕ) → Meets (unsetting i) (λ c b s. WithoutBit i b s) Never
+unfolding unsetting
+unsets i = record {
+  made = λ c b s e.
+      subst (WithoutBit i b) (same e)
+      (record {
+        count = refl;
+        here = ap (λ (t : Bool). b .members i && not t) (eq-eqb i i refl) ∙ and-false (b .members i);
+        others = λ j n. ap (λ (t : Bool). b .members j && not t) (ne-eqb j i n) ∙ and-keep (b .members j);
+      });
+  why = λ c b e q. never q;
+}
+
+pub trims : Meets trimming (λ c b s. Fewest b s) Never
+unfolding trimming
+trims = record {
+  made = λ c b s e. subst (Fewest b) (same e) (record { same = λ i. refl; count = least-count (b .members) (b .count) });
+  why = λ c b e q. never q;
+}
+
+pub combines : (f : Bool → Bool → Bool) (o : Bits)
+    → Meets (combining f o) (λ c b s. Combines f o b s) (Lacks (λ b. trimmedCount (combined f b o .members) (combined f b o .count)))
+unfolding combining combined
+combines f o = record {
+  made = λ c b s e.
+      subst (Combines f o b) (within-done c _ s e .0)
+      (record { each = λ i. refl; count = least-count (λ i. f (b .members i) (o .members i)) (max (b .count) (o .count)) });
+  why = λ c b e q. lacks c _ e q;
+}
+
+pub unites : (o : Bits) → Meets (uniting o) (λ c b s. Unites o b s) (Lacks (λ b. max (b .count) (o .count)))
+unfolding uniting combined
+unites o = record {
+  made = λ c b s e.
+      subst (Unites o b) (within-done c _ s e .0)
+      (record {
+        first = λ i t. ap (λ (x : Bool). x || o .members i) t;
+        second = λ i t. ap (λ (x : Bool). b .members i || x) t ∙ or-true (b .members i);
+        only = λ i t. either (b .members i) (o .members i) t;
+        count = refl;
+      });
+  why = λ c b e q. lacks c _ e q;
+}
+  where
+    either : (x y : Bool) → x || y ≡ true → (x ≡ true) ⊎ (y ≡ true)
+    either true y t = inl refl
+    either false y t = inr t
+
+-- ---- a region of k > 0 numbers
+
+region-rule : (i : ℕ) (v : Bool) (k : ℕ) (b : Bits)
+    → WithRegion i v k b (record { members = λ p. choose (leb i p && ltb p (i + k)) v (b .members p); count = choose v (max (b .count) ((i + k - 1) / 64 + 1)) (b .count) })
+region-rule i v k b = record {
+  inside = λ j p q. ap₂ (λ (s t : Bool). choose (s && t) v (b .members j)) (le-leb i j p) (lt-ltb j (i + k) q);
+  before = λ j p. ap (λ (s : Bool). choose (s && ltb j (i + k)) v (b .members j)) (lt-leb i j p);
+  after = λ j p.
+      ap (λ (t : Bool). choose (leb i j && t) v (b .members j)) (le-ltb j (i + k) p)
+      ∙ ap (λ (t : Bool). choose t v (b .members j)) (and-false (leb i j));
+  grown = λ last e t.
+      ap (λ (x : Bool). choose x (max (b .count) ((i + k - 1) / 64 + 1)) (b .count)) t
+      ∙ ap (λ (x : ℕ). max (b .count) (x / 64 + 1)) (omega arith);
+  kept = λ t. ap (λ (x : Bool). choose x (max (b .count) ((i + k - 1) / 64 + 1)) (b .count)) t;
+}
+
+-- 4 exactly where the last index passes 2 ^ 64 - 1, then 6 for lack of space; k 0 does nothing, whatever i
+pub regions : (i : ℕ) (v : Bool) (k : ℕ) → (k ≡ 0 → ⊥)
+    → Meets (settingRegion i v k) (λ c b s. (i + k ≤ 2 ^ 64) × WithRegion i v k b s)
+    (λ c b m. ((m ≡ 4) × (2 ^ 64 < i + k)) ⊎ ((m ≡ 6) × (i + k ≤ 2 ^ 64) × (c < choose v (max (b .count) ((i + k - 1) / 64 + 1)) (b .count))))
+regions i v k some = record {
+  made = λ c b s e.
+      by-lt (2 ^ 64) (i + k)
+      (λ h. absurd (never (sym e ∙ region-over i k c v b some h)))
+      (λ h. (h, subst (WithRegion i v k b) (within-done c _ s (sym (region-put i k c v b some h) ∙ e) .0) (region-rule i v k b)));
+  why = λ c b e q.
+      by-lt (2 ^ 64) (i + k)
+      (λ h. inl (ap numberOf (which (sym q ∙ region-over i k c v b some h)), h))
+      (λ h. let l = lacks c _ e (sym (region-put i k c v b some h) ∙ q) in inr (l .0, h, l .1));
+}
+
+pub region-nothing : (i : ℕ) (v : Bool) (c : ℕ) (b : Bits) → settingRegion i v 0 c b ≡ done b
+region-nothing i v c b = region-none i 0 c v b refl
+
+-- ---- one word worked on, and tidied
+
+pub tidies : (k : ℕ) (t : Bits) → Tidied k t (tidied k t)
+unfolding tidied
+tidies k t = record {
+  same = λ j. either-members j test;
+  trims = λ e none.
+      subst (LeastCount (t .members) (t .count))
+      (sym (ap (λ (x : Bool). choose x (trimmed t) t .count) (ap₂ (λ (x y : Bool). x && y) (eq-eqb (suc k) (t .count) e) (eq-eqb (wordOf (t .members) k) 0 (empty none)))))
+      (least-count (t .members) (t .count));
+  not-last = λ n. ap (λ (x : Bool). choose (x && eqb (wordOf (t .members) k) 0) (trimmed t) t .count) (ne-eqb (suc k) (t .count) n);
+  not-empty = λ j e m.
+      ap (λ (x : Bool). choose (eqb (suc k) (t .count) && x) (trimmed t) t .count) (ne-eqb (wordOf (t .members) k) 0 (λ z. full j e m z))
+      ∙ ap (λ (x : Bool). choose x (trimmed t) t .count) (and-false (eqb (suc k) (t .count)));
+}
+  where
+    test : Bool
+    test = eqb (suc k) (t .count) && eqb (wordOf (t .members) k) 0
+
+    either-members : (j : ℕ) (x : Bool) → choose x (trimmed t) t .members j ≡ t .members j
+    either-members j true = refl
+    either-members j false = refl
+
+    empty : ((j : ℕ) → j / 64 ≡ k → t .members j ≡ false) → wordOf (t .members) k ≡ 0
+    empty none = word-none (t .members) k (λ j l. none (64 * k + j) (omega arith))
+
+    full : (j : ℕ) → j / 64 ≡ k → t .members j ≡ true → wordOf (t .members) k ≡ 0 → ⊥
+    full j e m z = false≢true (sym (word-zero (t .members) k (j % 64) z (omega arith)) ∙ ap (t .members) (omega arith) ∙ m)
+
+pub keeps-bit : (i : ℕ) → Meets (keepingBit i) (λ c b s. ThenTidied i (OnlyBit i) b s) Never
+unfolding keepingBit
+keeps-bit i = record {
+  made = λ c b s e. (
+    record { members = λ j. b .members j && (not (eqb (j / 64) (i / 64)) || eqb j i); count = b .count },
+    record {
+      count = refl;
+      here = ap (λ (t : Bool). b .members i && (not (eqb (i / 64) (i / 64)) || t)) (eq-eqb i i refl) ∙ ap (λ (t : Bool). b .members i && t) (or-true (not (eqb (i / 64) (i / 64)))) ∙ and-keep (b .members i);
+      word = λ j p n.
+          ap₂ (λ (x y : Bool). b .members j && (not x || y)) (eq-eqb (j / 64) (i / 64) p) (ne-eqb j i n) ∙ and-false (b .members j);
+      others = λ j n. ap (λ (x : Bool). b .members j && (not x || eqb j i)) (ne-eqb (j / 64) (i / 64) n) ∙ and-keep (b .members j);
+    },
+    subst (Tidied (i / 64) _) (same e) (tidies (i / 64) _),
+  );
+  why = λ c b e q. never q;
+}
+
+pub drops-bit : (i : ℕ) → Meets (droppingBit i) (λ c b s. ThenTidied i (WithoutBit i) b s) Never
+unfolding droppingBit
+drops-bit i = record {
+  made = λ c b s e. (
+    record { members = λ j. b .members j && not (eqb j i); count = b .count },
+    record {
+      count = refl;
+      here = ap (λ (t : Bool). b .members i && not t) (eq-eqb i i refl) ∙ and-false (b .members i);
+      others = λ j n. ap (λ (t : Bool). b .members j && not t) (ne-eqb j i n) ∙ and-keep (b .members j);
+    },
+    subst (Tidied (i / 64) _) (same e) (tidies (i / 64) _),
+  );
+  why = λ c b e q. never q;
+}
+
+xor-none : (t : Bool) → xorb t false ≡ t
+xor-none true = refl
+xor-none false = refl
+
+xor-one : (t : Bool) → xorb t true ≡ not t
+xor-one true = refl
+xor-one false = refl
+
+pub flips-bit : (i : ℕ)
+    → Meets (flippingBit i) (λ c b s. ThenTidied i (FlippedBit i) b s)
+    (Lacks (λ b. tidied (i / 64) (record { members = λ j. xorb (b .members j) (eqb j i); count = max (b .count) (i / 64 + 1) }) .count))
+unfolding flippingBit
+flips-bit i = record {
+  made = λ c b s e. (
+    record { members = λ j. xorb (b .members j) (eqb j i); count = max (b .count) (i / 64 + 1) },
+    record {
+      count = refl;
+      here = ap (xorb (b .members i)) (eq-eqb i i refl) ∙ xor-one (b .members i);
+      others = λ j n. ap (xorb (b .members j)) (ne-eqb j i n) ∙ xor-none (b .members j);
+    },
+    subst (Tidied (i / 64) _) (within-done c _ s e .0) (tidies (i / 64) _),
+  );
+  why = λ c b e q. lacks c _ e q;
+}

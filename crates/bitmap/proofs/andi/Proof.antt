@@ -1,0 +1,66 @@
+use mathlib.Core.Path.{sym, _∙_}
+use native.Mathlib.Omega.{arith}
+use borrow.Author.Needs.{needs}
+use lib.ListN.{length-set}
+use Rattle.storage.proofs.Checks.{passed}
+use Rattle.storage.proofs.Stores.{changes-stopped}
+use Rattle.bitmap.proofs.Tidies.{andi-past, andi-changes}
+use Rattle.bitmap.proofs.andi.Statement.{statement}
+use Rattle.bitmap.proofs.andi.Tie as tie
+
+check-requires : tie.Need-check-requires
+check-requires c κs = search needs
+
+enum-known-e : tie.Need-enum-known-e
+enum-known-e c = search needs
+
+returns : tie.Need-returns
+returns c = changes-stopped _ _ _ _ (sym (c .before .e .given .1) ∙ c .before .before .before .check .ensures)
+
+enum-told : tie.Need-enum-told
+enum-told c = search needs
+
+returns-2 : tie.Need-returns-2
+returns-2 c = andi-past _ _ _ (λ k. omega (arith, c .before .before .before .before .slice-known .given k)) (passed _ _ (sym (c .before .enum-told .given .1) ∙ c .before .before .before .check .ensures)) (c .if1 .taken)
+
+mul-words : tie.Need-mul-words
+mul-words c = search needs
+
+slice-read-words : tie.Need-slice-read-words
+slice-read-words c = omega (arith, (passed _ _ (sym (c .before .before .enum-told .given .1) ∙ c .before .before .before .before .check .ensures)) .inside)
+
+bit-requires : tie.Need-bit-requires
+bit-requires c κs = search needs
+
+mul-words-2 : tie.Need-mul-words-2
+mul-words-2 c = search needs
+
+slice-write-words : tie.Need-slice-write-words
+slice-write-words c = omega (arith, (passed _ _ (sym (c .before .before .before .enum-told .given .1) ∙ c .before .before .before .before .before .check .ensures)) .inside)
+
+tidy-requires : tie.Need-tidy-requires
+tidy-requires c κs = simp length-set (omega (arith, (passed _ _ (sym (c .before .before .before .before .enum-told .given .1) ∙ c .before .before .before .before .before .before .check .ensures)) .inside))
+
+same-length : tie.Need-same-length
+same-length c = search needs
+
+returns-3 : tie.Need-returns-3
+returns-3 c = andi-changes _ _ _ (λ k. omega (arith, c .before .before .before .before .before .before .before .before .slice-known .given k)) (passed _ _ (sym (c .before .before .before .before .before .enum-told .given .1) ∙ c .before .before .before .before .before .before .before .check .ensures)) _ _ (c .before .before .before .before .if1 .left) (c .before .before .bit .ensures) (c .tidy .ensures)
+
+pub andi-spec : {M : Type 1} → statement M
+andi-spec =
+    tie.close
+    (tie.spec
+    check-requires
+    enum-known-e
+    returns
+    enum-told
+    returns-2
+    mul-words
+    slice-read-words
+    bit-requires
+    mul-words-2
+    slice-write-words
+    tidy-requires
+    same-length
+    returns-3)

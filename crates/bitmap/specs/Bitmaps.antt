@@ -1,0 +1,79 @@
+-- The calls of bitmap.rs, on sets and counts (01, "Words that enter and leave use").
+use Prim.Native.Nat.{ℕ, suc, _+_, _-_, _*_, _/_, _^_, _≤_, _<_, max}
+use mathlib.Core.Path.{_≡_}
+use mathlib.Core.Bool.{Bool, true, false, not, _&&_, _||_}
+use mathlib.Core.List.{List}
+use lib.ListN.{length, getD, take}
+use lib.Bits.{bitAnd}
+use lib.Dec.{ltb, leb, eqb}
+use Rattle.word.specs.Sets.{choose, xorb}
+use Rattle.word.specs.Bits.{wordOf}
+use Rattle.arch.specs.Scans.{nonzeroLen}
+use Rattle.storage.specs.Stores.{Bits, Outcome, refused, done, Op, within, trimmed, combined}
+use Rattle.storage.specs.declared.Refusal.the-variants.{IndexOver}
+
+-- the words up to the one of bit i
+abbrev pub upTo : ℕ → ℕ
+upTo i = i / 64 + 1
+
+-- i lies in the k numbers from a on
+abbrev pub inRegion : ℕ → ℕ → ℕ → Bool
+inRegion a k i = leb a i && ltb i (a + k)
+
+unfoldable pub trimming : Op
+trimming c b = done (trimmed b)
+
+unfoldable pub setting : ℕ → Op
+setting i c b = within c (record { members = λ j. b .members j || eqb j i; count = max (b .count) (upTo i) })
+
+unfoldable pub unsetting : ℕ → Op
+unsetting i c b = done (record { members = λ j. b .members j && not (eqb j i); count = b .count })
+
+-- the last of k > 0 numbers from i on passes 2 ^ 64 - 1
+abbrev pub passes : ℕ → ℕ → Bool
+passes i k = ltb (2 ^ 64) (i + k)
+
+-- the k numbers from i on become members, or none of them stays one
+unfoldable pub settingRegion : ℕ → Bool → ℕ → Op
+settingRegion i value k c b =
+    let count = choose value (max (b .count) (upTo (i + k - 1))) (b .count) in
+    let put = within c (record { members = λ p. choose (inRegion i k p) value (b .members p); count = count }) in
+    choose (eqb k 0) (done b) (choose (passes i k) (refused IndexOver) put)
+
+-- a set operation with a second bitmap: `and`, `andnot` and `xor` drop trailing zero words, `or` does not
+unfoldable pub combining : (Bool → Bool → Bool) → Bits → Op
+combining f o c b = within c (trimmed (combined f b o))
+
+unfoldable pub uniting : Bits → Op
+uniting o c b = within c (combined _||_ b o)
+
+-- where word k is the last and is 0, trailing zero words are dropped
+unfoldable pub tidied : ℕ → Bits → Bits
+tidied k s = choose (eqb (suc k) (s .count) && eqb (wordOf (s .members) k) 0) (trimmed s) s
+
+-- the other 63 numbers of i's word go
+unfoldable pub keepingBit : ℕ → Op
+unfolding tidied
+keepingBit i c b =
+    done (tidied (i / 64) (record { members = λ j. b .members j && (not (eqb (j / 64) (i / 64)) || eqb j i); count = b .count }))
+
+unfoldable pub droppingBit : ℕ → Op
+unfolding tidied
+droppingBit i c b = done (tidied (i / 64) (record { members = λ j. b .members j && not (eqb j i); count = b .count }))
+
+unfoldable pub flippingBit : ℕ → Op
+unfolding tidied
+flippingBit i c b = within c (tidied (i / 64) (record { members = λ j. xorb (b .members j) (eqb j i); count = max (b .count) (upTo i) }))
+
+-- for the private loops: the words below e are op of the two, the others are as they were
+abbrev pub wordAndNot : ℕ → ℕ → ℕ
+wordAndNot x y = bitAnd x ((2 ^ 64 - 1) - y)
+
+pub record Zipped (op : ℕ → ℕ → ℕ) (ws os : List ℕ) (e : ℕ) (ws' : List ℕ) : Type 0 where
+  pub long : length ws' ≡ length ws
+  pub below : (k : ℕ) → k < e → getD ws' k 0 ≡ op (getD ws k 0) (getD os k 0)
+  pub above : (k : ℕ) → e ≤ k → getD ws' k 0 ≡ getD ws k 0
+
+-- for the private `tidy`: the trimmed count where word k is the last of n and is 0
+unfoldable pub tidyCount : List ℕ → ℕ → ℕ → ℕ
+tidyCount ws n k = choose (eqb (suc k) n && eqb (getD ws k 0) 0) (nonzeroLen (take n ws)) n

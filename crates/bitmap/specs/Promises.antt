@@ -1,0 +1,81 @@
+-- What the calls of bitmap.rs promise, for every number. Each is proved in proofs/Promises.
+use Prim.Native.Nat.{ℕ, suc, _+_, _*_, _/_, _^_, _≤_, _<_, max}
+use mathlib.Core.Path.{_≡_}
+use mathlib.Core.Bool.{Bool, true, false, not}
+use mathlib.Core.Logic.{_⊎_}
+use Rattle.storage.specs.Refusals.{numberOf}
+use Rattle.storage.specs.Stores.{Bits, Outcome, refused, done, Op}
+use Rattle.storage.specs.Promises.{LeastCount}
+
+-- whatever the capacity, what is done is as the rule says, and what is refused gets its number where the condition holds
+pub record Meets (op : Op) (rule : ℕ → Bits → Bits → Type 0) (no : ℕ → Bits → ℕ → Type 0) : Type 0 where
+  pub made : (c : ℕ) (b s : Bits) → op c b ≡ done s → rule c b s
+  pub why : (c : ℕ) (b : Bits) (e : _) → op c b ≡ refused e → no c b (numberOf e)
+
+-- a call that is never refused
+abbrev pub Never : ℕ → Bits → ℕ → Type 0
+Never c b k = ⊥
+
+-- 6, where the count n of the result is above the capacity
+abbrev pub Lacks : (Bits → ℕ) → ℕ → Bits → ℕ → Type 0
+Lacks n c b k = (k ≡ 6) × (c < n b)
+
+-- `set`: i is a member, every other number is as it was, and the words reach to i's
+pub record WithBit (i : ℕ) (b s : Bits) : Type 0 where
+  pub count : s .count ≡ max (b .count) (i / 64 + 1)
+  pub here : s .members i ≡ true
+  pub others : (j : ℕ) → (j ≡ i → ⊥) → s .members j ≡ b .members j
+
+-- `unset`: i is no member, every other number and the count are as they were
+pub record WithoutBit (i : ℕ) (b s : Bits) : Type 0 where
+  pub count : s .count ≡ b .count
+  pub here : s .members i ≡ false
+  pub others : (j : ℕ) → (j ≡ i → ⊥) → s .members j ≡ b .members j
+
+-- `trim`: the same members in the fewest words that hold them
+pub record Fewest (b s : Bits) : Type 0 where
+  pub same : (i : ℕ) → s .members i ≡ b .members i
+  pub count : LeastCount (b .members) (b .count) (s .count)
+
+-- `set_region`, of k > 0 numbers: those from i on, below i + k, and no others change; true grows to the last one's word
+pub record WithRegion (i : ℕ) (v : Bool) (k : ℕ) (b s : Bits) : Type 0 where
+  pub inside : (j : ℕ) → i ≤ j → j < i + k → s .members j ≡ v
+  pub before : (j : ℕ) → j < i → s .members j ≡ b .members j
+  pub after : (j : ℕ) → i + k ≤ j → s .members j ≡ b .members j
+  pub grown : (last : ℕ) → suc last ≡ i + k → v ≡ true → s .count ≡ max (b .count) (last / 64 + 1)
+  pub kept : v ≡ false → s .count ≡ b .count
+
+-- a set operation with a second bitmap, in the fewest words that hold the result
+pub record Combines (f : Bool → Bool → Bool) (o b s : Bits) : Type 0 where
+  pub each : (i : ℕ) → s .members i ≡ f (b .members i) (o .members i)
+  pub count : LeastCount (s .members) (max (b .count) (o .count)) (s .count)
+
+-- `or`: the members of either, in as many words as the longer
+pub record Unites (o b s : Bits) : Type 0 where
+  pub first : (i : ℕ) → b .members i ≡ true → s .members i ≡ true
+  pub second : (i : ℕ) → o .members i ≡ true → s .members i ≡ true
+  pub only : (i : ℕ) → s .members i ≡ true → (b .members i ≡ true) ⊎ (o .members i ≡ true)
+  pub count : s .count ≡ max (b .count) (o .count)
+
+-- where word k is the last and holds no member, the same members in the fewest words; otherwise nothing changes
+pub record Tidied (k : ℕ) (t s : Bits) : Type 0 where
+  pub same : (j : ℕ) → s .members j ≡ t .members j
+  pub trims : suc k ≡ t .count → ((j : ℕ) → j / 64 ≡ k → t .members j ≡ false) → LeastCount (t .members) (t .count) (s .count)
+  pub not-last : (suc k ≡ t .count → ⊥) → s .count ≡ t .count
+  pub not-empty : (j : ℕ) → j / 64 ≡ k → t .members j ≡ true → s .count ≡ t .count
+
+-- `andi`, `andnoti`, `xori`: t is the set before any word is dropped, i's word is the one worked on
+pub record OnlyBit (i : ℕ) (b t : Bits) : Type 0 where
+  pub count : t .count ≡ b .count
+  pub here : t .members i ≡ b .members i
+  pub word : (j : ℕ) → j / 64 ≡ i / 64 → (j ≡ i → ⊥) → t .members j ≡ false
+  pub others : (j : ℕ) → (j / 64 ≡ i / 64 → ⊥) → t .members j ≡ b .members j
+
+pub record FlippedBit (i : ℕ) (b t : Bits) : Type 0 where
+  pub count : t .count ≡ max (b .count) (i / 64 + 1)
+  pub here : t .members i ≡ not (b .members i)
+  pub others : (j : ℕ) → (j ≡ i → ⊥) → t .members j ≡ b .members j
+
+-- the rule of t, and then tidied at i's word
+abbrev pub ThenTidied : ℕ → (Bits → Bits → Type 0) → Bits → Bits → Type 0
+ThenTidied i rule b s = (t : Bits) × rule b t × Tidied (i / 64) t s

@@ -1,0 +1,309 @@
+// Calls that grow and trim a bitmap, and set operations between bitmaps.
+use storage::Bitmap;
+use storage::Change;
+use storage::Guard;
+use storage::Refusal;
+use word::Word;
+ghost use mathlib.Core.Bool.{_&&_, _||_};
+ghost use mathlib.Core.Path.{_≡_};
+ghost use Prim.Native.Nat.{_≤_, _<_};
+ghost use lib.ListN.{length};
+ghost use lib.Bits.{bitAnd, bitOr, bitXor};
+ghost use Rattle.word.specs.Sets.{xorb};
+ghost use Rattle.storage.specs.Stores.{andNot, beside, Changes, Makes};
+ghost use Rattle.bitmap.specs.Bitmaps.{trimming, setting, unsetting, settingRegion, combining, uniting, keepingBit, droppingBit, flippingBit, wordAndNot, Zipped, tidyCount};
+
+// Drops trailing zero words.
+pub fn trim(words: &[u64], b: Bitmap) -> Change
+    ensures { λ r. ⌜ Changes trimming (now (words .entry)) b r (now (words .entry)) ⌝ }
+{
+    let n = b.count;
+    match storage::check(words.len(), n) {
+        Guard::Stop(e) => return Change::Refused(e, b),
+        Guard::Pass => {}
+    }
+    Change::Done(Bitmap {
+        count: arch::nonzero_len(&words[..n]),
+    })
+}
+
+// Sets bit i; grows to its word.
+pub fn set(words: &mut [u64], b: Bitmap, i: usize) -> Change
+    ensures { λ r. ⌜ Changes (setting i) (now (words .entry)) b r (now (words .exit)) ⌝ }
+{
+    let n = b.count;
+    match storage::check(words.len(), n) {
+        Guard::Stop(e) => return Change::Refused(e, b),
+        Guard::Pass => {}
+    }
+    let k = i / 64;
+    if k >= words.len() {
+        return Change::Refused(Refusal::NoSpace, b);
+    }
+    storage::grow(words, n, k + 1);
+    words[k] = words[k] | Word::bit(i);
+    Change::Done(Bitmap {
+        count: word::max(n, k + 1),
+    })
+}
+
+// Clears bit i; never grows.
+pub fn unset(words: &mut [u64], b: Bitmap, i: usize) -> Change
+    ensures { λ r. ⌜ Changes (unsetting i) (now (words .entry)) b r (now (words .exit)) ⌝ }
+{
+    let n = b.count;
+    match storage::check(words.len(), n) {
+        Guard::Stop(e) => return Change::Refused(e, b),
+        Guard::Pass => {}
+    }
+    let k = i / 64;
+    if k >= n {
+        return Change::Done(b);
+    }
+    words[k] = words[k] & !Word::bit(i);
+    Change::Done(b)
+}
+
+// Both bits, for the words below e.
+fn and_words(words: &mut [u64], other: &[u64], e: usize)
+    requires { ⌜ (e ≤ length (now words)) × (e ≤ length (now other)) ⌝ }
+    ensures { λ r. ⌜ Zipped bitAnd (now (words .entry)) (now (other .entry)) e (now (words .exit)) ⌝ }
+{
+    let mut k = 0;
+    while k < e {
+        words[k] = words[k] & other[k];
+        k += 1;
+    }
+}
+
+// The members of both bitmaps, in place; drops trailing zero words.
+pub fn and(words: &mut [u64], b: Bitmap, other: &[u64], o: Bitmap) -> Change
+    ensures { λ r. ⌜ Changes (beside (now (other .entry)) (o .count) (combining _&&_)) (now (words .entry)) b r (now (words .exit)) ⌝ }
+{
+    let n = b.count;
+    let m = o.count;
+    match storage::check(words.len(), n) {
+        Guard::Stop(e) => return Change::Refused(e, b),
+        Guard::Pass => {}
+    }
+    match storage::check(other.len(), m) {
+        Guard::Stop(e) => return Change::Refused(e, b),
+        Guard::Pass => {}
+    }
+    let both = word::min(n, m);
+    and_words(words, other, both);
+    arch::fill_words(words, both, n, 0);
+    Change::Done(Bitmap {
+        count: arch::nonzero_len(&words[..n]),
+    })
+}
+
+// The first bit and not the second, for the words below e.
+fn andnot_words(words: &mut [u64], other: &[u64], e: usize)
+    requires { ⌜ (e ≤ length (now words)) × (e ≤ length (now other)) ⌝ }
+    ensures { λ r. ⌜ Zipped wordAndNot (now (words .entry)) (now (other .entry)) e (now (words .exit)) ⌝ }
+{
+    let mut k = 0;
+    while k < e {
+        words[k] = words[k] & !other[k];
+        k += 1;
+    }
+}
+
+// The members of the first bitmap that are not in the second, in place; drops trailing zero words.
+pub fn andnot(words: &mut [u64], b: Bitmap, other: &[u64], o: Bitmap) -> Change
+    ensures { λ r. ⌜ Changes (beside (now (other .entry)) (o .count) (combining andNot)) (now (words .entry)) b r (now (words .exit)) ⌝ }
+{
+    let n = b.count;
+    let m = o.count;
+    match storage::check(words.len(), n) {
+        Guard::Stop(e) => return Change::Refused(e, b),
+        Guard::Pass => {}
+    }
+    match storage::check(other.len(), m) {
+        Guard::Stop(e) => return Change::Refused(e, b),
+        Guard::Pass => {}
+    }
+    let both = word::min(n, m);
+    andnot_words(words, other, both);
+    Change::Done(Bitmap {
+        count: arch::nonzero_len(&words[..n]),
+    })
+}
+
+// Either bit, for the words below e.
+fn or_words(words: &mut [u64], other: &[u64], e: usize)
+    requires { ⌜ (e ≤ length (now words)) × (e ≤ length (now other)) ⌝ }
+    ensures { λ r. ⌜ Zipped bitOr (now (words .entry)) (now (other .entry)) e (now (words .exit)) ⌝ }
+{
+    let mut k = 0;
+    while k < e {
+        words[k] = words[k] | other[k];
+        k += 1;
+    }
+}
+
+// The members of either bitmap, in place; grows to the longer and drops nothing.
+pub fn or(words: &mut [u64], b: Bitmap, other: &[u64], o: Bitmap) -> Change
+    ensures { λ r. ⌜ Changes (beside (now (other .entry)) (o .count) uniting) (now (words .entry)) b r (now (words .exit)) ⌝ }
+{
+    let n = b.count;
+    let m = o.count;
+    match storage::check(words.len(), n) {
+        Guard::Stop(e) => return Change::Refused(e, b),
+        Guard::Pass => {}
+    }
+    match storage::check(other.len(), m) {
+        Guard::Stop(e) => return Change::Refused(e, b),
+        Guard::Pass => {}
+    }
+    if m > words.len() {
+        return Change::Refused(Refusal::NoSpace, b);
+    }
+    storage::grow(words, n, m);
+    or_words(words, other, m);
+    Change::Done(Bitmap {
+        count: word::max(n, m),
+    })
+}
+
+// One bit only, for the words below e.
+fn xor_words(words: &mut [u64], other: &[u64], e: usize)
+    requires { ⌜ (e ≤ length (now words)) × (e ≤ length (now other)) ⌝ }
+    ensures { λ r. ⌜ Zipped bitXor (now (words .entry)) (now (other .entry)) e (now (words .exit)) ⌝ }
+{
+    let mut k = 0;
+    while k < e {
+        words[k] = words[k] ^ other[k];
+        k += 1;
+    }
+}
+
+// The members of one bitmap only, in place; drops trailing zero words. Zero words at the other's end need no space.
+pub fn xor(words: &mut [u64], b: Bitmap, other: &[u64], o: Bitmap) -> Change
+    ensures { λ r. ⌜ Changes (beside (now (other .entry)) (o .count) (combining xorb)) (now (words .entry)) b r (now (words .exit)) ⌝ }
+{
+    let n = b.count;
+    let m = o.count;
+    match storage::check(words.len(), n) {
+        Guard::Stop(e) => return Change::Refused(e, b),
+        Guard::Pass => {}
+    }
+    match storage::check(other.len(), m) {
+        Guard::Stop(e) => return Change::Refused(e, b),
+        Guard::Pass => {}
+    }
+    let last = arch::nonzero_len(&other[..m]);
+    if last > words.len() {
+        return Change::Refused(Refusal::NoSpace, b);
+    }
+    storage::grow(words, n, last);
+    xor_words(words, other, last);
+    let used = word::max(n, last);
+    Change::Done(Bitmap {
+        count: arch::nonzero_len(&words[..used]),
+    })
+}
+
+// The k bits from i on become `value`: true grows to the last one's word, false clears what is there. k 0 does nothing.
+pub fn set_region(words: &mut [u64], b: Bitmap, i: usize, value: bool, k: usize) -> Change
+    ensures { λ r. ⌜ Changes (settingRegion i value k) (now (words .entry)) b r (now (words .exit)) ⌝ }
+{
+    let n = b.count;
+    match storage::check(words.len(), n) {
+        Guard::Stop(e) => return Change::Refused(e, b),
+        Guard::Pass => {}
+    }
+    if k == 0 {
+        return Change::Done(b);
+    }
+    if k - 1 > usize::MAX - i {
+        return Change::Refused(Refusal::IndexOver, b);
+    }
+    let last = i + (k - 1);
+    if !value {
+        arch::fill_region(&mut words[..n], i, word::min(last, 64 * n) + 1, false);
+        return Change::Done(b);
+    }
+    let w = last / 64;
+    if w >= words.len() {
+        return Change::Refused(Refusal::NoSpace, b);
+    }
+    storage::grow(words, n, w + 1);
+    arch::fill_region(words, i, last + 1, true);
+    Change::Done(Bitmap {
+        count: word::max(n, w + 1),
+    })
+}
+
+// The count when word k was worked on: trailing zero words go where it is the last and is zero.
+fn tidy(words: &[u64], n: usize, k: usize) -> usize
+    requires { ⌜ (k < n) × (n ≤ length (now words)) ⌝ }
+    ensures { λ r. ⌜ r ≡ tidyCount (now (words .entry)) n k ⌝ }
+{
+    if k + 1 < n {
+        return n;
+    }
+    if words[k] != 0 {
+        return n;
+    }
+    arch::nonzero_len(&words[..n])
+}
+
+// Of word i / 64 only bit i stays; never grows.
+pub fn andi(words: &mut [u64], b: Bitmap, i: usize) -> Change
+    ensures { λ r. ⌜ Changes (keepingBit i) (now (words .entry)) b r (now (words .exit)) ⌝ }
+{
+    let n = b.count;
+    match storage::check(words.len(), n) {
+        Guard::Stop(e) => return Change::Refused(e, b),
+        Guard::Pass => {}
+    }
+    let k = i / 64;
+    if k >= n {
+        return Change::Done(b);
+    }
+    words[k] = words[k] & Word::bit(i);
+    Change::Done(Bitmap {
+        count: tidy(words, n, k),
+    })
+}
+
+// Clears bit i; never grows.
+pub fn andnoti(words: &mut [u64], b: Bitmap, i: usize) -> Change
+    ensures { λ r. ⌜ Changes (droppingBit i) (now (words .entry)) b r (now (words .exit)) ⌝ }
+{
+    let n = b.count;
+    match storage::check(words.len(), n) {
+        Guard::Stop(e) => return Change::Refused(e, b),
+        Guard::Pass => {}
+    }
+    let k = i / 64;
+    if k >= n {
+        return Change::Done(b);
+    }
+    words[k] = words[k] & !Word::bit(i);
+    Change::Done(Bitmap {
+        count: tidy(words, n, k),
+    })
+}
+
+// Flips bit i; grows to its word.
+pub fn xori(words: &mut [u64], b: Bitmap, i: usize) -> Change
+    ensures { λ r. ⌜ Changes (flippingBit i) (now (words .entry)) b r (now (words .exit)) ⌝ }
+{
+    let n = b.count;
+    match storage::check(words.len(), n) {
+        Guard::Stop(e) => return Change::Refused(e, b),
+        Guard::Pass => {}
+    }
+    let k = i / 64;
+    if k >= words.len() {
+        return Change::Refused(Refusal::NoSpace, b);
+    }
+    storage::grow(words, n, k + 1);
+    words[k] = words[k] ^ Word::bit(i);
+    Change::Done(Bitmap {
+        count: tidy(words, word::max(n, k + 1), k),
+    })
+}
