@@ -2,40 +2,20 @@
 use mathlib.Core.Path.{_≡_, refl, sym, ap, ap₂, _∙_, subst}
 use mathlib.Core.Bool.{Bool, true, false, not, _&&_, _||_}
 use mathlib.Core.List.{List}
-use Prim.Native.Nat.{ℕ, _+_, _-_, _*_, _^_, _<_}
+use Prim.Native.Nat.{ℕ, _+_, _*_, _^_, _<_}
 use native.Mathlib.Omega.{arith}
 use lib.ListN.{getD}
-use lib.Pow.{ones-sub-lt}
-use lib.Bits.{bitAnd, bitOr, bitXor, and-lt, or-lt, xor-lt, xor-zero-r}
+use lib.Bits.{bitAnd, bitXor, and-lt, xor-lt, xor-zero-r}
 use borrow.Author.Tests.{lt-ltb}
 use Rattle.word.specs.Sets.{xorb}
 use Rattle.word.specs.Bits.{bit}
 use Rattle.word.specs.Words.{allOnes}
-use Rattle.word.proofs.Cases.{or-false, and-false, and-keep}
-use Rattle.word.proofs.Bits.{bit-and, bit-or, bit-xor, bit-not, bit-ones}
+use Rattle.word.proofs.Cases.{or-false, xor-false, and-false, and-keep}
+use Rattle.word.proofs.Bits.{bit-and, bit-xor, bit-ones}
 use Rattle.word.proofs.Lists.{member-at}
 use Rattle.storage.specs.Stores.{Bits, combined, andNot}
+use Rattle.storage.proofs.Operations.{WordOp}
 use Rattle.algebra.specs.Kernels.{made}
-
--- an operation on words whose truth table, place by place, is f
-pub record WordOp (f : Bool → Bool → Bool) (op : ℕ → ℕ → ℕ) : Type 0 where
-  pub bits : (x y j : ℕ) → y < 2 ^ 64 → j < 64 → bit (op x y) j ≡ f (bit x j) (bit y j)
-  pub fits : (x y : ℕ) → x < 2 ^ 64 → y < 2 ^ 64 → op x y < 2 ^ 64
-
-pub word-and : WordOp (λ p q. p && q) bitAnd
-word-and = record { bits = λ x y j h l. bit-and x y j; fits = and-lt 64 }
-
-pub word-or : WordOp (λ p q. p || q) bitOr
-word-or = record { bits = λ x y j h l. bit-or x y j; fits = or-lt 64 }
-
-pub word-xor : WordOp xorb bitXor
-word-xor = record { bits = λ x y j h l. bit-xor x y j; fits = xor-lt 64 }
-
-pub word-andnot : WordOp andNot (λ x y. bitAnd x ((2 ^ 64 - 1) - y))
-word-andnot = record {
-  bits = λ x y j h l. bit-and x ((2 ^ 64 - 1) - y) j ∙ ap (λ (t : Bool). bit x j && t) (bit-not y 64 j h l);
-  fits = λ x y p q. and-lt 64 x ((2 ^ 64 - 1) - y) p (ones-sub-lt 64 y);
-}
 
 -- `x & (y ^ z)` at the two masks that are used
 pub met-and : WordOp (λ p q. p && q) (λ x y. bitAnd x (bitXor y 0))
@@ -87,12 +67,8 @@ keeps-and = record { first = λ p. and-false p; second = λ q. refl }
 pub keeps-or : Keeps (λ p q. p || q) true true
 keeps-or = record { first = λ p. or-false p; second = λ q. refl }
 
-xor-none : (p : Bool) → xorb p false ≡ p
-xor-none true = refl
-xor-none false = refl
-
 pub keeps-xor : Keeps xorb true true
-keeps-xor = record { first = xor-none; second = λ q. refl }
+keeps-xor = record { first = xor-false; second = λ q. refl }
 
 pub keeps-andnot : Keeps andNot true false
 keeps-andnot = record { first = λ p. and-keep p; second = λ q. refl }

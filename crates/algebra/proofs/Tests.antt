@@ -1,14 +1,13 @@
--- Two lists of words tested: eight words at once, word by word, and the words that only the first has. Assumes nothing.
+-- Two lists of words tested: word by word, and the words that only the first has. Assumes nothing.
 use mathlib.Core.Path.{_≡_, refl, sym, ap, _∙_, subst}
 use mathlib.Core.Bool.{Bool, true, false, not, _&&_}
 use mathlib.Core.List.{List}
-use Prim.Native.Nat.{ℕ, zero, suc, _+_, _-_, _*_, _/_, _%_, _^_, _≤_, _<_, min, max}
-use native.Mathlib.Nat.{add-zero}
+use Prim.Native.Nat.{ℕ, zero, _+_, _-_, _*_, _/_, _%_, _^_, _≤_, _<_, min, max}
 use native.Mathlib.Omega.{arith}
 use lib.ListN.{length, take, drop}
 use lib.Seq.{getD-drop}
 use lib.Dec.{eqb}
-use lib.Bits.{bitAnd, bitOr, bitXor, and-le-l, and-le-r, or-add-and}
+use lib.Bits.{bitAnd, bitXor}
 use borrow.Author.Tests.{eq-eqb, ne-eqb, eqb-true, not-false, not-true, eqb-false}
 use Rattle.word.specs.Sets.{countBelow, leastFrom, Least}
 use Rattle.word.specs.Bits.{bit, member}
@@ -22,7 +21,8 @@ use Rattle.arch.specs.Scans.{isZero}
 use Rattle.arch.proofs.Promises.{zero-is-empty}
 use Rattle.storage.specs.Stores.{size, combined, andNot}
 use Rattle.algebra.specs.Kernels.{made, metAt, Apart, firstMet}
-use Rattle.algebra.proofs.Tables.{WordOp, Holds, holds, met-and, met-andnot}
+use Rattle.storage.proofs.Operations.{WordOp}
+use Rattle.algebra.proofs.Tables.{Holds, holds, met-and, met-andnot}
 use Rattle.algebra.proofs.Counts.{part-drop, member-drop}
 
 -- ---- stretches of words with nothing met
@@ -35,39 +35,6 @@ apart-join {x} {xs} {ys} {a} {m} s t = record { at = λ k p q. by-lt k m (λ l. 
 
 pub apart-one : (x : ℕ) (xs ys : List ℕ) (k : ℕ) → metAt x xs ys k ≡ 0 → Apart x xs ys k (k + 1)
 apart-one x xs ys k e = record { at = λ j p q. ap (metAt x xs ys) (omega arith) ∙ e }
-
--- ---- eight words at once
-
-or-none : (a b : ℕ) → bitOr a b ≡ 0 → (a ≡ 0) × (b ≡ 0)
-or-none a b e =
-    let s : bitOr a b + bitAnd a b ≡ a + b = or-add-and a b in
-    (omega (arith, and-le-l a b, and-le-r a b), omega (arith, and-le-l a b, and-le-r a b))
-
-each : (f : ℕ → ℕ) → f 0 ≡ 0 → f 1 ≡ 0 → f 2 ≡ 0 → f 3 ≡ 0 → f 4 ≡ 0 → f 5 ≡ 0 → f 6 ≡ 0 → f 7 ≡ 0 → (j : ℕ) → j < 8 → f j ≡ 0
-each f e₀ e₁ e₂ e₃ e₄ e₅ e₆ e₇ zero l = e₀
-each f e₀ e₁ e₂ e₃ e₄ e₅ e₆ e₇ (suc zero) l = e₁
-each f e₀ e₁ e₂ e₃ e₄ e₅ e₆ e₇ (suc (suc zero)) l = e₂
-each f e₀ e₁ e₂ e₃ e₄ e₅ e₆ e₇ (suc (suc (suc zero))) l = e₃
-each f e₀ e₁ e₂ e₃ e₄ e₅ e₆ e₇ (suc (suc (suc (suc zero)))) l = e₄
-each f e₀ e₁ e₂ e₃ e₄ e₅ e₆ e₇ (suc (suc (suc (suc (suc zero))))) l = e₅
-each f e₀ e₁ e₂ e₃ e₄ e₅ e₆ e₇ (suc (suc (suc (suc (suc (suc zero)))))) l = e₆
-each f e₀ e₁ e₂ e₃ e₄ e₅ e₆ e₇ (suc (suc (suc (suc (suc (suc (suc zero))))))) l = e₇
-each f e₀ e₁ e₂ e₃ e₄ e₅ e₆ e₇ (suc (suc (suc (suc (suc (suc (suc (suc j)))))))) l = absurd (omega arith)
-
--- eight numbers joined are 0 only where each is
-pub eight-none : (f : ℕ → ℕ) (i : ℕ)
-    → bitOr (bitOr (bitOr (bitOr (bitOr (bitOr (bitOr (f i) (f (i + 1))) (f (i + 2))) (f (i + 3))) (f (i + 4))) (f (i + 5))) (f (i + 6))) (f (i + 7)) ≡ 0
-    → (k : ℕ) → i ≤ k → k < i + 8 → f k ≡ 0
-eight-none f i e k p q =
-    let e₇ = or-none _ _ e in
-    let e₆ = or-none _ _ (e₇ .0) in
-    let e₅ = or-none _ _ (e₆ .0) in
-    let e₄ = or-none _ _ (e₅ .0) in
-    let e₃ = or-none _ _ (e₄ .0) in
-    let e₂ = or-none _ _ (e₃ .0) in
-    let e₁ = or-none _ _ (e₂ .0) in
-    ap f (omega arith)
-    ∙ each (λ j. f (i + j)) (ap f (add-zero i) ∙ e₁ .0) (e₁ .1) (e₂ .1) (e₃ .1) (e₄ .1) (e₅ .1) (e₆ .1) (e₇ .1) (k - i) (omega arith)
 
 -- ---- the first word met
 

@@ -7,47 +7,26 @@ use Prim.Native.Nat.{ℕ, suc, _+_, _-_, _*_, _/_, _%_, _^_, _≤_, _<_, min, ma
 use native.Mathlib.Omega.{arith}
 use lib.ListN.{length, getD, take}
 use lib.Seq.{length-take-le, getD-take}
-use lib.Bits.{bitAnd, bitOr, bitXor, and-lt, or-lt, xor-lt, xor-zero-l}
-use lib.Pow.{ones-sub-lt}
+use lib.Bits.{bitAnd, bitOr, bitXor, xor-zero-l}
 use Rattle.word.specs.Sets.{xorb}
 use Rattle.word.specs.Bits.{bit}
 use Rattle.word.proofs.Cases.{by-lt, and-false, and-keep, or-false}
-use Rattle.word.proofs.Bits.{bit-zero, bit-and, bit-or, bit-xor, bit-not}
+use Rattle.word.proofs.Bits.{bit-zero}
 use Rattle.word.proofs.Lists.{Fit, past, at-place}
 use Rattle.word.proofs.Sweep.{Swept}
 use Rattle.arch.specs.Scans.{filledWords, nonzeroLen}
 use Rattle.arch.proofs.Scans.{nonzero-le}
 use Rattle.arch.proofs.Regions.{length-filled-words, filled-in, filled-below, filled-above}
-use Rattle.storage.specs.Stores.{Bits, Outcome, refused, done, Op, view, beside, within, trimmedCount, trimmed, combined, andNot, zeroed, Changes}
+use Rattle.storage.specs.Stores.{Bits, view, beside, trimmedCount, trimmed, combined, andNot, zeroed, Changes}
 use Rattle.storage.specs.declared.Bitmap.{Bitmap}
 use Rattle.storage.specs.declared.Refusal.the-variants.{NoSpace}
 use Rattle.storage.specs.declared.Change.the-variants.{Done, Refused}
+use Rattle.storage.proofs.Operations.{WordOp, word-and, word-or, word-xor, word-andnot}
 use Rattle.storage.proofs.Checks.{Passed, beside-ok, within-ok, within-no}
 use Rattle.storage.proofs.Views.{view-count, view-in, view-out}
-use Rattle.storage.proofs.Stores.{Stored, changes-done, changes-refused, length-zeroed, zeroed-in, zeroed-out, zeroed-fit, grown-bit}
+use Rattle.storage.proofs.Stores.{changes-done, changes-refused, length-zeroed, zeroed-in, zeroed-out, zeroed-fit, grown-bit}
 use Rattle.storage.proofs.Trims.{trimmed-holds, trimmed-least, trimmed-view, trimmed-length, trimmed-stored, front-none, front-last, front-zero}
 use Rattle.bitmap.specs.Bitmaps.{combining, uniting, wordAndNot, Zipped}
-
--- ---- an operation on words that is f on each bit
-
-pub record Bitwise (f : Bool → Bool → Bool) (op : ℕ → ℕ → ℕ) : Type 0 where
-  pub at : (x y j : ℕ) → x < 2 ^ 64 → y < 2 ^ 64 → j < 64 → bit (op x y) j ≡ f (bit x j) (bit y j)
-  pub fits : (x y : ℕ) → x < 2 ^ 64 → y < 2 ^ 64 → op x y < 2 ^ 64
-
-pub by-and : Bitwise _&&_ bitAnd
-by-and = record { at = λ x y j hx hy l. bit-and x y j; fits = λ x y hx hy. and-lt 64 x y hx hy }
-
-pub by-or : Bitwise _||_ bitOr
-by-or = record { at = λ x y j hx hy l. bit-or x y j; fits = λ x y hx hy. or-lt 64 x y hx hy }
-
-pub by-xor : Bitwise xorb bitXor
-by-xor = record { at = λ x y j hx hy l. bit-xor x y j; fits = λ x y hx hy. xor-lt 64 x y hx hy }
-
-pub by-andnot : Bitwise andNot wordAndNot
-by-andnot = record {
-  at = λ x y j hx hy l. bit-and x ((2 ^ 64 - 1) - y) j ∙ ap (λ (t : Bool). bit x j && t) (bit-not y 64 j hy l);
-  fits = λ x y hx hy. and-lt 64 x ((2 ^ 64 - 1) - y) hx (ones-sub-lt 64 y);
-}
 
 -- ---- the call with a second bitmap, done: the store afterwards holds the combined set in its first u words
 
@@ -92,10 +71,10 @@ zipped op ws os e k ws' s p q = record {
   above = λ i l. s .above i (omega arith);
 }
 
-module _ {f : Bool → Bool → Bool} {op : ℕ → ℕ → ℕ} (w : Bitwise f op) (z os : List ℕ) (fz : Fit z) (fo : Fit os) where
+module _ {f : Bool → Bool → Bool} {op : ℕ → ℕ → ℕ} (w : WordOp f op) (z os : List ℕ) (fz : Fit z) (fo : Fit os) where
   pub op-bit : (e : ℕ) (ws' : List ℕ) → Zipped op z os e ws'
       → (k j : ℕ) → k < e → j < 64 → bit (getD ws' k 0) j ≡ f (bit (getD z k 0) j) (bit (getD os k 0) j)
-  op-bit e ws' s k j l h = ap (λ (x : ℕ). bit x j) (s .below k l) ∙ w .at (getD z k 0) (getD os k 0) j (fz k) (fo k) h
+  op-bit e ws' s k j l h = ap (λ (x : ℕ). bit x j) (s .below k l) ∙ w .bits (getD z k 0) (getD os k 0) j (fo k) h
 
   pub op-fit : (e : ℕ) (ws' : List ℕ) → Zipped op z os e ws' → Fit ws'
   op-fit e ws' s k =
@@ -124,7 +103,7 @@ module _ (ws os : List ℕ) (b : Bitmap) (m : ℕ) (p : Passed (length ws) (b .c
       → ws' ≡ filledWords e (b .count) 0 w1 → r ≡ nonzeroLen (take (b .count) ws')
       → Changes (beside os m (combining _&&_)) ws b (Done (record { count = r })) ws'
   and-changes e r w1 ws' ee s ew er =
-      combine-changes _&&_ ws os ws' b m p q (b .count) r (subst Fit (sym ew) (filled-fit e (b .count) w1 (op-fit by-and ws os fw fo e w1 s)))
+      combine-changes _&&_ ws os ws' b m p q (b .count) r (subst Fit (sym ew) (filled-fit e (b .count) w1 (op-fit word-and ws os fw fo e w1 s)))
       (ap length ew ∙ length-filled-words e (b .count) 0 w1 ∙ s .long) (omega arith) (p .inside) (omega arith) bits
       (λ i h. ap (λ (t : Bool). t && view os m .members i) (view-out ws (b .count) i h)) er keep
     where
@@ -135,7 +114,7 @@ module _ (ws os : List ℕ) (b : Bitmap) (m : ℕ) (p : Passed (length ws) (b .c
       bits k j l h =
           by-lt k e
           (λ c.
-          ap (λ (x : ℕ). bit x j) (at k ∙ filled-below e (b .count) 0 w1 k c) ∙ op-bit by-and ws os fw fo e w1 s k j c h
+          ap (λ (x : ℕ). bit x j) (at k ∙ filled-below e (b .count) 0 w1 k c) ∙ op-bit word-and ws os fw fo e w1 s k j c h
           ∙ ap₂ (λ (x y : Bool). x && y) (sym (view-in ws (b .count) k j l h)) (sym (view-in os m k j (omega arith) h)))
           (λ c.
           ap (λ (x : ℕ). bit x j) (at k ∙ filled-in e (b .count) 0 w1 k (omega (arith, s .long, p .inside)) c l) ∙ bit-zero j
@@ -148,14 +127,14 @@ module _ (ws os : List ℕ) (b : Bitmap) (m : ℕ) (p : Passed (length ws) (b .c
   pub andnot-changes : (e r : ℕ) (ws' : List ℕ) → e ≡ min (b .count) m → Zipped wordAndNot ws os e ws'
       → r ≡ nonzeroLen (take (b .count) ws') → Changes (beside os m (combining andNot)) ws b (Done (record { count = r })) ws'
   andnot-changes e r ws' ee s er =
-      combine-changes andNot ws os ws' b m p q (b .count) r (op-fit by-andnot ws os fw fo e ws' s) (s .long) (omega arith) (p .inside) (omega arith) bits
+      combine-changes andNot ws os ws' b m p q (b .count) r (op-fit word-andnot ws os fw fo e ws' s) (s .long) (omega arith) (p .inside) (omega arith) bits
       (λ i h. ap (λ (t : Bool). t && not (view os m .members i)) (view-out ws (b .count) i h)) er (λ k c d. s .above k (omega arith))
     where
       bits : (k j : ℕ) → k < b .count → j < 64 → bit (getD ws' k 0) j ≡ view ws (b .count) .members (64 * k + j) && not (view os m .members (64 * k + j))
       bits k j l h =
           by-lt k e
           (λ c.
-          op-bit by-andnot ws os fw fo e ws' s k j c h
+          op-bit word-andnot ws os fw fo e ws' s k j c h
           ∙ ap₂ (λ (x y : Bool). x && not y) (sym (view-in ws (b .count) k j l h)) (sym (view-in os m k j (omega arith) h)))
           (λ c.
           ap (λ (x : ℕ). bit x j) (s .above k c) ∙ sym (view-in ws (b .count) k j l h)
@@ -171,10 +150,10 @@ module _ (ws os : List ℕ) (b : Bitmap) (m : ℕ) (p : Passed (length ws) (b .c
       ∙ within-ok (length ws) (combined _||_ (view ws (b .count)) (view os m)) (omega (arith, view-count ws (b .count), view-count os m, p .inside)))
       (record {
         long = s .long ∙ ap length ez ∙ length-zeroed (b .count) m ws;
-        fits = λ k a. op-fit by-or z os fz fo m ws' s k;
+        fits = λ k a. op-fit word-or z os fz fo m ws' s k;
         used = λ k j a l.
             by-lt k m
-            (λ c. op-bit by-or z os fz fo m ws' s k j c l ∙ ap₂ (λ (x y : Bool). x || y) (grown k j (inr c) l) (sym (view-in os m k j c l)))
+            (λ c. op-bit word-or z os fz fo m ws' s k j c l ∙ ap₂ (λ (x y : Bool). x || y) (grown k j (inr c) l) (sym (view-in os m k j c l)))
             (λ c.
             ap (λ (x : ℕ). bit x j) (s .above k c) ∙ grown k j (inl (omega (arith, view-count ws (b .count), view-count os m))) l
             ∙ sym (ap (λ (y : Bool). view ws (b .count) .members (64 * k + j) || y) (out k j c l) ∙ or-false (view ws (b .count) .members (64 * k + j))));
@@ -216,7 +195,7 @@ module _ (ws os : List ℕ) (b : Bitmap) (m : ℕ) (p : Passed (length ws) (b .c
     pub xor-changes : (r : ℕ) (z ws' : List ℕ) → e ≤ length ws → z ≡ zeroed (b .count) e ws → Zipped bitXor z os e ws'
         → r ≡ nonzeroLen (take (max (b .count) e) ws') → Changes (beside os m (combining xorb)) ws b (Done (record { count = r })) ws'
     xor-changes r z ws' h ez s er =
-        combine-changes xorb ws os ws' b m p q (max (b .count) e) r (op-fit by-xor z os fz fo e ws' s) long (omega arith) (omega (arith, p .inside)) (omega (arith, e-le)) bits
+        combine-changes xorb ws os ws' b m p q (max (b .count) e) r (op-fit word-xor z os fz fo e ws' s) long (omega arith) (omega (arith, p .inside)) (omega (arith, e-le)) bits
         (λ i c. ap₂ xorb (view-out ws (b .count) i (omega arith)) (none-at i (omega arith))) er keep
       where
         n : ℕ
@@ -234,7 +213,7 @@ module _ (ws os : List ℕ) (b : Bitmap) (m : ℕ) (p : Passed (length ws) (b .c
         bits : (k j : ℕ) → k < max (b .count) e → j < 64 → bit (getD ws' k 0) j ≡ xorb (view ws (b .count) .members (64 * k + j)) (view os m .members (64 * k + j))
         bits k j a l =
             by-lt k e
-            (λ c. op-bit by-xor z os fz fo e ws' s k j c l ∙ ap₂ xorb (grown k j (inr c) l) (sym (view-in os m k j (omega (arith, e-le)) l)))
+            (λ c. op-bit word-xor z os fz fo e ws' s k j c l ∙ ap₂ xorb (grown k j (inr c) l) (sym (view-in os m k j (omega (arith, e-le)) l)))
             (λ c.
             ap (λ (x : ℕ). bit x j) (s .above k c) ∙ grown k j (inl (omega arith)) l
             ∙ sym (ap (xorb (view ws (b .count) .members (64 * k + j))) (none k j c l) ∙ xor-keep (view ws (b .count) .members (64 * k + j))))

@@ -8,13 +8,12 @@ use lib.Dec.{ltb, leb, eqb}
 use borrow.Author.Tests.{lt-ltb, le-ltb, le-leb, lt-leb, eq-eqb, ne-eqb}
 use Rattle.word.specs.Sets.{choose, xorb}
 use Rattle.word.specs.Bits.{wordOf}
-use Rattle.word.proofs.Cases.{by-lt, by-eq, or-false, and-false, and-keep}
+use Rattle.word.proofs.Cases.{by-lt, or-false, and-false, and-keep, xor-false}
 use Rattle.word.proofs.Lists.{word-none, word-zero}
 use Rattle.storage.specs.Refusals.{numberOf}
-use Rattle.storage.specs.Stores.{Bits, Outcome, refused, done, Op, within, trimmedCount, trimmed, combined}
+use Rattle.storage.specs.Stores.{Bits, refused, done, within, trimmedCount, trimmed, combined}
 use Rattle.storage.specs.Promises.{LeastCount}
 use Rattle.storage.specs.declared.Refusal.{Refusal}
-use Rattle.storage.specs.declared.Refusal.the-variants.{NoSpace, IndexOver}
 use Rattle.storage.proofs.Checks.{within-ok, within-no, within-done}
 use Rattle.storage.proofs.Promises.{least-count}
 use Rattle.bitmap.specs.Bitmaps.{trimming, setting, unsetting, settingRegion, combining, uniting, tidied, keepingBit, droppingBit, flippingBit}
@@ -197,10 +196,6 @@ drops-bit i = record {
   why = λ c b e q. never q;
 }
 
-xor-none : (t : Bool) → xorb t false ≡ t
-xor-none true = refl
-xor-none false = refl
-
 xor-one : (t : Bool) → xorb t true ≡ not t
 xor-one true = refl
 xor-one false = refl
@@ -215,7 +210,7 @@ flips-bit i = record {
     record {
       count = refl;
       here = ap (xorb (b .members i)) (eq-eqb i i refl) ∙ xor-one (b .members i);
-      others = λ j n. ap (xorb (b .members j)) (ne-eqb j i n) ∙ xor-none (b .members j);
+      others = λ j n. ap (xorb (b .members j)) (ne-eqb j i n) ∙ xor-false (b .members j);
     },
     subst (Tidied (i / 64) _) (within-done c _ s e .0) (tidies (i / 64) _),
   );

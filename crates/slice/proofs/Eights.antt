@@ -1,38 +1,15 @@
 -- Two lists compared by eights: the differences of eight words, joined, are 0 only where the words agree. Assumes nothing.
-use mathlib.Core.Path.{_≡_, refl, sym, ap, _∙_}
+use mathlib.Core.Path.{_≡_, refl, ap, _∙_}
 use mathlib.Core.Bool.{true, false, false≢true}
 use mathlib.Core.List.{List}
-use Prim.Native.Nat.{ℕ, zero, suc, _+_, _-_, _≤_, _<_}
+use Prim.Native.Nat.{ℕ, _+_, _≤_}
 use native.Mathlib.Omega.{arith}
 use lib.ListN.{length, getD}
 use lib.Seq.{ext-getD}
-use lib.Bits.{bitAnd, bitOr, bitXor, and-le-l, and-le-r, or-add-and, xor-add-and}
-use Rattle.word.proofs.Cases.{by-lt, by-eq}
+use lib.Bits.{bitOr, bitXor}
+use Rattle.word.proofs.Cases.{by-lt}
+use Rattle.word.proofs.Eights.{xor-none, eight-none}
 use Rattle.slice.specs.Kernels.{Agree, Tells}
-
-or-none : (a b : ℕ) → bitOr a b ≡ 0 → (a ≡ 0) × (b ≡ 0)
-or-none a b e =
-    let s : bitOr a b + bitAnd a b ≡ a + b = or-add-and a b in
-    (omega (arith, and-le-l a b, and-le-r a b), omega (arith, and-le-l a b, and-le-r a b))
-
-xor-none : (a b : ℕ) → bitXor a b ≡ 0 → a ≡ b
-xor-none a b e = omega (arith, xor-add-and a b, and-le-l a b, and-le-r a b)
-
--- x, d 1, .., d m, joined
-abbrev joined : ℕ → (ℕ → ℕ) → ℕ → ℕ
-joined x d zero = x
-joined x d (suc m) = bitOr (joined x d m) (d (suc m))
-
-joined-first : (x : ℕ) (d : ℕ → ℕ) (m : ℕ) → joined x d m ≡ 0 → x ≡ 0
-joined-first x d zero e = e
-joined-first x d (suc m) e = joined-first x d m (or-none (joined x d m) (d (suc m)) e .0)
-
-joined-none : (x : ℕ) (d : ℕ → ℕ) (m : ℕ) → joined x d m ≡ 0 → (j : ℕ) → 0 < j → j ≤ m → d j ≡ 0
-joined-none x d zero e j p l = absurd (omega arith)
-joined-none x d (suc m) e j p l =
-    by-eq j (suc m)
-    (λ q. ap d q ∙ or-none (joined x d m) (d (suc m)) e .1)
-    (λ q. joined-none x d m (or-none (joined x d m) (d (suc m)) e .0) j p (omega arith))
 
 module _ (xs ys : List ℕ) where
   pub differences-none : (i : ℕ)
@@ -51,18 +28,7 @@ module _ (xs ys : List ℕ) where
       (bitXor (getD xs (i + 7) 0) (getD ys (i + 7) 0))
       ≡ 0
       → Agree xs ys i (i + 8)
-  differences-none i e = record {
-    at = λ k a b.
-        by-eq k i
-        (λ q. xor-none (getD xs k 0) (getD ys k 0) (ap difference q ∙ joined-first (difference i) (λ j. difference (i + j)) 7 e))
-        (λ q.
-        let place : i + (k - i) ≡ k = omega arith in
-        xor-none (getD xs k 0) (getD ys k 0)
-        (ap difference (sym place) ∙ joined-none (difference i) (λ j. difference (i + j)) 7 e (k - i) (omega arith) (omega arith)));
-  }
-    where
-      difference : ℕ → ℕ
-      difference k = bitXor (getD xs k 0) (getD ys k 0)
+  differences-none i e = record { at = λ k a b. xor-none (getD xs k 0) (getD ys k 0) (eight-none (λ j. bitXor (getD xs j 0) (getD ys j 0)) i e k a b) }
 
   pub agree-none : (a e : ℕ) → e ≤ a → Agree xs ys a e
   agree-none a e h = record { at = λ k p q. absurd (omega arith) }

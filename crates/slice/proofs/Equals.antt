@@ -15,6 +15,7 @@ use Rattle.word.proofs.Cases.{by-lt, by-test}
 use Rattle.word.proofs.Sets.{count-none, count-more, top}
 use Rattle.word.proofs.Lists.{Fit, past, determined}
 use Rattle.arch.specs.Scans.{nonzeroLen}
+use Rattle.arch.proofs.Scans.{nonzero-le}
 use Rattle.storage.specs.Stores.{Bits, Bounded, view, size, combined, trimmedCount}
 use Rattle.storage.proofs.Views.{view-part, bounded-view}
 use Rattle.storage.proofs.Trims.{trimmed-holds, trimmed-least, trimmed-view}
@@ -60,21 +61,17 @@ module _ (b o : Bits) where
 
 -- ---- the front part of the words
 
-pub front-le : (ws : List ℕ) → nonzeroLen ws ≤ length ws
-unfolding nonzeroLen
-front-le ws = top (λ k. not (eqb (getD ws k 0) 0)) (length ws) .within
-
 pub front-is : (ws : List ℕ) (n : ℕ) → n ≡ nonzeroLen ws → take n ws ≡ frontPart ws
 unfolding frontPart
 front-is ws n e = ap (λ (m : ℕ). take m ws) e
 
 pub length-front : (ws : List ℕ) → length (frontPart ws) ≡ nonzeroLen ws
 unfolding frontPart
-length-front ws = length-take-le (nonzeroLen ws) ws (front-le ws)
+length-front ws = length-take-le (nonzeroLen ws) ws (nonzero-le ws)
 
 front-fit : (ws : List ℕ) → Fit ws → Fit (frontPart ws)
 unfolding frontPart
-front-fit ws f = fit-part ws (nonzeroLen ws) f (front-le ws)
+front-fit ws f = fit-part ws (nonzeroLen ws) f (nonzero-le ws)
 
 pub zero-past : (ws : List ℕ) (k : ℕ) → nonzeroLen ws ≤ k → getD ws k 0 ≡ 0
 unfolding nonzeroLen

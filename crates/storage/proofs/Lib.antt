@@ -1,3 +1,4 @@
+pub mod Operations
 pub mod Checks
 pub mod Views
 pub mod Stores

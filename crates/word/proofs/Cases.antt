@@ -1,12 +1,13 @@
 -- By cases on an order and on truth values. Assumes nothing.
 use mathlib.Core.Path.{_≡_, refl, sym, _∙_, subst}
-use mathlib.Core.Bool.{Bool, true, false, not, _&&_, _||_, false≢true}
+use mathlib.Core.Bool.{Bool, true, false, _&&_, _||_, false≢true}
 use Prim.Native.Nat.{ℕ, zero, suc, _≤_, _<_}
 use native.Mathlib.Decide.{decLt, ℕ-discrete}
 use native.Mathlib.Nat.{not-suc-le-zero}
 use native.Mathlib.Omega.{arith}
 use borrow.Author.Tests.{eq-eqb, ne-eqb}
 use lib.Dec.{T, eqb}
+use Rattle.word.specs.Sets.{xorb}
 
 pub by-lt {ℓ} : {A : Type ℓ} (a b : ℕ) → (a < b → A) → (b ≤ a → A) → A
 by-lt {A = A} a b f g = go (decLt a b)
@@ -34,6 +35,10 @@ eqb-same a b c d f g = by-eq a b (λ e. eq-eqb a b e ∙ sym (eq-eqb c d (f e)))
 pub or-false : (x : Bool) → x || false ≡ x
 or-false true = refl
 or-false false = refl
+
+pub xor-false : (x : Bool) → xorb x false ≡ x
+xor-false true = refl
+xor-false false = refl
 
 pub and-false : (x : Bool) → x && false ≡ false
 and-false true = refl

@@ -1,4 +1,5 @@
 pub mod Cases
+pub mod Eights
 pub mod Bits
 pub mod Sets
 pub mod Words

@@ -1,7 +1,8 @@
 use Prim.Native.Nat.{_-_, _≤_}
 use native.Mathlib.Omega.{arith}
 use borrow.Author.Needs.{needs}
-use Rattle.algebra.proofs.Tables.{holds, word-andnot}
+use Rattle.storage.proofs.Operations.{word-andnot}
+use Rattle.algebra.proofs.Tables.{holds}
 use Rattle.algebra.proofs.Counts.{Counted, counted-none, counted-next, counted-common}
 use Rattle.algebra.specs.Kernels.{made}
 use Rattle.storage.specs.Stores.{andNot}

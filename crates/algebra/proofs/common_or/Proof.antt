@@ -2,7 +2,8 @@ use mathlib.Core.Bool.{_||_}
 use Prim.Native.Nat.{_-_, _≤_}
 use native.Mathlib.Omega.{arith}
 use borrow.Author.Needs.{needs}
-use Rattle.algebra.proofs.Tables.{holds, word-or}
+use Rattle.storage.proofs.Operations.{word-or}
+use Rattle.algebra.proofs.Tables.{holds}
 use Rattle.algebra.proofs.Counts.{Counted, counted-none, counted-next, counted-common}
 use Rattle.algebra.specs.Kernels.{made}
 use Rattle.algebra.proofs.common_or.Statement.{statement}

@@ -1,5 +1,5 @@
 use borrow.Author.Needs.{needs}
-use Rattle.algebra.proofs.Tests.{eight-none}
+use Rattle.word.proofs.Eights.{eight-none}
 use Rattle.algebra.specs.Kernels.{metAt}
 use Rattle.algebra.proofs.met_in_eight.Statement.{statement}
 use Rattle.algebra.proofs.met_in_eight.Tie as tie

@@ -2,7 +2,8 @@ use mathlib.Core.Bool.{_&&_}
 use Prim.Native.Nat.{_+_, _-_, _/_, _^_, _<_, min}
 use native.Mathlib.Omega.{arith}
 use borrow.Author.Needs.{needs}
-use Rattle.algebra.proofs.Tables.{holds-is, word-and, keeps-and}
+use Rattle.storage.proofs.Operations.{word-and}
+use Rattle.algebra.proofs.Tables.{holds-is, keeps-and}
 use Rattle.algebra.proofs.Walks.{Ahead, ahead-start, ahead-next, ahead-none, least64, ends, walk-in, walk-found}
 use Rattle.algebra.specs.Kernels.{made}
 use Rattle.algebra.proofs.next_and.Statement.{statement}

@@ -2,7 +2,8 @@ use Prim.Native.Nat.{_+_, _-_, _/_, _^_, _<_}
 use native.Mathlib.Omega.{arith}
 use borrow.Author.Needs.{needs}
 use lib.ListN.{length}
-use Rattle.algebra.proofs.Tables.{holds-is, word-andnot, keeps-andnot}
+use Rattle.storage.proofs.Operations.{word-andnot}
+use Rattle.algebra.proofs.Tables.{holds-is, keeps-andnot}
 use Rattle.algebra.proofs.Walks.{Ahead, ahead-start, ahead-next, ahead-none, least64, ends, walk-in, walk-found}
 use Rattle.algebra.specs.Kernels.{made}
 use Rattle.storage.specs.Stores.{andNot}

@@ -2,7 +2,8 @@ use mathlib.Core.Bool.{_||_}
 use Prim.Native.Nat.{_+_, _-_, _/_, _^_, _<_, max}
 use native.Mathlib.Omega.{arith}
 use borrow.Author.Needs.{needs}
-use Rattle.algebra.proofs.Tables.{holds-is, word-or, keeps-or}
+use Rattle.storage.proofs.Operations.{word-or}
+use Rattle.algebra.proofs.Tables.{holds-is, keeps-or}
 use Rattle.algebra.proofs.Walks.{Ahead, ahead-start, ahead-next, ahead-none, least64, ends, walk-in, walk-found}
 use Rattle.algebra.specs.Kernels.{made}
 use Rattle.algebra.proofs.next_or.Statement.{statement}

@@ -1,7 +1,8 @@
 use Prim.Native.Nat.{_+_, _-_, _/_, _^_, _<_, max}
 use native.Mathlib.Omega.{arith}
 use borrow.Author.Needs.{needs}
-use Rattle.algebra.proofs.Tables.{holds-is, word-xor, keeps-xor}
+use Rattle.storage.proofs.Operations.{word-xor}
+use Rattle.algebra.proofs.Tables.{holds-is, keeps-xor}
 use Rattle.algebra.proofs.Walks.{Ahead, ahead-start, ahead-next, ahead-none, least64, ends, walk-in, walk-found}
 use Rattle.algebra.specs.Kernels.{made}
 use Rattle.word.specs.Sets.{xorb}

@@ -1,8 +1,8 @@
 use mathlib.Core.Path.{sym, ap, _∙_}
 use borrow.Author.Needs.{needs}
 use lib.Seq.{length-take-le}
-use Rattle.storage.proofs.Checks.{passed}
-use Rattle.slice.proofs.Answers.{reading-stopped, reading-is}
+use Rattle.storage.proofs.Checks.{passed, reading-stopped}
+use Rattle.slice.proofs.Answers.{reading-is}
 use Rattle.slice.proofs.Scans.{count-is}
 use Rattle.storage.specs.declared.Number.{Number}
 use Rattle.slice.proofs.count_set_bits.Statement.{statement}
@@ -15,7 +15,7 @@ enum-known-e : tie.Need-enum-known-e
 enum-known-e c = search needs
 
 returns : tie.Need-returns
-returns c = reading-stopped _ _ _ _ _ (sym (c .before .e .given .1) ∙ c .before .before .before .check .ensures)
+returns c = sym (reading-stopped _ _ _ _ _ (sym (c .before .e .given .1) ∙ c .before .before .before .check .ensures))
 
 enum-told : tie.Need-enum-told
 enum-told c = search needs

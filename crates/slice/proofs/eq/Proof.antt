@@ -2,8 +2,8 @@ use mathlib.Core.Path.{sym, ap, _∙_}
 use native.Mathlib.Omega.{arith}
 use borrow.Author.Needs.{needs}
 use lib.Seq.{length-take-le}
-use Rattle.storage.proofs.Checks.{passed}
-use Rattle.slice.proofs.Answers.{reading-stopped, reading-is}
+use Rattle.storage.proofs.Checks.{passed, reading-stopped}
+use Rattle.slice.proofs.Answers.{reading-is}
 use Rattle.storage.specs.declared.Truth.{Truth}
 use Rattle.slice.proofs.Equals.{equal-is}
 use Rattle.slice.proofs.eq.Statement.{statement}
@@ -16,7 +16,7 @@ enum-known-e : tie.Need-enum-known-e
 enum-known-e c = search needs
 
 returns : tie.Need-returns
-returns c = reading-stopped _ _ _ _ _ (sym (c .before .e .given .1) ∙ c .before .before .before .check .ensures)
+returns c = sym (reading-stopped _ _ _ _ _ (sym (c .before .e .given .1) ∙ c .before .before .before .check .ensures))
 
 enum-told : tie.Need-enum-told
 enum-told c = search needs
@@ -28,7 +28,7 @@ enum-known-e-2 : tie.Need-enum-known-e-2
 enum-known-e-2 c = search needs
 
 returns-2 : tie.Need-returns-2
-returns-2 c = reading-is _ _ _ _ _ (passed _ _ (sym (c .before .before .before .before .enum-told .given .1) ∙ c .before .before .before .before .before .before .check .ensures)) (reading-stopped _ _ _ _ _ (sym (c .before .e2 .given .1) ∙ c .before .before .before .check2 .ensures))
+returns-2 c = reading-is _ _ _ _ _ (passed _ _ (sym (c .before .before .before .before .enum-told .given .1) ∙ c .before .before .before .before .before .before .check .ensures)) (sym (reading-stopped _ _ _ _ _ (sym (c .before .e2 .given .1) ∙ c .before .before .before .check2 .ensures)))
 
 enum-told-2 : tie.Need-enum-told-2
 enum-told-2 c = search needs

@@ -1,8 +1,8 @@
 use mathlib.Core.Path.{sym, _∙_}
 use native.Mathlib.Omega.{arith}
 use borrow.Author.Needs.{needs}
-use Rattle.storage.proofs.Checks.{passed}
-use Rattle.slice.proofs.Answers.{reading-stopped, reading-is}
+use Rattle.storage.proofs.Checks.{passed, reading-stopped}
+use Rattle.slice.proofs.Answers.{reading-is}
 use Rattle.slice.proofs.Scans.{zeros-le, other-found, none-found, set-here, set-after, set-none, set-past}
 use Rattle.slice.proofs.next_set.Statement.{statement}
 use Rattle.slice.proofs.next_set.Tie as tie
@@ -14,7 +14,7 @@ enum-known-e : tie.Need-enum-known-e
 enum-known-e c = search needs
 
 returns : tie.Need-returns
-returns c = reading-stopped _ _ _ _ _ (sym (c .before .e .given .1) ∙ c .before .before .before .check .ensures)
+returns c = sym (reading-stopped _ _ _ _ _ (sym (c .before .e .given .1) ∙ c .before .before .before .check .ensures))
 
 enum-told : tie.Need-enum-told
 enum-told c = search needs
