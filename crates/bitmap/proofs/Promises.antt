@@ -1,14 +1,16 @@
 -- The promises of specs/Promises. Assumes nothing.
 use mathlib.Core.Path.{_≡_, refl, sym, ap, ap₂, _∙_, subst}
 use mathlib.Core.Bool.{Bool, true, false, not, _&&_, _||_, false≢true}
+use mathlib.Core.List.{List}
 use mathlib.Core.Logic.{_⊎_, inl, inr}
 use Prim.Native.Nat.{ℕ, suc, _+_, _-_, _*_, _/_, _%_, _^_, _≤_, _<_, max}
 use native.Mathlib.Omega.{arith}
+use lib.ListN.{length, getD}
 use lib.Dec.{ltb, leb, eqb}
 use borrow.Author.Tests.{lt-ltb, le-ltb, le-leb, lt-leb, eq-eqb, ne-eqb}
 use Rattle.word.specs.Sets.{choose, xorb}
 use Rattle.word.specs.Bits.{wordOf}
-use Rattle.word.proofs.Cases.{by-lt, or-false, and-false, and-keep, xor-false}
+use Rattle.word.proofs.Cases.{by-lt, by-test, or-false, and-false, and-keep, xor-false}
 use Rattle.word.proofs.Lists.{word-none, word-zero}
 use Rattle.storage.specs.Refusals.{numberOf}
 use Rattle.storage.specs.Stores.{Bits, refused, done, within, trimmedCount, trimmed, combined}
@@ -16,8 +18,9 @@ use Rattle.storage.specs.Promises.{LeastCount}
 use Rattle.storage.specs.declared.Refusal.{Refusal}
 use Rattle.storage.proofs.Checks.{within-ok, within-no, within-done}
 use Rattle.storage.proofs.Promises.{least-count}
-use Rattle.bitmap.specs.Bitmaps.{trimming, setting, unsetting, settingRegion, combining, uniting, tidied, keepingBit, droppingBit, flippingBit}
-use Rattle.bitmap.specs.Promises.{Meets, Never, Lacks, WithBit, WithoutBit, Fewest, WithRegion, Combines, Unites, Tidied, OnlyBit, FlippedBit, ThenTidied}
+use Rattle.bitmap.specs.Bitmaps.{trimming, setting, unsetting, listed, reachOf, settingMany, settingRegion, combining, uniting, tidied, keepingBit, droppingBit, flippingBit}
+use Rattle.bitmap.specs.Promises.{Meets, Never, Lacks, WithBit, WithListed, LacksListed, WithoutBit, Fewest, WithRegion, Combines, Unites, Tidied, OnlyBit, FlippedBit, ThenTidied}
+use Rattle.bitmap.proofs.Many.{or-true, reach-in, reach-who, reach-under, listed-at, listed-who}
 use Rattle.bitmap.proofs.Regions.{region-none, region-over, region-put}
 
 same : {b s : Bits} → done b ≡ done s → b ≡ s
@@ -36,10 +39,6 @@ lacks c b e q =
     (λ h. (ap numberOf (which (sym q ∙ within-no c b h)), h))
     (λ h. absurd (never (sym (within-ok c b h) ∙ q)))
 
-or-true : (t : Bool) → t || true ≡ true
-or-true true = refl
-or-true false = refl
-
 pub sets : (i : ℕ) → Meets (setting i) (λ c b s. WithBit i b s) (Lacks (λ b. max (b .count) (i / 64 + 1)))
 unfolding setting
 sets i = record {
@@ -51,6 +50,24 @@ sets i = record {
         others = λ j n. ap (λ (t : Bool). b .members j || t) (ne-eqb j i n) ∙ or-false (b .members j);
       });
   why = λ c b e q. lacks c _ e q;
+}
+
+pub sets-many : (is : List ℕ) → Meets (settingMany is) (λ c b s. WithListed is b s) (LacksListed is)
+unfolding settingMany
+sets-many is = record {
+  made = λ c b s e.
+      subst (WithListed is b) (within-done c _ s e .0)
+      (record {
+        all = λ t l. ap (λ (x : Bool). b .members (getD is t 0) || x) (listed-at is t l) ∙ or-true (b .members (getD is t 0));
+        kept = λ j h. ap (λ (x : Bool). x || listed is j) h;
+        only = λ j h. by-test (b .members j) (λ y. inl y) (λ n. inr (listed-who is j (sym (ap (λ (x : Bool). x || listed is j) n) ∙ h)));
+        from = omega arith;
+        reached = λ t l. omega (arith, reach-in is t l);
+        least = λ n h r. omega (arith, reach-under is n r);
+      });
+  why = λ c b e q.
+      let r = lacks c (record { members = λ j. b .members j || listed is j; count = max (b .count) (reachOf is) }) e q in
+      (r .0, by-lt c (b .count) (λ l. inl l) (λ l. inr (reach-who is c (omega (arith, r .1)))));
 }
 
 pub unsets : (i : ℕ) → Meets (unsetting i) (λ c b s. WithoutBit i b s) Never

@@ -2,12 +2,12 @@
 use Prim.Native.Nat.{ℕ, suc, _+_, _-_, _*_, _/_, _^_, _≤_, _<_, max}
 use mathlib.Core.Path.{_≡_}
 use mathlib.Core.Bool.{Bool, true, false, not, _&&_, _||_}
-use mathlib.Core.List.{List}
+use mathlib.Core.List.{List, [], _∷_}
 use lib.ListN.{length, getD, take}
 use lib.Bits.{bitAnd}
 use lib.Dec.{ltb, leb, eqb}
 use Rattle.word.specs.Sets.{choose, xorb}
-use Rattle.word.specs.Bits.{wordOf}
+use Rattle.word.specs.Bits.{bit, wordOf}
 use Rattle.arch.specs.Scans.{nonzeroLen}
 use Rattle.storage.specs.Stores.{Bits, Outcome, refused, done, Op, within, trimmed, combined}
 use Rattle.storage.specs.declared.Refusal.the-variants.{IndexOver}
@@ -28,6 +28,19 @@ setting i c b = within c (record { members = λ j. b .members j || eqb j i; coun
 
 unfoldable pub unsetting : ℕ → Op
 unsetting i c b = done (record { members = λ j. b .members j && not (eqb j i); count = b .count })
+
+-- j is one of the listed numbers
+unfoldable pub listed : List ℕ → ℕ → Bool
+listed [] j = false
+listed (i ∷ is) j = eqb j i || listed is j
+
+-- the words up to those of all listed bits
+unfoldable pub reachOf : List ℕ → ℕ
+reachOf [] = 0
+reachOf (i ∷ is) = max (upTo i) (reachOf is)
+
+unfoldable pub settingMany : List ℕ → Op
+settingMany is c b = within c (record { members = λ j. b .members j || listed is j; count = max (b .count) (reachOf is) })
 
 -- the last of k > 0 numbers from i on passes 2 ^ 64 - 1
 abbrev pub passes : ℕ → ℕ → Bool
@@ -73,6 +86,13 @@ pub record Zipped (op : ℕ → ℕ → ℕ) (ws os : List ℕ) (e : ℕ) (ws' :
   pub long : length ws' ≡ length ws
   pub below : (k : ℕ) → k < e → getD ws' k 0 ≡ op (getD ws k 0) (getD os k 0)
   pub above : (k : ℕ) → e ≤ k → getD ws' k 0 ≡ getD ws k 0
+
+-- for the private `set_listed`: the listed bits are set, and words that have none are as they were
+pub record Listed (ws is ws' : List ℕ) : Type 0 where
+  pub long : length ws' ≡ length ws
+  pub fits : (k : ℕ) → getD ws k 0 < 2 ^ 64 → getD ws' k 0 < 2 ^ 64
+  pub bits : (k j : ℕ) → j < 64 → bit (getD ws' k 0) j ≡ bit (getD ws k 0) j || listed is (64 * k + j)
+  pub above : (k : ℕ) → reachOf is ≤ k → getD ws' k 0 ≡ getD ws k 0
 
 -- for the private `tidy`: the trimmed count where word k is the last of n and is 0
 unfoldable pub tidyCount : List ℕ → ℕ → ℕ → ℕ

@@ -2,7 +2,9 @@
 use Prim.Native.Nat.{ℕ, suc, _+_, _*_, _/_, _^_, _≤_, _<_, max}
 use mathlib.Core.Path.{_≡_}
 use mathlib.Core.Bool.{Bool, true, false, not}
+use mathlib.Core.List.{List}
 use mathlib.Core.Logic.{_⊎_}
+use lib.ListN.{length, getD}
 use Rattle.storage.specs.Refusals.{numberOf}
 use Rattle.storage.specs.Stores.{Bits, Outcome, refused, done, Op}
 use Rattle.storage.specs.Promises.{LeastCount}
@@ -25,6 +27,19 @@ pub record WithBit (i : ℕ) (b s : Bits) : Type 0 where
   pub count : s .count ≡ max (b .count) (i / 64 + 1)
   pub here : s .members i ≡ true
   pub others : (j : ℕ) → (j ≡ i → ⊥) → s .members j ≡ b .members j
+
+-- `set_many`: the listed numbers come in and no others, in the fewest words, b's at least, that reach to all of them
+pub record WithListed (is : List ℕ) (b s : Bits) : Type 0 where
+  pub all : (t : ℕ) → t < length is → s .members (getD is t 0) ≡ true
+  pub kept : (j : ℕ) → b .members j ≡ true → s .members j ≡ true
+  pub only : (j : ℕ) → s .members j ≡ true → (b .members j ≡ true) ⊎ (t : ℕ) × ((t < length is) × (getD is t 0 ≡ j))
+  pub from : b .count ≤ s .count
+  pub reached : (t : ℕ) → t < length is → getD is t 0 / 64 < s .count
+  pub least : (n : ℕ) → b .count ≤ n → ((t : ℕ) → t < length is → getD is t 0 / 64 < n) → s .count ≤ n
+
+-- 6, where the words in use or the word of a listed number are past the capacity
+abbrev pub LacksListed : List ℕ → ℕ → Bits → ℕ → Type 0
+LacksListed is c b k = (k ≡ 6) × ((c < b .count) ⊎ (t : ℕ) × ((t < length is) × (c ≤ getD is t 0 / 64)))
 
 -- `unset`: i is no member, every other number and the count are as they were
 pub record WithoutBit (i : ℕ) (b s : Bits) : Type 0 where

@@ -11,7 +11,7 @@ ghost use lib.ListN.{length};
 ghost use lib.Bits.{bitAnd, bitOr, bitXor};
 ghost use Rattle.word.specs.Sets.{xorb};
 ghost use Rattle.storage.specs.Stores.{andNot, beside, Changes, Makes};
-ghost use Rattle.bitmap.specs.Bitmaps.{trimming, setting, unsetting, settingRegion, combining, uniting, keepingBit, droppingBit, flippingBit, wordAndNot, Zipped, tidyCount};
+ghost use Rattle.bitmap.specs.Bitmaps.{trimming, setting, unsetting, settingMany, settingRegion, combining, uniting, keepingBit, droppingBit, flippingBit, wordAndNot, Zipped, reachOf, Listed, tidyCount};
 
 // Drops trailing zero words.
 pub fn trim(words: &[u64], b: Bitmap) -> Change
@@ -62,6 +62,52 @@ pub fn unset(words: &mut [u64], b: Bitmap, i: usize) -> Change
     }
     words[k] = words[k] & !Word::bit(i);
     Change::Done(b)
+}
+
+// The words up to those of all listed bits.
+fn reach(bits: &[usize]) -> usize
+    ensures { λ r. ⌜ r ≡ reachOf (now (bits .entry)) ⌝ }
+{
+    let mut most = 0;
+    let mut t = 0;
+    while t < bits.len() {
+        most = word::max(most, bits[t] / 64 + 1);
+        t += 1;
+    }
+    most
+}
+
+// Sets the listed bits, all within the words.
+fn set_listed(words: &mut [u64], bits: &[usize])
+    requires { ⌜ reachOf (now bits) ≤ length (now words) ⌝ }
+    ensures { λ r. ⌜ Listed (now (words .entry)) (now (bits .entry)) (now (words .exit)) ⌝ }
+{
+    let mut t = 0;
+    while t < bits.len() {
+        let i = bits[t];
+        words[i / 64] = words[i / 64] | Word::bit(i);
+        t += 1;
+    }
+}
+
+// Sets every listed bit; grows once, and writes nothing where one has no space.
+pub fn set_many(words: &mut [u64], b: Bitmap, bits: &[usize]) -> Change
+    ensures { λ r. ⌜ Changes (settingMany (now (bits .entry))) (now (words .entry)) b r (now (words .exit)) ⌝ }
+{
+    let n = b.count;
+    match storage::check(words.len(), n) {
+        Guard::Stop(e) => return Change::Refused(e, b),
+        Guard::Pass => {}
+    }
+    let need = reach(bits);
+    if need > words.len() {
+        return Change::Refused(Refusal::NoSpace, b);
+    }
+    storage::grow(words, n, need);
+    set_listed(words, bits);
+    Change::Done(Bitmap {
+        count: word::max(n, need),
+    })
 }
 
 // Both bits, for the words below e.
