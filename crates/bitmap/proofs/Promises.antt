@@ -39,6 +39,10 @@ lacks c b e q =
     (λ h. (ap numberOf (which (sym q ∙ within-no c b h)), h))
     (λ h. absurd (never (sym (within-ok c b h) ∙ q)))
 
+-- and one that was not has few enough
+roomy : (c : ℕ) (b s : Bits) → within c b ≡ done s → s .count ≤ c
+roomy c b s e = subst (λ (x : Bits). x .count ≤ c) (within-done c b s e .0) (within-done c b s e .1)
+
 pub sets : (i : ℕ) → Meets (setting i) (λ c b s. WithBit i b s) (Lacks (λ b. max (b .count) (i / 64 + 1)))
 unfolding setting
 sets i = record {
@@ -49,6 +53,7 @@ sets i = record {
         here = ap (λ (t : Bool). b .members i || t) (eq-eqb i i refl) ∙ or-true (b .members i);
         others = λ j n. ap (λ (t : Bool). b .members j || t) (ne-eqb j i n) ∙ or-false (b .members j);
       });
+  space = λ c b s h e. roomy c _ s e;
   why = λ c b e q. lacks c _ e q;
 }
 
@@ -65,6 +70,7 @@ sets-many is = record {
         reached = λ t l. omega (arith, reach-in is t l);
         least = λ n h r. omega (arith, reach-under is n r);
       });
+  space = λ c b s h e. roomy c _ s e;
   why = λ c b e q.
       let r = lacks c (record { members = λ j. b .members j || listed is j; count = max (b .count) (reachOf is) }) e q in
       (r .0, by-lt c (b .count) (λ l. inl l) (λ l. inr (reach-who is c (omega (arith, r .1)))));
@@ -80,6 +86,7 @@ unsets i = record {
         here = ap (λ (t : Bool). b .members i && not t) (eq-eqb i i refl) ∙ and-false (b .members i);
         others = λ j n. ap (λ (t : Bool). b .members j && not t) (ne-eqb j i n) ∙ and-keep (b .members j);
       });
+  space = λ c b s h e. subst (λ (x : Bits). x .count ≤ c) (same e) h;
   why = λ c b e q. never q;
 }
 
@@ -87,6 +94,7 @@ pub trims : Meets trimming (λ c b s. Fewest b s) Never
 unfolding trimming
 trims = record {
   made = λ c b s e. subst (Fewest b) (same e) (record { same = λ i. refl; count = least-count (b .members) (b .count) });
+  space = λ c b s h e. subst (λ (x : Bits). x .count ≤ c) (same e) (omega (arith, least-count (b .members) (b .count) .low));
   why = λ c b e q. never q;
 }
 
@@ -97,6 +105,7 @@ combines f o = record {
   made = λ c b s e.
       subst (Combines f o b) (within-done c _ s e .0)
       (record { each = λ i. refl; count = least-count (λ i. f (b .members i) (o .members i)) (max (b .count) (o .count)) });
+  space = λ c b s h e. roomy c _ s e;
   why = λ c b e q. lacks c _ e q;
 }
 
@@ -111,6 +120,7 @@ unites o = record {
         only = λ i t. either (b .members i) (o .members i) t;
         count = refl;
       });
+  space = λ c b s h e. roomy c _ s e;
   why = λ c b e q. lacks c _ e q;
 }
   where
@@ -143,6 +153,10 @@ regions i v k some = record {
       by-lt (2 ^ 64) (i + k)
       (λ h. absurd (never (sym e ∙ region-over i k c v b some h)))
       (λ h. (h, subst (WithRegion i v k b) (within-done c _ s (sym (region-put i k c v b some h) ∙ e) .0) (region-rule i v k b)));
+  space = λ c b s h e.
+      by-lt (2 ^ 64) (i + k)
+      (λ l. absurd (never (sym e ∙ region-over i k c v b some l)))
+      (λ l. roomy c _ s (sym (region-put i k c v b some l) ∙ e));
   why = λ c b e q.
       by-lt (2 ^ 64) (i + k)
       (λ h. inl (ap numberOf (which (sym q ∙ region-over i k c v b some h)), h))
@@ -181,6 +195,14 @@ tidies k t = record {
     full : (j : ℕ) → j / 64 ≡ k → t .members j ≡ true → wordOf (t .members) k ≡ 0 → ⊥
     full j e m z = false≢true (sym (word-zero (t .members) k (j % 64) z (omega arith)) ∙ ap (t .members) (omega arith) ∙ m)
 
+tidied-le : (k : ℕ) (t : Bits) → tidied k t .count ≤ t .count
+unfolding tidied
+tidied-le k t = fewer (eqb (suc k) (t .count) && eqb (wordOf (t .members) k) 0)
+  where
+    fewer : (x : Bool) → choose x (trimmed t) t .count ≤ t .count
+    fewer true = omega (arith, least-count (t .members) (t .count) .low)
+    fewer false = omega arith
+
 pub keeps-bit : (i : ℕ) → Meets (keepingBit i) (λ c b s. ThenTidied i (OnlyBit i) b s) Never
 unfolding keepingBit
 keeps-bit i = record {
@@ -195,6 +217,7 @@ keeps-bit i = record {
     },
     subst (Tidied (i / 64) _) (same e) (tidies (i / 64) _),
   );
+  space = λ c b s h e. subst (λ (x : Bits). x .count ≤ c) (same e) (omega (arith, tidied-le (i / 64) (record { members = λ j. b .members j && (not (eqb (j / 64) (i / 64)) || eqb j i); count = b .count })));
   why = λ c b e q. never q;
 }
 
@@ -210,6 +233,7 @@ drops-bit i = record {
     },
     subst (Tidied (i / 64) _) (same e) (tidies (i / 64) _),
   );
+  space = λ c b s h e. subst (λ (x : Bits). x .count ≤ c) (same e) (omega (arith, tidied-le (i / 64) (record { members = λ j. b .members j && not (eqb j i); count = b .count })));
   why = λ c b e q. never q;
 }
 
@@ -231,5 +255,6 @@ flips-bit i = record {
     },
     subst (Tidied (i / 64) _) (within-done c _ s e .0) (tidies (i / 64) _),
   );
+  space = λ c b s h e. roomy c _ s e;
   why = λ c b e q. lacks c _ e q;
 }

@@ -9,9 +9,10 @@ use Rattle.storage.specs.Refusals.{numberOf}
 use Rattle.storage.specs.Stores.{Bits, Outcome, refused, done, Op}
 use Rattle.storage.specs.Promises.{LeastCount}
 
--- whatever the capacity, what is done is as the rule says, and what is refused gets its number where the condition holds
+-- what is done is as the rule says and has space; what is refused gets its number where the condition holds
 pub record Meets (op : Op) (rule : ℕ → Bits → Bits → Type 0) (no : ℕ → Bits → ℕ → Type 0) : Type 0 where
   pub made : (c : ℕ) (b s : Bits) → op c b ≡ done s → rule c b s
+  pub space : (c : ℕ) (b s : Bits) → b .count ≤ c → op c b ≡ done s → s .count ≤ c
   pub why : (c : ℕ) (b : Bits) (e : _) → op c b ≡ refused e → no c b (numberOf e)
 
 -- a call that is never refused

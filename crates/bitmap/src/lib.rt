@@ -10,7 +10,7 @@ ghost use Prim.Native.Nat.{_≤_, _<_};
 ghost use lib.ListN.{length};
 ghost use lib.Bits.{bitAnd, bitOr, bitXor};
 ghost use Rattle.word.specs.Sets.{xorb};
-ghost use Rattle.storage.specs.Stores.{andNot, beside, Changes, Makes};
+ghost use Rattle.storage.specs.Stores.{andNot, beside, Changes};
 ghost use Rattle.bitmap.specs.Bitmaps.{trimming, setting, unsetting, settingMany, settingRegion, combining, uniting, keepingBit, droppingBit, flippingBit, wordAndNot, Zipped, reachOf, Listed, tidyCount};
 
 // Drops trailing zero words.
