@@ -30,7 +30,7 @@ count-set-bits-requires : tie.Need-count-set-bits-requires
 count-set-bits-requires c κs = search needs
 
 sub-t10 : tie.Need-sub-t10
-sub-t10 c = counted-le _ _ _ (passed _ _ (sym (c .before .before .enum-told .given .1) ∙ c .before .before .before .before .check .ensures)) (c .count-set-bits .ensures)
+sub-t10 c = omega (arith, counted-le _ _ _ (passed _ _ (sym (c .before .before .enum-told .given .1) ∙ c .before .before .before .before .check .ensures)) (c .count-set-bits .ensures))
 
 returns-2 : tie.Need-returns-2
 returns-2 c = ap Number.Is (clear-size _ _ _ (passed _ _ (sym (c .before .before .enum-told .given .1) ∙ c .before .before .before .before .check .ensures)) (c .count-set-bits .ensures)) ∙ sym (reading-ok _ _ _ _ (passed _ _ (sym (c .before .before .enum-told .given .1) ∙ c .before .before .before .before .check .ensures)))
