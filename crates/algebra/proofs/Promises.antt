@@ -9,7 +9,7 @@ use lib.Dec.{eqb}
 use borrow.Author.Tests.{lt-ltb, le-ltb, eq-eqb, eqb-true}
 use Rattle.word.specs.Sets.{choose, xorb, val, countBelow, leastFrom, Least}
 use Rattle.word.proofs.Cases.{by-lt, by-test, and-true}
-use Rattle.word.proofs.Sets.{count-none, counts-is, least}
+use Rattle.word.proofs.Sets.{count-none, count-empty, counts-is}
 use Rattle.storage.specs.Stores.{Bits, checked, view, size, combined, andNot, foundBelow, nextFrom}
 use Rattle.storage.specs.declared.Refusal.{Refusal}
 use Rattle.storage.specs.declared.Refusal.the-variants.{StoreTooLong, CountOverStore}
@@ -19,13 +19,14 @@ use Rattle.storage.specs.declared.Number.{Number}
 use Rattle.storage.specs.declared.Number.the-variants.{Is, Refused}
 use Rattle.storage.specs.declared.Truth.{Truth}
 use Rattle.storage.specs.declared.Truth.the-variants.{Is, Refused}
+use Rattle.storage.specs.Promises.{NextMember}
+use Rattle.storage.proofs.Promises.{next-member}
 use Rattle.storage.proofs.Checks.{checked-ok, checked-long, checked-over}
 use Rattle.storage.proofs.Views.{view-out}
 use Rattle.algebra.specs.Algebra.{readingBoth, emptyOf, countOf, walkOf}
-use Rattle.algebra.specs.Promises.{Accepted, isIn, isInBoth, EmptyExact, SubsetExact, DisjointExact, CountExact, CountsAddUp, LeastMember, FirstThenSecond}
+use Rattle.algebra.specs.Promises.{Accepted, isIn, isInBoth, EmptyExact, SubsetExact, DisjointExact, CountExact, CountsAddUp, FirstThenSecond}
 use Rattle.algebra.proofs.Readings.{BothPassed, isEmpty, isCount, isNext, both-viewed}
 use Rattle.algebra.proofs.Counts.{count-flat}
-use Rattle.algebra.proofs.Tests.{none-below}
 
 accepted : {ws os : List ℕ} {n m : ℕ} → Accepted ws n os m → BothPassed (length ws) n (length os) m
 accepted a = record { one = record { short = a .short; inside = a .inside }; two = record { short = a .second-short; inside = a .second-inside } }
@@ -38,7 +39,7 @@ module _ (f : Bool → Bool → Bool) (ff : f false false ≡ false) (ws : List 
 
   none : size (combined f (view ws n) (view os m)) ≡ 0 → (i : ℕ) → isInBoth f ws n os m i ≡ false
   unfolding size combined view
-  none e i = by-lt i (64 * max n m) (λ l. none-below (isInBoth f ws n os m) (64 * max n m) i e l) (λ l. past i l)
+  none e i = by-lt i (64 * max n m) (λ l. count-empty (isInBoth f ws n os m) (64 * max n m) i e l) (λ l. past i l)
 
   zeroes : ((i : ℕ) → isInBoth f ws n os m i ≡ false) → size (combined f (view ws n) (view os m)) ≡ 0
   unfolding size combined view
@@ -73,29 +74,11 @@ module _ (f : Bool → Bool → Bool) (ff : f false false ≡ false) (ws : List 
 
   -- ---- walks
 
-  pub walk-exact : (i : ℕ) → Accepted ws n os m → LeastMember (isInBoth f ws n os m) i (walkOf f ws n os m i)
-  unfolding walkOf nextFrom foundBelow combined view
+  pub walk-exact : (i : ℕ) → Accepted ws n os m → NextMember (isInBoth f ws n os m) i (walkOf f ws n os m i)
+  unfolding walkOf combined view
   walk-exact i a =
-      subst (LeastMember s i) (sym (both-viewed ws n os m Found.Refused (isNext f i) (accepted a)))
-      (by-lt p e
-      (λ l.
-      subst (LeastMember s i) (sym (ap (λ (t : Bool). choose t (At p) Nothing) (lt-ltb p e l)))
-      (r .from, r .here (omega (arith, r .from)), r .under))
-      (λ l.
-      subst (LeastMember s i) (sym (ap (λ (t : Bool). choose t (At p) Nothing) (le-ltb p e l)))
-      (λ q h. by-lt q e (λ k. r .under q h (omega arith)) (λ k. past q k))))
-    where
-      s : ℕ → Bool
-      s = isInBoth f ws n os m
-
-      e : ℕ
-      e = 64 * max n m
-
-      p : ℕ
-      p = leastFrom s i (e - i)
-
-      r : Least s i (i + (e - i)) p
-      r = least s i (e - i)
+      subst (NextMember (isInBoth f ws n os m) i) (sym (both-viewed ws n os m Found.Refused (isNext f i) (accepted a)))
+      (next-member (combined f (view ws n) (view os m)) (record { past = past }) i)
 
 -- ---- the two tests, as sets
 

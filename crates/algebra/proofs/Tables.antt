@@ -10,7 +10,7 @@ use borrow.Author.Tests.{lt-ltb}
 use Rattle.word.specs.Sets.{xorb}
 use Rattle.word.specs.Bits.{bit}
 use Rattle.word.specs.Words.{allOnes}
-use Rattle.word.proofs.Cases.{or-false, xor-false, and-false, and-keep}
+use Rattle.word.proofs.Cases.{or-false, xor-true, xor-false, and-false, and-keep}
 use Rattle.word.proofs.Bits.{bit-and, bit-xor, bit-ones}
 use Rattle.word.proofs.Lists.{member-at}
 use Rattle.storage.specs.Stores.{Bits, combined, andNot}
@@ -23,10 +23,6 @@ met-and = record {
   bits = λ x y j h l. bit-and x (bitXor y 0) j ∙ ap (λ (z : ℕ). bit x j && bit z j) (xor-zero-r y);
   fits = λ x y p q. and-lt 64 x (bitXor y 0) p (xor-lt 64 y 0 q (omega arith));
 }
-
-xor-true : (p : Bool) → xorb p true ≡ not p
-xor-true true = refl
-xor-true false = refl
 
 pub met-andnot : WordOp andNot (λ x y. bitAnd x (bitXor y allOnes))
 met-andnot = record {

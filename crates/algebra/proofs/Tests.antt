@@ -14,7 +14,7 @@ use Rattle.word.specs.Bits.{bit, member}
 use Rattle.word.specs.Words.{allOnes}
 use Rattle.word.proofs.Cases.{by-lt, by-eq, by-test, and-keep, and-false}
 use Rattle.word.proofs.Bits.{bit-zero}
-use Rattle.word.proofs.Sets.{count-none, count-more, least, least-is}
+use Rattle.word.proofs.Sets.{count-none, count-empty, least, least-is}
 use Rattle.word.proofs.Words.{least-bit}
 use Rattle.word.proofs.Lists.{Fit, at-place, member-past}
 use Rattle.arch.specs.Scans.{isZero}
@@ -86,9 +86,6 @@ module _ (x : ℕ) (xs ys : List ℕ) where
 
 -- ---- no members
 
-pub none-below : (t : ℕ → Bool) (m i : ℕ) → countBelow t m ≡ 0 → i < m → t i ≡ false
-none-below t m i e l = by-test (t i) (λ h. absurd (omega (arith, count-more t i m l h))) (λ h. h)
-
 same-truth : (a b : Bool) → (a ≡ true → b ≡ true) → (b ≡ true → a ≡ true) → a ≡ b
 same-truth true b f g = sym (f refl)
 same-truth false true f g = g refl
@@ -110,7 +107,7 @@ module _ {f : Bool → Bool → Bool} (x : ℕ) (t : WordOp f (λ u v. bitAnd u 
       sym
       (ne-eqb (size (made f xs ys)) 0
       (λ e.
-      let z : made f xs ys .members (64 * k + j) ≡ false = none-below (made f xs ys .members) (64 * max (length xs) (length ys)) (64 * k + j) e (omega arith) in
+      let z : made f xs ys .members (64 * k + j) ≡ false = count-empty (made f xs ys .members) (64 * max (length xs) (length ys)) (64 * k + j) e (omega arith) in
       let o : made f xs ys .members (64 * k + j) ≡ true = sym (h .bits j m) ∙ least (bit w) 0 64 .here (omega arith) in
       let y : true ≡ false = sym o ∙ z in
       let q : _≡_ {A = ℕ} 0 1 = cc in omega arith))
@@ -173,5 +170,5 @@ module _ (xs ys : List ℕ) (fx : Fit xs) (fy : Fit ys) where
           sym
           (ap (λ (q : Bool). member xs (64 * k + i) && not q) (member-past ys (64 * k + i) (omega arith))
           ∙ and-keep (member xs (64 * k + i)))
-          ∙ none-below (made andNot xs ys .members) (64 * max (length xs) (length ys)) (64 * k + i) (eqb-true (size (made andNot xs ys)) 0 e) (omega arith))
+          ∙ count-empty (made andNot xs ys .members) (64 * max (length xs) (length ys)) (64 * k + i) (eqb-true (size (made andNot xs ys)) 0 e) (omega arith))
           (λ m. member-past xs (64 * k + i) m))

@@ -63,12 +63,6 @@ pub record CountsAddUp (ws : List ℕ) (n : ℕ) (os : List ℕ) (m : ℕ) : Typ
       → countOf (λ p q. p || q) ws n os m ≡ Number.Is z → x + y ≡ z
   pub andnot-and : (x y : ℕ) → countOf andNot ws n os m ≡ Number.Is x → countOf (λ p q. p && q) ws n os m ≡ Number.Is y → x + y ≡ size (view ws n)
 
--- demand 2: a walk from i answers a member, at least i, with none between; nothing only where no member is at least i
-abbrev pub LeastMember : (ℕ → Bool) → ℕ → Found → Type 0
-LeastMember s i (At p) = (i ≤ p) × (s p ≡ true) × ((q : ℕ) → i ≤ q → q < p → s q ≡ false)
-LeastMember s i Nothing = (q : ℕ) → i ≤ q → s q ≡ false
-LeastMember s i (Found.Refused e) = ⊥
-
 -- refused with the number k
 abbrev pub RefusedBy : {A : Type 0} → (Refusal → A) → ℕ → A → Type 0
 RefusedBy refuse k a = (e : Refusal) × (a ≡ refuse e) × (numberOf e ≡ k)

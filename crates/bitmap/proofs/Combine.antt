@@ -10,7 +10,7 @@ use lib.Seq.{length-take-le, getD-take}
 use lib.Bits.{bitAnd, bitOr, bitXor, xor-zero-l}
 use Rattle.word.specs.Sets.{xorb}
 use Rattle.word.specs.Bits.{bit}
-use Rattle.word.proofs.Cases.{by-lt, and-false, and-keep, or-false}
+use Rattle.word.proofs.Cases.{by-lt, and-false, and-keep, or-false, xor-false}
 use Rattle.word.proofs.Bits.{bit-zero}
 use Rattle.word.proofs.Lists.{Fit, past, at-place}
 use Rattle.word.proofs.Sweep.{Swept}
@@ -188,10 +188,6 @@ module _ (ws os : List ℕ) (b : Bitmap) (m : ℕ) (p : Passed (length ws) (b .c
     none-at : (i : ℕ) → 64 * e ≤ i → view os m .members i ≡ false
     none-at i h = ap (view os m .members) (sym (at-place i)) ∙ none (i / 64) (i % 64) (omega arith) (omega arith)
 
-    xor-keep : (t : Bool) → xorb t false ≡ t
-    xor-keep true = refl
-    xor-keep false = refl
-
     pub xor-changes : (r : ℕ) (z ws' : List ℕ) → e ≤ length ws → z ≡ zeroed (b .count) e ws → Zipped bitXor z os e ws'
         → r ≡ nonzeroLen (take (max (b .count) e) ws') → Changes (beside os m (combining xorb)) ws b (Done (record { count = r })) ws'
     xor-changes r z ws' h ez s er =
@@ -216,7 +212,7 @@ module _ (ws os : List ℕ) (b : Bitmap) (m : ℕ) (p : Passed (length ws) (b .c
             (λ c. op-bit word-xor z os fz fo e ws' s k j c l ∙ ap₂ xorb (grown k j (inr c) l) (sym (view-in os m k j (omega (arith, e-le)) l)))
             (λ c.
             ap (λ (x : ℕ). bit x j) (s .above k c) ∙ grown k j (inl (omega arith)) l
-            ∙ sym (ap (xorb (view ws (b .count) .members (64 * k + j))) (none k j c l) ∙ xor-keep (view ws (b .count) .members (64 * k + j))))
+            ∙ sym (ap (xorb (view ws (b .count) .members (64 * k + j))) (none k j c l) ∙ xor-false (view ws (b .count) .members (64 * k + j))))
 
         -- a grown word at the top is the other's, and that is not 0
         top-word : (k : ℕ) → suc k ≡ e → b .count ≤ k → getD ws' k 0 ≡ getD os k 0

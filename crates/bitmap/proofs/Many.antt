@@ -12,7 +12,7 @@ use lib.Bits.{bitOr, or-lt}
 use borrow.Author.Tests.{eq-eqb, ne-eqb}
 use Rattle.word.specs.Bits.{bit}
 use Rattle.word.specs.Words.{single}
-use Rattle.word.proofs.Cases.{by-lt, by-eq, eqb-same, or-false}
+use Rattle.word.proofs.Cases.{by-lt, by-eq, eqb-same, or-false, or-true}
 use Rattle.word.proofs.Bits.{bit-or}
 use Rattle.word.proofs.Words.{bit-single, single-lt}
 use Rattle.word.proofs.Lists.{Fit}
@@ -31,10 +31,6 @@ use Rattle.bitmap.specs.Bitmaps.{listed, reachOf, settingMany, Listed}
 or-assoc : (x y z : Bool) → x || (y || z) ≡ (x || y) || z
 or-assoc true y z = refl
 or-assoc false y z = refl
-
-pub or-true : (x : Bool) → x || true ≡ true
-or-true true = refl
-or-true false = refl
 
 listed-more : (is : List ℕ) (t j : ℕ) → t < length is → listed (take (suc t) is) j ≡ listed (take t is) j || eqb j (getD is t 0)
 unfolding listed

@@ -10,7 +10,7 @@ use lib.Dec.{ltb, leb, eqb}
 use borrow.Author.Tests.{lt-ltb, le-ltb, le-leb, lt-leb, eq-eqb, ne-eqb}
 use Rattle.word.specs.Sets.{choose, xorb}
 use Rattle.word.specs.Bits.{wordOf}
-use Rattle.word.proofs.Cases.{by-lt, by-test, or-false, and-false, and-keep, xor-false}
+use Rattle.word.proofs.Cases.{by-lt, by-test, or-false, and-false, and-keep, or-true, xor-true, xor-false}
 use Rattle.word.proofs.Lists.{word-none, word-zero}
 use Rattle.storage.specs.Refusals.{numberOf}
 use Rattle.storage.specs.Stores.{Bits, refused, done, within, trimmedCount, trimmed, combined}
@@ -20,7 +20,7 @@ use Rattle.storage.proofs.Checks.{within-ok, within-no, within-done}
 use Rattle.storage.proofs.Promises.{least-count}
 use Rattle.bitmap.specs.Bitmaps.{trimming, setting, unsetting, listed, reachOf, settingMany, settingRegion, combining, uniting, tidied, keepingBit, droppingBit, flippingBit}
 use Rattle.bitmap.specs.Promises.{Meets, Never, Lacks, WithBit, WithListed, LacksListed, WithoutBit, Fewest, WithRegion, Combines, Unites, Tidied, OnlyBit, FlippedBit, ThenTidied}
-use Rattle.bitmap.proofs.Many.{or-true, reach-in, reach-who, reach-under, listed-at, listed-who}
+use Rattle.bitmap.proofs.Many.{reach-in, reach-who, reach-under, listed-at, listed-who}
 use Rattle.bitmap.proofs.Regions.{region-none, region-over, region-put}
 
 same : {b s : Bits} → done b ≡ done s → b ≡ s
@@ -237,10 +237,6 @@ drops-bit i = record {
   why = λ c b e q. never q;
 }
 
-xor-one : (t : Bool) → xorb t true ≡ not t
-xor-one true = refl
-xor-one false = refl
-
 pub flips-bit : (i : ℕ)
     → Meets (flippingBit i) (λ c b s. ThenTidied i (FlippedBit i) b s)
     (Lacks (λ b. tidied (i / 64) (record { members = λ j. xorb (b .members j) (eqb j i); count = max (b .count) (i / 64 + 1) }) .count))
@@ -250,7 +246,7 @@ flips-bit i = record {
     record { members = λ j. xorb (b .members j) (eqb j i); count = max (b .count) (i / 64 + 1) },
     record {
       count = refl;
-      here = ap (xorb (b .members i)) (eq-eqb i i refl) ∙ xor-one (b .members i);
+      here = ap (xorb (b .members i)) (eq-eqb i i refl) ∙ xor-true (b .members i);
       others = λ j n. ap (xorb (b .members j)) (ne-eqb j i n) ∙ xor-false (b .members j);
     },
     subst (Tidied (i / 64) _) (within-done c _ s e .0) (tidies (i / 64) _),

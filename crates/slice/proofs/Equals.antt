@@ -12,7 +12,7 @@ use borrow.Author.Tests.{eq-eqb, eqb-true, not-false}
 use Rattle.word.specs.Sets.{xorb}
 use Rattle.word.specs.Bits.{bit, member}
 use Rattle.word.proofs.Cases.{by-lt, by-test}
-use Rattle.word.proofs.Sets.{count-none, count-more, top}
+use Rattle.word.proofs.Sets.{count-none, count-empty, top}
 use Rattle.word.proofs.Lists.{Fit, past, determined}
 use Rattle.arch.specs.Scans.{nonzeroLen}
 use Rattle.arch.proofs.Scans.{nonzero-le}
@@ -31,7 +31,7 @@ size-none b h = count-none (b .members) (64 * b .count) h
 
 pub none-of-size : (b : Bits) → size b ≡ 0 → (i : ℕ) → i < 64 * b .count → b .members i ≡ false
 unfolding size
-none-of-size b e i l = by-test (b .members i) (λ t. absurd (omega (arith, count-more (b .members) i (64 * b .count) l t))) (λ t. t)
+none-of-size b e i l = count-empty (b .members) (64 * b .count) i e l
 
 -- ---- the same members
 

@@ -21,32 +21,12 @@ use Rattle.storage.specs.declared.Refusal.the-variants.{WidthOver, PastLength}
 use Rattle.storage.specs.declared.Found.the-variants.{At, Nothing}
 use Rattle.storage.specs.declared.Field.{Field}
 use Rattle.slice.specs.Slices.{frontPart, equal, fieldAt, withField, fieldSetting, lastSet, nextClear}
-use Rattle.slice.specs.Promises.{NextMember, LastMember, NextOther, EqualIsSame, FieldDigits, FieldWritten, StrictField, CountsMembers, FrontOf}
+use Rattle.slice.specs.Promises.{LastMember, NextOther, EqualIsSame, FieldDigits, FieldWritten, StrictField, CountsMembers, FrontOf}
 use Rattle.slice.proofs.Equals.{size-none, none-of-size, equal-of-same, same-of-equal, length-front, zero-past}
 
 -- ---- scans
 
 module _ (b : Bits) (bounded : Bounded b) where
-  pub next-member : (i : ℕ) → NextMember b i (nextFrom b i)
-  unfolding nextFrom foundBelow
-  next-member i =
-      by-lt p e
-      (λ h.
-      subst (NextMember b i) (sym (ap (λ (t : Bool). choose t (At p) Nothing) (lt-ltb p e h)))
-      (r .here (omega arith), r .from, r .under))
-      (λ h.
-      subst (NextMember b i) (sym (ap (λ (t : Bool). choose t (At p) Nothing) (le-ltb p e h)))
-      (λ q l. by-lt q e (λ m. r .under q l (omega arith)) (λ m. bounded .past q m)))
-    where
-      e : ℕ
-      e = 64 * b .count
-
-      p : ℕ
-      p = leastFrom (b .members) i (e - i)
-
-      r : Least (b .members) i (i + (e - i)) p
-      r = least (b .members) i (e - i)
-
   pub last-member : LastMember b (lastSet b)
   unfolding lastSet
   last-member = go (topBelow (b .members) (64 * b .count)) (top (b .members) (64 * b .count))

@@ -13,12 +13,6 @@ use Rattle.storage.specs.declared.Found.the-variants.{At, Nothing}
 use Rattle.storage.specs.declared.Field.{Field}
 use Rattle.slice.specs.Slices.{equal}
 
--- `first_set`, `next_set`: a member, at least i, with no member between; nothing only where no member is at least i
-abbrev pub NextMember : Bits → ℕ → Found → Type 0
-NextMember b i (At p) = (b .members p ≡ true) × (i ≤ p) × ((q : ℕ) → i ≤ q → q < p → b .members q ≡ false)
-NextMember b i Nothing = (q : ℕ) → i ≤ q → b .members q ≡ false
-NextMember b i (Found.Refused e) = ⊥
-
 -- `last_set`: a member with none above it; nothing only where there is none
 abbrev pub LastMember : Bits → Found → Type 0
 LastMember b (At p) = (b .members p ≡ true) × ((q : ℕ) → p < q → b .members q ≡ false)

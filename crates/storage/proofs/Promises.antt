@@ -6,15 +6,19 @@ use Prim.Native.Nat.{ℕ, suc, _+_, _-_, _*_, _/_, _%_, _≤_, _<_}
 use native.Mathlib.Omega.{arith}
 use lib.ListN.{length, getD}
 use lib.Dec.{eqb, eqb→eq}
+use borrow.Author.Tests.{lt-ltb, le-ltb}
+use Rattle.word.specs.Sets.{choose, leastFrom, Least}
 use Rattle.word.specs.Bits.{bit, member}
 use Rattle.word.proofs.Cases.{by-lt, every-at}
+use Rattle.word.proofs.Sets.{least}
 use Rattle.word.proofs.Lists.{determined, at-place, member-at}
 use Rattle.storage.specs.Refusals.{numberOf, changeNumber, changeRecord}
-use Rattle.storage.specs.Stores.{Bits, Bounded, Outcome, refused, done, Op, limit, checked, view, beside, within, trimmedCount, written, answer, store, outcome, Leaves, Changes}
-use Rattle.storage.specs.Promises.{EachNumberOnce, RefusalKeeps, StoresFirst, WordsAndSets, SpaceRules, SpaceExact, LeastCount, Sound, Seen, Chains}
+use Rattle.storage.specs.Stores.{Bits, Bounded, Outcome, refused, done, Op, limit, checked, view, beside, within, trimmedCount, written, answer, store, outcome, Leaves, Changes, foundBelow, nextFrom}
+use Rattle.storage.specs.Promises.{EachNumberOnce, RefusalKeeps, StoresFirst, WordsAndSets, SpaceRules, SpaceExact, LeastCount, NextMember, Sound, Seen, Chains}
 use Rattle.storage.specs.declared.Bitmap.{Bitmap}
 use Rattle.storage.specs.declared.Refusal.{Refusal}
 use Rattle.storage.specs.declared.Refusal.the-variants.{StoreTooLong, CountOverStore, WidthOver, IndexOver, PastLength, NoSpace, NotList, NotAscii, NotSheet, CutRecord, BytesRemain, BadPayload, NewerKind, NoEdition}
+use Rattle.storage.specs.declared.Found.the-variants.{At, Nothing}
 use Rattle.storage.specs.declared.Change.{Change}
 use Rattle.storage.specs.declared.Change.the-variants.{Done, Refused}
 use Rattle.storage.proofs.Checks.{checked-ok, checked-long, checked-over, within-ok, within-no}
@@ -160,3 +164,23 @@ chains op ws ws' b b' sound l =
         inside = omega (arith, a .2);
       },
     )
+
+-- ---- the least member from a place on
+
+pub next-member : (b : Bits) → Bounded b → (i : ℕ) → NextMember (b .members) i (nextFrom b i)
+unfolding nextFrom foundBelow
+next-member b bounded i =
+    by-lt p e
+    (λ h. subst (NextMember (b .members) i) (sym (ap (λ (t : Bool). choose t (At p) Nothing) (lt-ltb p e h))) (r .from, r .here (omega arith), r .under))
+    (λ h.
+    subst (NextMember (b .members) i) (sym (ap (λ (t : Bool). choose t (At p) Nothing) (le-ltb p e h)))
+    (λ q l. by-lt q e (λ m. r .under q l (omega arith)) (λ m. bounded .past q m)))
+  where
+    e : ℕ
+    e = 64 * b .count
+
+    p : ℕ
+    p = leastFrom (b .members) i (e - i)
+
+    r : Least (b .members) i (i + (e - i)) p
+    r = least (b .members) i (e - i)

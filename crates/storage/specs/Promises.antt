@@ -9,6 +9,8 @@ use Rattle.storage.specs.Refusals.{numberOf, changeNumber, changeRecord}
 use Rattle.storage.specs.Stores.{Bits, Bounded, Outcome, refused, done, Op, limit, view, beside, within, trimmedCount, written, Changes}
 use Rattle.storage.specs.declared.Bitmap.{Bitmap}
 use Rattle.storage.specs.declared.Refusal.{Refusal}
+use Rattle.storage.specs.declared.Found.{Found}
+use Rattle.storage.specs.declared.Found.the-variants.{At, Nothing, Refused}
 use Rattle.storage.specs.declared.Change.{Change}
 use Rattle.storage.specs.declared.Change.the-variants.{Done, Refused}
 
@@ -59,6 +61,12 @@ pub record LeastCount (s : ℕ → Bool) (n m : ℕ) : Type 0 where
   pub low : m ≤ n
   pub holds : (i : ℕ) → i < 64 * n → s i ≡ true → i < 64 * m
   pub least : (k : ℕ) → ((i : ℕ) → i < 64 * n → s i ≡ true → i < 64 * k) → m ≤ k
+
+-- demand 2: a scan or a walk from i answers a member, at least i, with none between; nothing only where no member is at least i
+abbrev pub NextMember : (ℕ → Bool) → ℕ → Found → Type 0
+NextMember s i (At p) = (i ≤ p) × (s p ≡ true) × ((q : ℕ) → i ≤ q → q < p → s q ≡ false)
+NextMember s i Nothing = (q : ℕ) → i ≤ q → s q ≡ false
+NextMember s i (Found.Refused e) = ⊥
 
 -- an operation whose results have space and hold no member past their words
 pub record Sound (op : Op) : Type 0 where

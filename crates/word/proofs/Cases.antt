@@ -1,6 +1,6 @@
 -- By cases on an order and on truth values. Assumes nothing.
 use mathlib.Core.Path.{_≡_, refl, sym, _∙_, subst}
-use mathlib.Core.Bool.{Bool, true, false, _&&_, _||_, false≢true}
+use mathlib.Core.Bool.{Bool, true, false, not, _&&_, _||_, false≢true}
 use Prim.Native.Nat.{ℕ, zero, suc, _≤_, _<_}
 use native.Mathlib.Decide.{decLt, ℕ-discrete}
 use native.Mathlib.Nat.{not-suc-le-zero}
@@ -35,6 +35,14 @@ eqb-same a b c d f g = by-eq a b (λ e. eq-eqb a b e ∙ sym (eq-eqb c d (f e)))
 pub or-false : (x : Bool) → x || false ≡ x
 or-false true = refl
 or-false false = refl
+
+pub or-true : (x : Bool) → x || true ≡ true
+or-true true = refl
+or-true false = refl
+
+pub xor-true : (x : Bool) → xorb x true ≡ not x
+xor-true true = refl
+xor-true false = refl
 
 pub xor-false : (x : Bool) → xorb x false ≡ x
 xor-false true = refl

@@ -53,6 +53,10 @@ count-more s p (suc m) l e =
     (λ q. omega (arith, ap val (sym (ap s q) ∙ e), ap (countBelow s) q))
     (λ n. omega (arith, count-more s p m (omega arith) e))
 
+-- none counted, none there
+pub count-empty : (s : ℕ → Bool) (m i : ℕ) → countBelow s m ≡ 0 → i < m → s i ≡ false
+count-empty s m i e l = by-test (s i) (λ t. absurd (omega (arith, count-more s i m l t))) (λ t. t)
+
 -- it counts the members
 pub counts : (s : ℕ → Bool) → Counts s (countBelow s)
 unfolding countBelow
