@@ -2,19 +2,19 @@
 use mathlib.Core.Path.{_≡_, refl, sym, ap, ap₂, _∙_, subst}
 use mathlib.Core.Bool.{Bool, true, false, not, _&&_, _||_, false≢true}
 use mathlib.Core.List.{List}
-use Prim.Native.Nat.{ℕ, zero, suc, _+_, _-_, _*_, _≤_, max}
+use Prim.Native.Nat.{ℕ, zero, suc, _+_, _*_, _≤_, max}
 use native.Mathlib.Omega.{arith}
 use lib.ListN.{length}
 use lib.Dec.{eqb}
-use borrow.Author.Tests.{lt-ltb, le-ltb, eq-eqb, eqb-true}
-use Rattle.word.specs.Sets.{choose, xorb, val, countBelow, leastFrom, Least}
+use borrow.Author.Tests.{eq-eqb, eqb-true}
+use Rattle.word.specs.Sets.{xorb, val, countBelow}
 use Rattle.word.proofs.Cases.{by-lt, by-test, and-true}
 use Rattle.word.proofs.Sets.{count-none, count-empty, counts-is}
-use Rattle.storage.specs.Stores.{Bits, checked, view, size, combined, andNot, foundBelow, nextFrom}
+use Rattle.storage.specs.Stores.{Bits, checked, view, size, combined, andNot}
 use Rattle.storage.specs.declared.Refusal.{Refusal}
 use Rattle.storage.specs.declared.Refusal.the-variants.{StoreTooLong, CountOverStore}
 use Rattle.storage.specs.declared.Found.{Found}
-use Rattle.storage.specs.declared.Found.the-variants.{At, Nothing, Refused}
+use Rattle.storage.specs.declared.Found.the-variants.{Refused}
 use Rattle.storage.specs.declared.Number.{Number}
 use Rattle.storage.specs.declared.Number.the-variants.{Is, Refused}
 use Rattle.storage.specs.declared.Truth.{Truth}

@@ -9,10 +9,10 @@ use lib.Seq.{getD-drop}
 use lib.Dec.{eqb}
 use lib.Bits.{bitAnd, bitXor}
 use borrow.Author.Tests.{eq-eqb, ne-eqb, eqb-true, not-false, not-true, eqb-false}
-use Rattle.word.specs.Sets.{countBelow, leastFrom, Least}
+use Rattle.word.specs.Sets.{leastFrom, Least}
 use Rattle.word.specs.Bits.{bit, member}
 use Rattle.word.specs.Words.{allOnes}
-use Rattle.word.proofs.Cases.{by-lt, by-eq, by-test, and-keep, and-false}
+use Rattle.word.proofs.Cases.{by-lt, by-eq, and-keep, and-false}
 use Rattle.word.proofs.Bits.{bit-zero}
 use Rattle.word.proofs.Sets.{count-none, count-empty, least, least-is}
 use Rattle.word.proofs.Words.{least-bit}

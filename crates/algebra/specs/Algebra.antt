@@ -7,7 +7,7 @@ use lib.Dec.{eqb}
 use Rattle.storage.specs.Stores.{Bits, reading, size, combined, nextFrom}
 use Rattle.storage.specs.declared.Refusal.{Refusal}
 use Rattle.storage.specs.declared.Found.{Found}
-use Rattle.storage.specs.declared.Found.the-variants.{At, Nothing, Refused}
+use Rattle.storage.specs.declared.Found.the-variants.{Refused}
 use Rattle.storage.specs.declared.Number.{Number}
 use Rattle.storage.specs.declared.Number.the-variants.{Is, Refused}
 use Rattle.storage.specs.declared.Truth.{Truth}

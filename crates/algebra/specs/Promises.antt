@@ -9,12 +9,10 @@ use Rattle.word.specs.Sets.{xorb, Counts}
 use Rattle.storage.specs.Refusals.{numberOf}
 use Rattle.storage.specs.Stores.{limit, view, size, andNot}
 use Rattle.storage.specs.declared.Refusal.{Refusal}
-use Rattle.storage.specs.declared.Found.{Found}
-use Rattle.storage.specs.declared.Found.the-variants.{At, Nothing, Refused}
 use Rattle.storage.specs.declared.Number.{Number}
-use Rattle.storage.specs.declared.Number.the-variants.{Is, Refused}
+use Rattle.storage.specs.declared.Number.the-variants.{Is}
 use Rattle.storage.specs.declared.Truth.{Truth}
-use Rattle.storage.specs.declared.Truth.the-variants.{Is, Refused}
+use Rattle.storage.specs.declared.Truth.the-variants.{Is}
 use Rattle.algebra.specs.Algebra.{emptyOf, countOf}
 
 -- 1 and 2 apply to neither store

@@ -1,23 +1,22 @@
 -- The promises of specs/Promises. Assumes nothing.
 use mathlib.Core.Path.{_≡_, refl, sym, ap, ap₂, _∙_, subst}
-use mathlib.Core.Bool.{Bool, true, false, not, _&&_, false≢true}
+use mathlib.Core.Bool.{Bool, true, false, not, _&&_}
 use mathlib.Core.List.{List}
-use Prim.Native.Nat.{ℕ, _+_, _*_, _/_, _%_, _^_, _≤_, _<_}
+use Prim.Native.Nat.{ℕ, _+_, _*_, _/_, _%_, _<_}
 use native.Mathlib.Nat.{mod-eq-of-lt}
 use native.Mathlib.Omega.{arith}
 use lib.ListN.{length, getD}
 use lib.Dec.{leb, ltb, eqb}
-use borrow.Author.Tests.{lt-ltb, le-ltb, le-leb, lt-leb, eq-eqb, ne-eqb, eqb-true, eqb-false, not-true, not-false}
-use Rattle.word.specs.Sets.{choose, countBelow, leastFrom, topBelow, nth, Nth, Least, Top}
-use Rattle.word.specs.Bits.{bit, member, wordsOf, tabFrom}
-use Rattle.word.proofs.Cases.{by-lt, by-eq, by-test, and-false}
+use borrow.Author.Tests.{lt-ltb, le-ltb, le-leb, lt-leb, eq-eqb, eqb-true, eqb-false, not-true, not-false}
+use Rattle.word.specs.Sets.{choose, leastFrom, topBelow, Nth, Least}
+use Rattle.word.specs.Bits.{bit, member, wordsOf}
+use Rattle.word.proofs.Cases.{by-lt, and-false}
 use Rattle.word.proofs.Bits.{bit-zero, no-bits}
 use Rattle.word.proofs.Sets.{count-le, least, top, nth-has, nth-none}
-use Rattle.word.proofs.Lists.{Fit, past, at-place, member-at, member-past, member-words, length-words, length-tab}
+use Rattle.word.proofs.Lists.{Fit, at-place, member-at, member-past, member-words, length-words, length-tab}
 use Rattle.arch.specs.Scans.{Alike, firstOther, wordFound, nonzeroLen, isZero, countSet, filled}
 use Rattle.arch.specs.Select.{selectIn, selectTable, selectBy}
 use Rattle.arch.specs.Promises.{FirstOther, ZeroIsEmpty, CountIsWhole, Fills, TableRule, SelectsRank}
-use Rattle.arch.specs.declared.FoundWord.{FoundWord}
 use Rattle.arch.specs.declared.FoundWord.the-variants.{At, Nothing}
 use Rattle.arch.proofs.Scans.{nonzero-none}
 use Rattle.arch.proofs.Table.{table-entry, select-by-table}

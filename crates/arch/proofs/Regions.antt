@@ -3,21 +3,21 @@ use mathlib.Core.Path.{_≡_, refl, sym, ap, ap₂, _∙_, subst}
 use mathlib.Core.Bool.{Bool, true, false, not, _&&_, _||_}
 use mathlib.Core.List.{List}
 use mathlib.Core.Logic.{_⊎_, inl, inr}
-use Prim.Native.Nat.{ℕ, _+_, _-_, _*_, _/_, _%_, _^_, _≤_, _<_, min, max}
+use Prim.Native.Nat.{ℕ, _+_, _-_, _*_, _/_, _^_, _≤_, _<_, min, max}
 use native.Mathlib.Omega.{arith}
 use lib.ListN.{length, getD, set, length-set}
-use lib.Seq.{getD-set-other, set-out}
+use lib.Seq.{getD-set-other}
 use lib.Dec.{leb, ltb}
 use lib.Bits.{bitAnd, bitOr, and-lt, or-lt}
-use lib.Pow.{ones-lt, ones-sub-lt}
+use lib.Pow.{ones-sub-lt}
 use borrow.Author.Tests.{lt-ltb, le-ltb, le-leb, lt-leb}
 use Rattle.word.specs.Sets.{choose}
-use Rattle.word.specs.Bits.{bit, pack, wordOf, member, tabFrom, wordsOf}
+use Rattle.word.specs.Bits.{bit, wordOf, member, wordsOf}
 use Rattle.word.specs.Words.{allOnes, lowMask}
-use Rattle.word.proofs.Cases.{by-lt, by-eq, or-false, and-keep, and-false}
+use Rattle.word.proofs.Cases.{by-lt, by-eq, and-false}
 use Rattle.word.proofs.Bits.{bit-and, bit-or, bit-not, bit-ones, bit-zero, bit-pack, pack-lt, pack-is}
 use Rattle.word.proofs.Words.{bit-low-mask, low-mask-lt}
-use Rattle.word.proofs.Lists.{Fit, past, length-tab, tab-at, tab-is, words-is, member-at}
+use Rattle.word.proofs.Lists.{Fit, past, length-tab, tab-at, tab-is, member-at}
 use Rattle.word.proofs.Sweep.{Swept, getD-set}
 use Rattle.arch.specs.Scans.{filledWords, filled, placesIn, overlaid}
 

@@ -1,17 +1,16 @@
 -- Scans by eights and by single words: what is passed, and where they stop. Assumes nothing.
-use mathlib.Core.Path.{_≡_, refl, sym, ap, ap₂, _∙_}
-use mathlib.Core.Bool.{Bool, true, false, not}
+use mathlib.Core.Path.{_≡_, sym, ap, _∙_}
+use mathlib.Core.Bool.{Bool, not}
 use mathlib.Core.List.{List}
-use Prim.Native.Nat.{ℕ, suc, _+_, _-_, _*_, _≤_, _<_}
+use Prim.Native.Nat.{ℕ, _+_, _-_, _≤_, _<_}
 use native.Mathlib.Omega.{arith}
 use lib.ListN.{length, getD}
-use lib.Dec.{eqb, ltb}
+use lib.Dec.{eqb}
 use borrow.Author.Tests.{lt-ltb, le-ltb, eq-eqb, ne-eqb, eqb-true, not-false}
-use Rattle.word.specs.Sets.{choose, leastFrom, topBelow, Least, Top}
+use Rattle.word.specs.Sets.{choose}
 use Rattle.word.proofs.Cases.{by-lt, eqb-same}
 use Rattle.word.proofs.Sets.{least, least-is, top, top-is}
 use Rattle.arch.specs.Scans.{Alike, firstOther, wordFound, nonzeroLen, isZero}
-use Rattle.arch.specs.declared.FoundWord.{FoundWord}
 use Rattle.arch.specs.declared.FoundWord.the-variants.{At, Nothing}
 
 -- ---- stretches of equal words

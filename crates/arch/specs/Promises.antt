@@ -4,10 +4,10 @@ use mathlib.Core.Path.{_≡_}
 use mathlib.Core.Bool.{Bool, true, false}
 use mathlib.Core.List.{List}
 use lib.ListN.{length, getD}
-use Rattle.word.specs.Sets.{countBelow, nth, Nth}
+use Rattle.word.specs.Sets.{countBelow, Nth}
 use Rattle.word.specs.Bits.{bit, member}
-use Rattle.arch.specs.Scans.{Alike, isZero, countSet, filled}
-use Rattle.arch.specs.Select.{selectTable, selectBy}
+use Rattle.arch.specs.Scans.{Alike, isZero, countSet}
+use Rattle.arch.specs.Select.{selectTable}
 use Rattle.arch.specs.declared.FoundWord.{FoundWord}
 use Rattle.arch.specs.declared.FoundWord.the-variants.{At, Nothing}
 

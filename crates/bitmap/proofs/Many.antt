@@ -17,7 +17,7 @@ use Rattle.word.proofs.Bits.{bit-or}
 use Rattle.word.proofs.Words.{bit-single, single-lt}
 use Rattle.word.proofs.Lists.{Fit}
 use Rattle.word.proofs.Sweep.{getD-set}
-use Rattle.storage.specs.Stores.{Bits, view, within, zeroed, Changes}
+use Rattle.storage.specs.Stores.{Bits, view, zeroed, Changes}
 use Rattle.storage.specs.declared.Bitmap.{Bitmap}
 use Rattle.storage.specs.declared.Refusal.the-variants.{NoSpace}
 use Rattle.storage.specs.declared.Change.the-variants.{Done, Refused}

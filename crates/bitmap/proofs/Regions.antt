@@ -1,29 +1,28 @@
 -- A region of bits set or cleared. Assumes nothing.
 use mathlib.Core.Path.{_≡_, refl, sym, ap, ap₂, _∙_, subst}
-use mathlib.Core.Bool.{Bool, true, false, not, _&&_}
+use mathlib.Core.Bool.{Bool, true, false, _&&_}
 use mathlib.Core.List.{List, _++_}
 use mathlib.Core.Logic.{inl, inr}
-use Prim.Native.Nat.{ℕ, _+_, _-_, _*_, _/_, _%_, _^_, _≤_, _<_, min, max}
+use Prim.Native.Nat.{ℕ, _+_, _-_, _*_, _/_, _^_, _≤_, _<_, min, max}
 use native.Mathlib.Omega.{arith}
 use lib.ListN.{length, getD, take, drop}
-use lib.Seq.{length-take-le}
-use lib.Dec.{leb, ltb, eqb}
+use lib.Dec.{leb, ltb}
 use borrow.Author.Tests.{lt-ltb, le-ltb, le-leb, lt-leb, eq-eqb, ne-eqb}
 use Rattle.word.specs.Sets.{choose}
-use Rattle.word.specs.Bits.{bit, member, wordsOf}
-use Rattle.word.proofs.Cases.{by-lt, and-false}
+use Rattle.word.specs.Bits.{bit, member}
+use Rattle.word.proofs.Cases.{by-lt}
 use Rattle.word.proofs.Bits.{bits-ext}
-use Rattle.word.proofs.Lists.{Fit, past, at-place, member-at, words-fit}
+use Rattle.word.proofs.Lists.{Fit, member-at, words-fit}
 use Rattle.arch.specs.Scans.{filled}
 use Rattle.arch.specs.Promises.{Fills}
 use Rattle.arch.proofs.Promises.{fills}
-use Rattle.storage.specs.Stores.{Bits, Outcome, refused, done, view, within, zeroed, Changes}
+use Rattle.storage.specs.Stores.{Bits, refused, done, view, within, zeroed, Changes}
 use Rattle.storage.specs.declared.Bitmap.{Bitmap}
 use Rattle.storage.specs.declared.Refusal.the-variants.{IndexOver, NoSpace}
 use Rattle.storage.specs.declared.Change.the-variants.{Done, Refused}
 use Rattle.storage.proofs.Checks.{Passed, within-ok, within-no}
 use Rattle.storage.proofs.Views.{view-count, view-part, view-in}
-use Rattle.storage.proofs.Stores.{Stored, changes-done, changes-refused, part-changes, length-zeroed, zeroed-out, zeroed-fit, grown-bit}
+use Rattle.storage.proofs.Stores.{changes-done, changes-refused, part-changes, length-zeroed, zeroed-out, zeroed-fit, grown-bit}
 use Rattle.bitmap.specs.Bitmaps.{inRegion, settingRegion}
 
 -- ---- the filled words

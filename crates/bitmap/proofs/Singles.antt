@@ -1,6 +1,6 @@
 -- Trimming, and one bit set or cleared. Assumes nothing.
 use mathlib.Core.Path.{_≡_, refl, sym, ap, ap₂, _∙_, subst}
-use mathlib.Core.Bool.{Bool, true, false, not, _&&_, _||_}
+use mathlib.Core.Bool.{Bool, not, _&&_, _||_}
 use mathlib.Core.List.{List}
 use mathlib.Core.Logic.{inl, inr}
 use Prim.Native.Nat.{ℕ, _+_, _-_, _*_, _/_, _%_, _^_, _≤_, _<_, max}
@@ -10,7 +10,7 @@ use lib.Seq.{getD-set-other}
 use lib.Dec.{eqb}
 use lib.Bits.{bitAnd, bitOr, and-lt, or-lt}
 use lib.Pow.{ones-sub-lt}
-use borrow.Author.Tests.{eq-eqb, ne-eqb}
+use borrow.Author.Tests.{ne-eqb}
 use Rattle.word.specs.Bits.{bit}
 use Rattle.word.specs.Words.{single}
 use Rattle.word.proofs.Cases.{by-lt, by-eq, eqb-same, or-false, and-keep}
@@ -19,13 +19,13 @@ use Rattle.word.proofs.Words.{bit-single, single-lt}
 use Rattle.word.proofs.Lists.{Fit}
 use Rattle.word.proofs.Sweep.{getD-set}
 use Rattle.arch.specs.Scans.{nonzeroLen}
-use Rattle.storage.specs.Stores.{Bits, Outcome, refused, done, view, within, trimmed, zeroed, Changes}
+use Rattle.storage.specs.Stores.{Bits, view, trimmed, zeroed, Changes}
 use Rattle.storage.specs.declared.Bitmap.{Bitmap}
 use Rattle.storage.specs.declared.Refusal.the-variants.{NoSpace}
 use Rattle.storage.specs.declared.Change.the-variants.{Done, Refused}
 use Rattle.storage.proofs.Checks.{Passed, within-ok, within-no}
 use Rattle.storage.proofs.Views.{view-count, view-in, view-out}
-use Rattle.storage.proofs.Stores.{Stored, changes-done, changes-refused, word-stored, length-zeroed, zeroed-out, zeroed-fit, grown-bit}
+use Rattle.storage.proofs.Stores.{changes-done, changes-refused, word-stored, length-zeroed, zeroed-out, zeroed-fit, grown-bit}
 use Rattle.storage.proofs.Trims.{trimmed-length, trimmed-stored}
 use Rattle.bitmap.specs.Bitmaps.{trimming, setting, unsetting}
 

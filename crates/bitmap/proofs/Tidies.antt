@@ -8,26 +8,26 @@ use native.Mathlib.Omega.{arith}
 use lib.ListN.{length, getD, set, take, length-set}
 use lib.Seq.{getD-set-other, length-take-le}
 use lib.Dec.{eqb}
-use lib.Bits.{bitAnd, bitXor, and-lt, xor-lt, xor-zero-l}
+use lib.Bits.{bitAnd, bitXor, and-lt, xor-lt}
 use lib.Pow.{ones-sub-lt}
 use borrow.Author.Tests.{eq-eqb, ne-eqb, eqb-true}
 use Rattle.word.specs.Sets.{choose, xorb}
 use Rattle.word.specs.Bits.{bit, wordOf}
 use Rattle.word.specs.Words.{single}
-use Rattle.word.proofs.Cases.{by-lt, by-eq, by-test, eqb-same, and-true, and-keep, and-false, or-false}
+use Rattle.word.proofs.Cases.{by-lt, by-eq, eqb-same, and-true, and-keep, and-false}
 use Rattle.word.proofs.Bits.{bit-zero, bit-and, bit-xor, bit-not, bit-pack, pack-is}
 use Rattle.word.proofs.Words.{bit-single, single-lt}
-use Rattle.word.proofs.Lists.{Fit, past}
+use Rattle.word.proofs.Lists.{Fit}
 use Rattle.word.proofs.Sweep.{getD-set}
 use Rattle.arch.specs.Scans.{nonzeroLen}
 use Rattle.arch.proofs.Scans.{nonzero-le}
-use Rattle.storage.specs.Stores.{Bits, Outcome, refused, done, Op, view, within, trimmedCount, trimmed, zeroed, Changes}
+use Rattle.storage.specs.Stores.{Bits, done, Op, view, within, trimmed, zeroed, Changes}
 use Rattle.storage.specs.declared.Bitmap.{Bitmap}
 use Rattle.storage.specs.declared.Refusal.the-variants.{NoSpace}
 use Rattle.storage.specs.declared.Change.the-variants.{Done, Refused}
 use Rattle.storage.proofs.Checks.{Passed, within-ok, within-no}
 use Rattle.storage.proofs.Views.{view-count, view-in, view-out}
-use Rattle.storage.proofs.Stores.{Stored, changes-done, changes-refused, word-stored, length-zeroed, zeroed-in, zeroed-out, zeroed-fit, grown-bit}
+use Rattle.storage.proofs.Stores.{Stored, changes-done, changes-refused, word-stored, length-zeroed, zeroed-out, zeroed-fit, grown-bit}
 use Rattle.storage.proofs.Trims.{trimmed-length, trimmed-stored}
 use Rattle.bitmap.specs.Bitmaps.{tidied, tidyCount, keepingBit, droppingBit, flippingBit}
 

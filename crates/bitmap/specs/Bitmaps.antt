@@ -1,7 +1,7 @@
 -- The calls of bitmap.rs, on sets and counts (01, "Words that enter and leave use").
 use Prim.Native.Nat.{ℕ, suc, _+_, _-_, _*_, _/_, _^_, _≤_, _<_, max}
 use mathlib.Core.Path.{_≡_}
-use mathlib.Core.Bool.{Bool, true, false, not, _&&_, _||_}
+use mathlib.Core.Bool.{Bool, false, not, _&&_, _||_}
 use mathlib.Core.List.{List, [], _∷_}
 use lib.ListN.{length, getD, take}
 use lib.Bits.{bitAnd}
@@ -9,7 +9,7 @@ use lib.Dec.{ltb, leb, eqb}
 use Rattle.word.specs.Sets.{choose, xorb}
 use Rattle.word.specs.Bits.{bit, wordOf}
 use Rattle.arch.specs.Scans.{nonzeroLen}
-use Rattle.storage.specs.Stores.{Bits, Outcome, refused, done, Op, within, trimmed, combined}
+use Rattle.storage.specs.Stores.{Bits, refused, done, Op, within, trimmed, combined}
 use Rattle.storage.specs.declared.Refusal.the-variants.{IndexOver}
 
 -- the words up to the one of bit i

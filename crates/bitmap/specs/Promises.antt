@@ -1,12 +1,12 @@
 -- What the calls of bitmap.rs promise, for every number. Each is proved in proofs/Promises.
-use Prim.Native.Nat.{ℕ, suc, _+_, _*_, _/_, _^_, _≤_, _<_, max}
+use Prim.Native.Nat.{ℕ, suc, _+_, _/_, _≤_, _<_, max}
 use mathlib.Core.Path.{_≡_}
 use mathlib.Core.Bool.{Bool, true, false, not}
 use mathlib.Core.List.{List}
 use mathlib.Core.Logic.{_⊎_}
 use lib.ListN.{length, getD}
 use Rattle.storage.specs.Refusals.{numberOf}
-use Rattle.storage.specs.Stores.{Bits, Outcome, refused, done, Op}
+use Rattle.storage.specs.Stores.{Bits, refused, done, Op}
 use Rattle.storage.specs.Promises.{LeastCount}
 
 -- what is done is as the rule says and has space; what is refused gets its number where the condition holds

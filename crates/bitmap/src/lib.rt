@@ -4,7 +4,7 @@ use storage::Change;
 use storage::Guard;
 use storage::Refusal;
 use word::Word;
-ghost use mathlib.Core.Bool.{_&&_, _||_};
+ghost use mathlib.Core.Bool.{_&&_};
 ghost use mathlib.Core.Path.{_≡_};
 ghost use Prim.Native.Nat.{_≤_, _<_};
 ghost use lib.ListN.{length};

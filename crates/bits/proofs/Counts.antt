@@ -1,9 +1,8 @@
 -- Members counted in a range, in parts of words. Assumes nothing.
-use mathlib.Core.Path.{_≡_, refl, sym, ap, ap₂, _∙_, fun-ext}
-use mathlib.Core.Bool.{Bool, true, false, _&&_}
+use mathlib.Core.Path.{_≡_, refl, sym, ap, ap₂, _∙_}
+use mathlib.Core.Bool.{Bool, false, _&&_}
 use mathlib.Core.List.{List}
-use Prim.Native.Nat.{ℕ, suc, _+_, _-_, _*_, _/_, _%_, _^_, _≤_, _<_, min}
-use native.Mathlib.Nat.{mod-eq-of-lt}
+use Prim.Native.Nat.{ℕ, _+_, _-_, _*_, _/_, _%_, _^_, _≤_, _<_, min}
 use native.Mathlib.Omega.{arith}
 use lib.ListN.{length, getD, take, drop, length-drop}
 use lib.Seq.{length-take-le, getD-take, getD-drop}
@@ -20,7 +19,7 @@ use Rattle.word.proofs.Sets.{count-le, count-ext, count-add, count-none}
 use Rattle.word.proofs.Lists.{member-at}
 use Rattle.arch.specs.Scans.{countSet}
 use Rattle.arch.proofs.Promises.{count-is-whole}
-use Rattle.storage.specs.Stores.{Bits, view, size}
+use Rattle.storage.specs.Stores.{view, size}
 use Rattle.storage.proofs.Checks.{Passed}
 use Rattle.storage.proofs.Views.{view-count, view-part, view-out}
 use Rattle.storage.proofs.Sizes.{size-counted}

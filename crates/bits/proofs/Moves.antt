@@ -6,7 +6,7 @@ use Prim.Native.Nat.{ℕ, suc, _+_, _-_, _*_, _/_, _%_, _^_, _≤_, _<_}
 use native.Mathlib.Omega.{arith}
 use lib.ListN.{length, getD, set, take, drop}
 use lib.Seq.{length-take-le}
-use lib.Dec.{ltb, eqb}
+use lib.Dec.{eqb}
 use borrow.Author.Tests.{lt-ltb, le-ltb, ne-eqb}
 use lib.Pow.{ones-sub-lt}
 use lib.Bits.{bitXor, xor-lt}
@@ -17,7 +17,7 @@ use Rattle.word.proofs.Cases.{eqb-same}
 use Rattle.word.proofs.Bits.{bit-not, bit-xor}
 use Rattle.word.proofs.Words.{mirrors, bit-single, single-lt}
 use Rattle.word.proofs.Lists.{Fit, FitTo, member-at}
-use Rattle.storage.specs.Stores.{Bits, Outcome, refused, done, view, Changes}
+use Rattle.storage.specs.Stores.{Bits, refused, done, view, Changes}
 use Rattle.storage.specs.declared.Bitmap.{Bitmap}
 use Rattle.storage.specs.declared.Change.the-variants.{Done, Refused}
 use Rattle.storage.specs.declared.Refusal.the-variants.{PastLength}

@@ -1,17 +1,16 @@
 -- The promises of specs/Promises. Assumes nothing.
-use mathlib.Core.Path.{_≡_, refl, sym, ap, ap₂, _∙_, subst}
+use mathlib.Core.Path.{_≡_, refl, sym, ap, _∙_, subst}
 use mathlib.Core.Bool.{Bool, true, false, not, _&&_}
-use Prim.Native.Nat.{ℕ, suc, _+_, _-_, _*_, _≤_, _<_}
+use Prim.Native.Nat.{ℕ, suc, _+_, _-_, _*_, _<_}
 use native.Mathlib.Omega.{arith}
-use lib.Dec.{ltb, eqb}
+use lib.Dec.{eqb}
 use borrow.Author.Tests.{lt-ltb, le-ltb, eq-eqb, ne-eqb}
-use Rattle.word.specs.Sets.{choose, xorb, countBelow, nth, Nth, Counts}
+use Rattle.word.specs.Sets.{choose, xorb, countBelow, nth, Nth}
 use Rattle.word.proofs.Cases.{by-lt}
 use Rattle.word.proofs.Sets.{count-le, counts, nth-has, nth-none}
-use Rattle.storage.specs.Stores.{Bits, Bounded, Outcome, refused, done, Op, size, foundBelow}
+use Rattle.storage.specs.Stores.{Bits, refused, done, size, foundBelow}
 use Rattle.storage.specs.Promises.{Sound}
 use Rattle.storage.specs.declared.Refusal.the-variants.{PastLength}
-use Rattle.storage.specs.declared.Found.{Found}
 use Rattle.storage.specs.declared.Found.the-variants.{At, Nothing}
 use Rattle.bits.specs.Bits.{toggling, inverting, reversing, clearSize, countRegion, rankOf, selected}
 use Rattle.bits.specs.Promises.{Toggled, Inverted, Reversed, Counted, Selected}

@@ -1,6 +1,6 @@
 -- A rank passed word by word, and the member that has it. Assumes nothing.
-use mathlib.Core.Path.{_≡_, refl, sym, ap, ap₂, _∙_, subst}
-use mathlib.Core.Bool.{Bool, true, false}
+use mathlib.Core.Path.{_≡_, sym, ap, _∙_, subst}
+use mathlib.Core.Bool.{Bool}
 use mathlib.Core.List.{List}
 use Prim.Native.Nat.{ℕ, _+_, _-_, _*_, _^_, _≤_, _<_}
 use native.Mathlib.Omega.{arith}
@@ -11,15 +11,13 @@ use borrow.Author.Tests.{lt-ltb, le-ltb}
 use Rattle.word.specs.Sets.{choose, countBelow, nth, Nth}
 use Rattle.word.specs.Bits.{bit, member}
 use Rattle.word.proofs.Sets.{count-ext, count-add, nth-is, nth-none, nth-has}
-use Rattle.word.proofs.Lists.{member-at}
 use Rattle.arch.specs.Scans.{countSet}
 use Rattle.arch.proofs.Counts.{count-word}
-use Rattle.storage.specs.Stores.{Bits, view, foundBelow}
-use Rattle.storage.specs.declared.Found.{Found}
+use Rattle.storage.specs.Stores.{view, foundBelow}
 use Rattle.storage.specs.declared.Found.the-variants.{At, Nothing}
 use Rattle.storage.proofs.Views.{view-count, view-part, view-in}
 use Rattle.bits.specs.Bits.{Passing, selected}
-use Rattle.bits.proofs.Counts.{between, whole-words}
+use Rattle.bits.proofs.Counts.{whole-words}
 
 pub pass-none : (ws : List ℕ) (r : ℕ) → Passing ws r 0 r
 unfolding countBelow

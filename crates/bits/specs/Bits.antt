@@ -1,13 +1,13 @@
 -- The calls of bits.rs, on sets: n words are in use, and the count stays.
 use Prim.Native.Nat.{ℕ, suc, _+_, _-_, _*_, _≤_}
 use mathlib.Core.Path.{_≡_}
-use mathlib.Core.Bool.{Bool, not, _&&_}
+use mathlib.Core.Bool.{not, _&&_}
 use mathlib.Core.List.{List}
 use lib.ListN.{length}
 use lib.Dec.{ltb, eqb}
 use Rattle.word.specs.Sets.{choose, xorb, countBelow, nth}
-use Rattle.word.specs.Bits.{bit, member}
-use Rattle.storage.specs.Stores.{Bits, Outcome, refused, done, Op, size, foundBelow}
+use Rattle.word.specs.Bits.{member}
+use Rattle.storage.specs.Stores.{Bits, refused, done, Op, size, foundBelow}
 use Rattle.storage.specs.declared.Refusal.the-variants.{PastLength}
 use Rattle.storage.specs.declared.Found.{Found}
 

@@ -1,7 +1,7 @@
 -- What the calls of bits.rs promise, for every number. Each is proved in proofs/Promises.
-use Prim.Native.Nat.{ℕ, suc, _+_, _*_, _≤_, _<_}
+use Prim.Native.Nat.{ℕ, _+_, _*_, _≤_, _<_}
 use mathlib.Core.Path.{_≡_}
-use mathlib.Core.Bool.{Bool, true, false, not}
+use mathlib.Core.Bool.{true, false, not}
 use Rattle.word.specs.Sets.{Counts}
 use Rattle.storage.specs.Stores.{Bits, size}
 use Rattle.storage.specs.declared.Found.{Found}

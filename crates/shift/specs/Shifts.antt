@@ -2,7 +2,7 @@
 use Prim.Native.Nat.{ℕ, _+_, _-_, _*_, _%_}
 use mathlib.Core.Bool.{Bool, _&&_}
 use lib.Dec.{ltb, leb}
-use Rattle.storage.specs.Stores.{Bits, Outcome, done, Op}
+use Rattle.storage.specs.Stores.{Bits, done, Op}
 
 -- a set moved k up, and moved k down
 unfoldable pub movedUp : ℕ → (ℕ → Bool) → ℕ → Bool

@@ -15,7 +15,7 @@ use Rattle.word.proofs.Cases.{by-lt, by-eq, and-false}
 use Rattle.word.proofs.Bits.{bit-past, bit-pack, pack-lt}
 use Rattle.word.proofs.Sets.{count-ext, least, top}
 use Rattle.arch.specs.Scans.{nonzeroLen}
-use Rattle.storage.specs.Stores.{Bits, Bounded, Outcome, refused, done, size, foundBelow, nextFrom}
+use Rattle.storage.specs.Stores.{Bits, Bounded, Outcome, refused, done, size}
 use Rattle.storage.specs.Promises.{Sound}
 use Rattle.storage.specs.declared.Refusal.the-variants.{WidthOver, PastLength}
 use Rattle.storage.specs.declared.Found.the-variants.{At, Nothing}

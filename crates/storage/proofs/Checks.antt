@@ -1,15 +1,14 @@
 -- The refusals 1 and 2, of one store and of a second, and 6. Assumes nothing.
-use mathlib.Core.Path.{_≡_, refl, sym, ap, _∙_}
+use mathlib.Core.Path.{_≡_, sym, ap, _∙_}
 use mathlib.Core.List.{List}
 use Prim.Native.Nat.{ℕ, _≤_, _<_}
 use native.Mathlib.Omega.{arith}
 use lib.ListN.{length}
 use borrow.Author.Tests.{lt-ltb, le-ltb}
 use Rattle.word.proofs.Cases.{by-lt}
-use Rattle.storage.specs.Stores.{Bits, Outcome, refused, done, Op, limit, checked, view, reading, beside, within}
+use Rattle.storage.specs.Stores.{Bits, refused, done, Op, limit, checked, view, reading, beside, within}
 use Rattle.storage.specs.declared.Refusal.{Refusal}
 use Rattle.storage.specs.declared.Refusal.the-variants.{StoreTooLong, CountOverStore, NoSpace}
-use Rattle.storage.specs.declared.Guard.{Guard}
 use Rattle.storage.specs.declared.Guard.the-variants.{Pass, Stop}
 
 module _ {A : Type 0} (c n : ℕ) (refuse : Refusal → A) (a : A) where

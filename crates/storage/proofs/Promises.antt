@@ -1,6 +1,6 @@
 -- The promises of specs/Promises. Assumes nothing.
 use mathlib.Core.Path.{_≡_, refl, sym, ap, _∙_, subst}
-use mathlib.Core.Bool.{Bool, true, false}
+use mathlib.Core.Bool.{Bool}
 use mathlib.Core.List.{List, [], _∷_}
 use Prim.Native.Nat.{ℕ, suc, _+_, _-_, _*_, _/_, _%_, _≤_, _<_}
 use native.Mathlib.Omega.{arith}
@@ -8,13 +8,13 @@ use lib.ListN.{length, getD}
 use lib.Dec.{eqb, eqb→eq}
 use borrow.Author.Tests.{lt-ltb, le-ltb}
 use Rattle.word.specs.Sets.{choose, leastFrom, Least}
-use Rattle.word.specs.Bits.{bit, member}
+use Rattle.word.specs.Bits.{member}
 use Rattle.word.proofs.Cases.{by-lt, every-at}
 use Rattle.word.proofs.Sets.{least}
 use Rattle.word.proofs.Lists.{determined, at-place, member-at}
 use Rattle.storage.specs.Refusals.{numberOf, changeNumber, changeRecord}
-use Rattle.storage.specs.Stores.{Bits, Bounded, Outcome, refused, done, Op, limit, checked, view, beside, within, trimmedCount, written, answer, store, outcome, Leaves, Changes, foundBelow, nextFrom}
-use Rattle.storage.specs.Promises.{EachNumberOnce, RefusalKeeps, StoresFirst, WordsAndSets, SpaceRules, SpaceExact, LeastCount, NextMember, Sound, Seen, Chains}
+use Rattle.storage.specs.Stores.{Bits, Bounded, Outcome, refused, done, limit, checked, view, beside, trimmedCount, written, answer, store, outcome, Leaves, foundBelow, nextFrom}
+use Rattle.storage.specs.Promises.{EachNumberOnce, RefusalKeeps, StoresFirst, WordsAndSets, SpaceRules, SpaceExact, LeastCount, NextMember, Chains}
 use Rattle.storage.specs.declared.Bitmap.{Bitmap}
 use Rattle.storage.specs.declared.Refusal.{Refusal}
 use Rattle.storage.specs.declared.Refusal.the-variants.{StoreTooLong, CountOverStore, WidthOver, IndexOver, PastLength, NoSpace, NotList, NotAscii, NotSheet, CutRecord, BytesRemain, BadPayload, NewerKind, NoEdition}

@@ -1,6 +1,6 @@
 -- What is written reads back, and what a call leaves. Assumes nothing.
 use mathlib.Core.Path.{_≡_, refl, sym, ap, _∙_, fun-ext, subst}
-use mathlib.Core.Bool.{Bool, true, false, _&&_}
+use mathlib.Core.Bool.{Bool, _&&_}
 use mathlib.Core.List.{List, _++_}
 use mathlib.Core.Logic.{_⊎_, inl, inr}
 use Prim.Native.Nat.{ℕ, _+_, _-_, _*_, _/_, _%_, _^_, _≤_, _<_}
@@ -10,21 +10,20 @@ use lib.Seq.{getD-append-add, getD-drop, getD-set-other, length-take-le}
 use lib.Dec.{ltb}
 use borrow.Author.Tests.{lt-ltb, le-ltb}
 use Rattle.word.specs.Sets.{choose}
-use Rattle.word.specs.Bits.{bit, pack, wordOf, member, tabFrom, wordsOf}
+use Rattle.word.specs.Bits.{bit, wordOf, member, wordsOf}
 use Rattle.word.proofs.Cases.{by-lt, by-eq}
 use Rattle.word.proofs.Bits.{bit-zero, bit-pack, pack-is, pack-lt}
 use Rattle.word.proofs.Lists.{Fit, at-place, past, length-tab, tab-at, tab-is, length-words, word-at, words-fit}
 use Rattle.word.proofs.Sweep.{getD-set}
 use Rattle.arch.specs.Scans.{filledWords}
 use Rattle.arch.proofs.Regions.{length-filled-words, filled-in, filled-below, filled-above}
-use Rattle.storage.specs.Stores.{Bits, Bounded, Outcome, refused, done, Op, limit, checked, view, beside, wordAt, written, zeroed, answer, store, Leaves, outcome, Changes}
+use Rattle.storage.specs.Stores.{Bits, Bounded, Outcome, refused, done, Op, checked, view, beside, wordAt, written, zeroed, answer, store, Leaves, outcome, Changes}
 use Rattle.storage.specs.declared.Bitmap.{Bitmap}
 use Rattle.storage.specs.declared.Refusal.{Refusal}
-use Rattle.storage.specs.declared.Change.{Change}
 use Rattle.storage.specs.declared.Change.the-variants.{Done, Refused}
 use Rattle.storage.specs.declared.Guard.the-variants.{Pass, Stop}
 use Rattle.storage.proofs.Checks.{Passed, checked-ok, stopped, beside-stopped}
-use Rattle.storage.proofs.Views.{view-in, view-out, view-count, bounded-view}
+use Rattle.storage.proofs.Views.{view-in, view-out}
 
 -- ---- the store afterwards, by its words and their bits
 

@@ -9,8 +9,8 @@ use lib.ListN.{length, getD, take}
 use lib.Seq.{length-take-le, getD-take}
 use lib.Dec.{eqb}
 use borrow.Author.Tests.{eqb-true, eqb-false, not-true, not-false}
-use Rattle.word.specs.Sets.{leastFrom, topBelow, Least, Top}
-use Rattle.word.specs.Bits.{bit, pack, wordOf, member}
+use Rattle.word.specs.Sets.{leastFrom, topBelow, Top}
+use Rattle.word.specs.Bits.{bit, wordOf, member}
 use Rattle.word.proofs.Cases.{by-lt, by-eq, by-test}
 use Rattle.word.proofs.Bits.{bit-zero, bit-pack, pack-lt, pack-is}
 use Rattle.word.proofs.Sets.{least, top}

@@ -1,18 +1,17 @@
 -- The first words of a store, as a set. Assumes nothing.
-use mathlib.Core.Path.{_≡_, refl, sym, ap, ap₂, _∙_, fun-ext}
-use mathlib.Core.Bool.{Bool, true, false, _&&_}
+use mathlib.Core.Path.{_≡_, refl, sym, ap, _∙_, fun-ext}
+use mathlib.Core.Bool.{Bool, false, _&&_}
 use mathlib.Core.List.{List}
 use Prim.Native.Nat.{ℕ, _+_, _*_, _/_, _%_, _^_, _≤_, _<_}
 use native.Mathlib.Omega.{arith}
-use lib.ListN.{length, getD, take, length-take}
+use lib.ListN.{length, getD, take}
 use lib.Seq.{getD-take, length-take-le}
-use lib.Dec.{ltb}
 use borrow.Author.Tests.{lt-ltb, le-ltb}
-use Rattle.word.specs.Bits.{bit, pack, wordOf, member}
+use Rattle.word.specs.Bits.{bit, wordOf, member}
 use Rattle.word.proofs.Cases.{by-lt}
 use Rattle.word.proofs.Bits.{pack-is}
-use Rattle.word.proofs.Lists.{at-word, at-bit, at-place, member-at, member-past}
-use Rattle.storage.specs.Stores.{Bits, Bounded, view}
+use Rattle.word.proofs.Lists.{at-word, member-at, member-past}
+use Rattle.storage.specs.Stores.{Bounded, view}
 
 pub view-count : (ws : List ℕ) (n : ℕ) → view ws n .count ≡ n
 unfolding view

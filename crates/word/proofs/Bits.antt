@@ -2,20 +2,16 @@
 use mathlib.Core.Path.{_≡_, refl, sym, ap, ap₂, _∙_, subst}
 use mathlib.Core.Logic.{⊎-elim}
 use mathlib.Core.Bool.{Bool, true, false, not, _&&_, _||_}
-use Prim.Native.Nat.{ℕ, zero, suc, _+_, _-_, _*_, _/_, _%_, _^_, _≤_, _<_, min}
-use native.Mathlib.Nat.{not-suc-le-zero, eq-or-lt-of-le, le-of-suc-le-suc, mod-lt, div-eq-of-lt, pow-suc, add-mul, zero-div, mul-assoc, mod-eq-of-lt, lt-of-lt-of-le, div-one, div-div-eq-div-mul, mul-comm, add-zero, one-mul, mod-self}
+use Prim.Native.Nat.{ℕ, zero, suc, _+_, _-_, _*_, _/_, _%_, _^_, _≤_, _<_}
+use native.Mathlib.Nat.{not-suc-le-zero, eq-or-lt-of-le, le-of-suc-le-suc, mod-lt, div-eq-of-lt, pow-suc, add-mul, zero-div, mul-assoc, lt-of-lt-of-le, div-one, add-zero}
 use native.Mathlib.Omega.{arith}
-use native.Mathlib.Numerals.{add-one}
-use borrow.Author.Tests.{lt-ltb, le-ltb, le-leb, lt-leb, leb-true, leb-false, ltb-true, ltb-false, eq-eqb, ne-eqb}
-use native.Mathlib.Decide.{ℕ-discrete, decLt}
+use borrow.Author.Tests.{leb-true, leb-false, ltb-true, ltb-false, ne-eqb}
 use lib.Dec.{ltb, leb, eqb}
-use lib.Count.{trailingZeros, under}
-use lib.Arith.{digits-mod, digits-lt}
-use lib.Pow.{pow-pos, pow-mono, pow-lt, pow-add, split, high, low, shr-shr, shl-shr, field, mod-mod-pow, ones-split, ones-lt, ones-sub-lt, shr-lt}
-use lib.Bits.{bitAnd, bitOr, bitXor, and-shr, or-shr, xor-shr, and-mod, or-mod, xor-mod, and-lt, shifted-even}
+use lib.Pow.{pow-pos, pow-mono, pow-add, split, high, low, shr-shr, shl-shr, field, mod-mod-pow, ones-split, ones-lt, shr-lt}
+use lib.Bits.{bitAnd, bitOr, bitXor, and-shr, or-shr, xor-shr, and-mod, or-mod, xor-mod, shifted-even}
 use Rattle.word.specs.Sets.{val, xorb}
-use Rattle.word.specs.Bits.{isOne, bit, pack, wordOf, member}
-use Rattle.word.proofs.Cases.{by-lt, eqb-same, or-false}
+use Rattle.word.specs.Bits.{isOne, bit, pack}
+use Rattle.word.proofs.Cases.{eqb-same}
 
 -- ---- the three operations, digit by digit
 

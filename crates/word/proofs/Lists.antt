@@ -1,13 +1,13 @@
 -- Lists made from an index, and words that are determined by their set. Assumes nothing.
 use mathlib.Core.Path.{_≡_, refl, sym, ap, ap₂, _∙_, subst}
 use mathlib.Core.Bool.{Bool, false}
-use mathlib.Core.List.{List, [], _∷_}
+use mathlib.Core.List.{List}
 use Prim.Native.Nat.{ℕ, zero, suc, _+_, _*_, _/_, _%_, _^_, _≤_, _<_}
 use native.Mathlib.Nat.{not-suc-le-zero, le-of-suc-le-suc, add-zero, add-suc, suc-add, zero-add}
 use native.Mathlib.Omega.{arith}
 use lib.ListN.{length, getD, List·getD-eq-default}
 use lib.Seq.{ext-getD}
-use Rattle.word.specs.Bits.{bit, pack, wordOf, member, tabFrom, wordsOf}
+use Rattle.word.specs.Bits.{bit, wordOf, member, tabFrom, wordsOf}
 use Rattle.word.proofs.Cases.{by-lt}
 use Rattle.word.proofs.Bits.{bit-zero, pack-lt, bit-pack, pack-is}
 

@@ -5,17 +5,17 @@ use Prim.Native.Nat.{ℕ, zero, suc, _+_, _-_, _*_, _/_, _%_, _^_, _≤_, _<_}
 use native.Mathlib.Nat.{mod-lt, div-eq-of-lt, lt-of-lt-of-le, mul-mod-left, mul-assoc, one-mul, mod-self, mod-eq-of-lt, div-one, pow-suc}
 use native.Mathlib.Numerals.{one-add}
 use native.Mathlib.Omega.{arith}
-use borrow.Author.Tests.{lt-ltb, le-ltb, le-leb, lt-leb, leb-true, leb-false, ltb-true, ltb-false, eq-eqb, ne-eqb}
+use borrow.Author.Tests.{lt-ltb, le-ltb, le-leb, lt-leb, eq-eqb, ne-eqb}
 use lib.Dec.{ltb, leb, eqb}
-use lib.Count.{ones, ones-cat, leadingZeros, leading-length, leading-top, leading-of-zero, trailingZeros, under}
+use lib.Count.{ones, ones-cat, leadingZeros, leading-top, leading-of-zero, trailingZeros, under}
 use lib.Pow.{pow-pos, pow-mono, pow-lt, pow-add, split, ones-lt, ones-sub-lt, shr-lt}
 use lib.Bits.{bitAnd, bitOr, and-lt, or-lt}
-use Rattle.word.specs.Sets.{choose, val, countBelow, leastFrom, topBelow, Least, Top}
-use Rattle.word.specs.Bits.{isOne, bit, pack}
+use Rattle.word.specs.Sets.{choose, val, countBelow, leastFrom, topBelow, Least}
+use Rattle.word.specs.Bits.{isOne, bit}
 use Rattle.word.specs.Words.{lowMask, single, mirrored, withoutLeast, funneled, pairBit, LeastRemoved, Mirrors, FromPlace}
-use Rattle.word.proofs.Cases.{by-lt, by-eq, by-test, or-false, and-false, and-keep, and-same}
-use Rattle.word.proofs.Bits.{bit-and, bit-or, bit-zero, bit-shr, bit-past, bit-mod, bit-cat-low, bit-cat-high, bit-shl, bit-shl-mod, bit-ones, bit-not, bit-suc, bits-ext, pack-lt, bit-pack, pack-is, pack-bit, bit-one, no-bits}
-use Rattle.word.proofs.Sets.{count-ext, least, least-is, least-suc, least-ext, top-is}
+use Rattle.word.proofs.Cases.{by-lt, by-eq, or-false, and-false, and-keep, and-same}
+use Rattle.word.proofs.Bits.{bit-and, bit-or, bit-zero, bit-shr, bit-past, bit-mod, bit-cat-low, bit-cat-high, bit-shl-mod, bit-ones, bit-not, bit-suc, bits-ext, pack-lt, bit-pack, pack-is, bit-one, no-bits}
+use Rattle.word.proofs.Sets.{count-ext, least, least-suc, least-ext, top-is}
 
 -- ---- the language's counts
 

@@ -1,4 +1,3 @@
-use native.Mathlib.Omega.{arith}
 use borrow.Author.Needs.{needs}
 use Rattle.arch.proofs.Scans.{found-at, found-none}
 use Rattle.arch.proofs.first_nonzero.Statement.{statement}
