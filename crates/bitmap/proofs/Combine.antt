@@ -26,7 +26,8 @@ use Rattle.storage.proofs.Checks.{Passed, beside-ok, within-ok, within-no}
 use Rattle.storage.proofs.Views.{view-count, view-in, view-out}
 use Rattle.storage.proofs.Stores.{changes-done, changes-refused, length-zeroed, zeroed-in, zeroed-out, zeroed-fit, grown-bit}
 use Rattle.storage.proofs.Trims.{trimmed-holds, trimmed-least, trimmed-view, trimmed-length, trimmed-stored, front-none, front-last, front-zero}
-use Rattle.bitmap.specs.Bitmaps.{combining, uniting, wordAndNot, Zipped}
+use Rattle.bitmap.specs.Bitmaps.{combining, uniting}
+use Rattle.bitmap.specs.Kernels.{wordAndNot, Zipped}
 
 -- ---- the call with a second bitmap, done: the store afterwards holds the combined set in its first u words
 

@@ -24,7 +24,8 @@ use Rattle.storage.specs.declared.Change.the-variants.{Done, Refused}
 use Rattle.storage.proofs.Checks.{Passed, within-ok, within-no}
 use Rattle.storage.proofs.Views.{view-count}
 use Rattle.storage.proofs.Stores.{changes-done, changes-refused, length-zeroed, zeroed-out, zeroed-fit, grown-bit}
-use Rattle.bitmap.specs.Bitmaps.{listed, reachOf, settingMany, Listed}
+use Rattle.bitmap.specs.Bitmaps.{listed, reachOf, settingMany}
+use Rattle.bitmap.specs.Kernels.{Listed}
 
 -- ---- one more of the list
 

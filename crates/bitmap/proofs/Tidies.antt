@@ -29,7 +29,8 @@ use Rattle.storage.proofs.Checks.{Passed, within-ok, within-no}
 use Rattle.storage.proofs.Views.{view-count, view-in, view-out}
 use Rattle.storage.proofs.Stores.{Stored, changes-done, changes-refused, word-stored, length-zeroed, zeroed-out, zeroed-fit, grown-bit}
 use Rattle.storage.proofs.Trims.{trimmed-length, trimmed-stored}
-use Rattle.bitmap.specs.Bitmaps.{tidied, tidyCount, keepingBit, droppingBit, flippingBit}
+use Rattle.bitmap.specs.Bitmaps.{tidied, keepingBit, droppingBit, flippingBit}
+use Rattle.bitmap.specs.Kernels.{tidyCount}
 
 -- ---- the count
 

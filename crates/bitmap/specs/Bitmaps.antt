@@ -1,14 +1,10 @@
 -- The calls of bitmap.rs, on sets and counts (01, "Words that enter and leave use").
-use Prim.Native.Nat.{ℕ, suc, _+_, _-_, _*_, _/_, _^_, _≤_, _<_, max}
-use mathlib.Core.Path.{_≡_}
+use Prim.Native.Nat.{ℕ, suc, _+_, _-_, _/_, _^_, max}
 use mathlib.Core.Bool.{Bool, false, not, _&&_, _||_}
 use mathlib.Core.List.{List, [], _∷_}
-use lib.ListN.{length, getD, take}
-use lib.Bits.{bitAnd}
 use lib.Dec.{ltb, leb, eqb}
 use Rattle.word.specs.Sets.{choose, xorb}
-use Rattle.word.specs.Bits.{bit, wordOf}
-use Rattle.arch.specs.Scans.{nonzeroLen}
+use Rattle.word.specs.Bits.{wordOf}
 use Rattle.storage.specs.Stores.{Bits, refused, done, Op, within, trimmed, combined}
 use Rattle.storage.specs.declared.Refusal.the-variants.{IndexOver}
 
@@ -77,23 +73,3 @@ droppingBit i c b = done (tidied (i / 64) (record { members = λ j. b .members j
 unfoldable pub flippingBit : ℕ → Op
 unfolding tidied
 flippingBit i c b = within c (tidied (i / 64) (record { members = λ j. xorb (b .members j) (eqb j i); count = max (b .count) (upTo i) }))
-
--- for the private loops: the words below e are op of the two, the others are as they were
-abbrev pub wordAndNot : ℕ → ℕ → ℕ
-wordAndNot x y = bitAnd x ((2 ^ 64 - 1) - y)
-
-pub record Zipped (op : ℕ → ℕ → ℕ) (ws os : List ℕ) (e : ℕ) (ws' : List ℕ) : Type 0 where
-  pub long : length ws' ≡ length ws
-  pub below : (k : ℕ) → k < e → getD ws' k 0 ≡ op (getD ws k 0) (getD os k 0)
-  pub above : (k : ℕ) → e ≤ k → getD ws' k 0 ≡ getD ws k 0
-
--- for the private `set_listed`: the listed bits are set, and words that have none are as they were
-pub record Listed (ws is ws' : List ℕ) : Type 0 where
-  pub long : length ws' ≡ length ws
-  pub fits : (k : ℕ) → getD ws k 0 < 2 ^ 64 → getD ws' k 0 < 2 ^ 64
-  pub bits : (k j : ℕ) → j < 64 → bit (getD ws' k 0) j ≡ bit (getD ws k 0) j || listed is (64 * k + j)
-  pub above : (k : ℕ) → reachOf is ≤ k → getD ws' k 0 ≡ getD ws k 0
-
--- for the private `tidy`: the trimmed count where word k is the last of n and is 0
-unfoldable pub tidyCount : List ℕ → ℕ → ℕ → ℕ
-tidyCount ws n k = choose (eqb (suc k) n && eqb (getD ws k 0) 0) (nonzeroLen (take n ws)) n

@@ -1,2 +1,3 @@
 pub mod Bitmaps
+pub mod Kernels
 pub mod Promises

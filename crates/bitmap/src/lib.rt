@@ -11,7 +11,8 @@ ghost use lib.ListN.{length};
 ghost use lib.Bits.{bitAnd, bitOr, bitXor};
 ghost use Rattle.word.specs.Sets.{xorb};
 ghost use Rattle.storage.specs.Stores.{andNot, beside, Changes};
-ghost use Rattle.bitmap.specs.Bitmaps.{trimming, setting, unsetting, settingMany, settingRegion, combining, uniting, keepingBit, droppingBit, flippingBit, wordAndNot, Zipped, reachOf, Listed, tidyCount};
+ghost use Rattle.bitmap.specs.Bitmaps.{trimming, setting, unsetting, settingMany, settingRegion, combining, uniting, keepingBit, droppingBit, flippingBit, reachOf};
+ghost use Rattle.bitmap.specs.Kernels.{wordAndNot, Zipped, Listed, tidyCount};
 
 // Drops trailing zero words.
 pub fn trim(words: &[u64], b: Bitmap) -> Change

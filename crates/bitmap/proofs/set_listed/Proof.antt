@@ -4,7 +4,7 @@ use Prim.Native.Nat.{_-_, _≤_, ℕ}
 use native.Mathlib.Omega.{arith}
 use lib.ListN.{length, take}
 use borrow.Author.Needs.{needs}
-use Rattle.bitmap.specs.Bitmaps.{Listed}
+use Rattle.bitmap.specs.Kernels.{Listed}
 use Rattle.bitmap.proofs.Many.{reach-in, take-all, listed-none, listed-next}
 use Rattle.bitmap.proofs.set_listed.Statement.{statement}
 use Rattle.bitmap.proofs.set_listed.Tie as tie

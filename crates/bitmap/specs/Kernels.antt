@@ -1,0 +1,33 @@
+-- What the private functions of this crate make of words.
+use Prim.Native.Nat.{ℕ, suc, _+_, _-_, _*_, _^_, _≤_, _<_}
+use mathlib.Core.Path.{_≡_}
+use mathlib.Core.Bool.{_&&_, _||_}
+use mathlib.Core.List.{List}
+use lib.ListN.{length, getD, take}
+use lib.Bits.{bitAnd}
+use lib.Dec.{eqb}
+use Rattle.word.specs.Sets.{choose}
+use Rattle.word.specs.Bits.{bit}
+use Rattle.arch.specs.Scans.{nonzeroLen}
+use Rattle.bitmap.specs.Bitmaps.{listed, reachOf}
+
+-- the places of x that y does not have
+abbrev pub wordAndNot : ℕ → ℕ → ℕ
+wordAndNot x y = bitAnd x ((2 ^ 64 - 1) - y)
+
+-- the words below e are op of the two, the others are as they were
+pub record Zipped (op : ℕ → ℕ → ℕ) (ws os : List ℕ) (e : ℕ) (ws' : List ℕ) : Type 0 where
+  pub long : length ws' ≡ length ws
+  pub below : (k : ℕ) → k < e → getD ws' k 0 ≡ op (getD ws k 0) (getD os k 0)
+  pub above : (k : ℕ) → e ≤ k → getD ws' k 0 ≡ getD ws k 0
+
+-- the listed bits are set, and words that have none are as they were
+pub record Listed (ws is ws' : List ℕ) : Type 0 where
+  pub long : length ws' ≡ length ws
+  pub fits : (k : ℕ) → getD ws k 0 < 2 ^ 64 → getD ws' k 0 < 2 ^ 64
+  pub bits : (k j : ℕ) → j < 64 → bit (getD ws' k 0) j ≡ bit (getD ws k 0) j || listed is (64 * k + j)
+  pub above : (k : ℕ) → reachOf is ≤ k → getD ws' k 0 ≡ getD ws k 0
+
+-- the trimmed count where word k is the last of n and is 0
+unfoldable pub tidyCount : List ℕ → ℕ → ℕ → ℕ
+tidyCount ws n k = choose (eqb (suc k) n && eqb (getD ws k 0) 0) (nonzeroLen (take n ws)) n
