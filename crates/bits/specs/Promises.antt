@@ -3,7 +3,8 @@ use Prim.Native.Nat.{ℕ, _+_, _*_, _≤_, _<_}
 use mathlib.Core.Path.{_≡_}
 use mathlib.Core.Bool.{true, false, not}
 use Rattle.word.specs.Sets.{Counts}
-use Rattle.storage.specs.Stores.{Bits, size}
+use Rattle.storage.specs.Refusals.{numberOf}
+use Rattle.storage.specs.Stores.{Bits, Outcome, refused, done, size}
 use Rattle.storage.specs.declared.Found.{Found}
 use Rattle.storage.specs.declared.Found.the-variants.{At, Nothing, Refused}
 use Rattle.bits.specs.Bits.{clearSize, countRegion, rankOf}
@@ -17,6 +18,16 @@ pub record Inverted (b s : Bits) : Type 0 where
   pub count : s .count ≡ b .count
   pub below : (i : ℕ) → i < 64 * b .count → s .members i ≡ not (b .members i)
   pub past : (i : ℕ) → 64 * b .count ≤ i → s .members i ≡ false
+
+-- `toggle`: done below the length, 5 exactly from there on
+abbrev pub Toggling : ℕ → Bits → Outcome → Type 0
+Toggling i b (done s) = (i < 64 * b .count) × Toggled i b s
+Toggling i b (refused e) = (64 * b .count ≤ i) × (numberOf e ≡ 5)
+
+-- a call that is always done, by the rule
+abbrev pub Always : (Bits → Bits → Type 0) → Bits → Outcome → Type 0
+Always rule b (done s) = rule b s
+Always rule b (refused e) = ⊥
 
 -- the mirror of each number, over the whole length
 pub record Reversed (b s : Bits) : Type 0 where
