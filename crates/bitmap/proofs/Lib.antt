@@ -3,4 +3,5 @@ pub mod Singles
 pub mod Many
 pub mod Tidies
 pub mod Regions
+pub mod Sounds
 pub mod Promises

@@ -13,35 +13,16 @@ use Rattle.word.specs.Bits.{wordOf}
 use Rattle.word.proofs.Cases.{by-lt, by-test, or-false, and-false, and-keep, or-true, xor-true, xor-false}
 use Rattle.word.proofs.Lists.{word-none, word-zero}
 use Rattle.storage.specs.Refusals.{numberOf}
-use Rattle.storage.specs.Stores.{Bits, refused, done, within, trimmedCount, trimmed, combined}
-use Rattle.storage.specs.Promises.{LeastCount}
-use Rattle.storage.specs.declared.Refusal.{Refusal}
-use Rattle.storage.proofs.Checks.{within-ok, within-no, within-done}
+use Rattle.storage.specs.Stores.{Bits, Bounded, done, trimmedCount, trimmed, combined}
+use Rattle.storage.specs.Promises.{LeastCount, Meets, Never, Lacks}
+use Rattle.storage.proofs.Checks.{within-done}
+use Rattle.storage.proofs.Outcomes.{same, never, which, lacks}
 use Rattle.storage.proofs.Promises.{least-count}
 use Rattle.bitmap.specs.Bitmaps.{trimming, setting, unsetting, listed, reachOf, settingMany, settingRegion, combining, uniting, tidied, keepingBit, droppingBit, flippingBit}
-use Rattle.bitmap.specs.Promises.{Meets, Never, Lacks, WithBit, WithListed, LacksListed, WithoutBit, Fewest, WithRegion, Combines, Unites, Tidied, OnlyBit, FlippedBit, ThenTidied}
+use Rattle.bitmap.specs.Promises.{WithBit, WithListed, LacksListed, WithoutBit, Fewest, WithRegion, Combines, Unites, Tidied, OnlyBit, FlippedBit, ThenTidied}
 use Rattle.bitmap.proofs.Many.{reach-in, reach-who, reach-under, listed-at, listed-who}
+use Rattle.bitmap.proofs.Sounds.{setting-sound, many-sound, unsetting-sound, trimming-sound, combining-sound, uniting-sound, region-sound, keeping-sound, dropping-sound, flipping-sound}
 use Rattle.bitmap.proofs.Regions.{region-none, region-over, region-put}
-
-same : {b s : Bits} → done b ≡ done s → b ≡ s
-same e = cc
-
-never : {b : Bits} {e : Refusal} → done b ≡ refused e → ⊥
-never q = let z : _≡_ {A = ℕ} 0 1 = cc in omega arith
-
-which : {d e : Refusal} → refused d ≡ refused e → d ≡ e
-which q = cc
-
--- a result that was refused for space has too many words
-lacks : (c : ℕ) (b : Bits) (e : Refusal) → within c b ≡ refused e → (numberOf e ≡ 6) × (c < b .count)
-lacks c b e q =
-    by-lt c (b .count)
-    (λ h. (ap numberOf (which (sym q ∙ within-no c b h)), h))
-    (λ h. absurd (never (sym (within-ok c b h) ∙ q)))
-
--- and one that was not has few enough
-roomy : (c : ℕ) (b s : Bits) → within c b ≡ done s → s .count ≤ c
-roomy c b s e = subst (λ (x : Bits). x .count ≤ c) (within-done c b s e .0) (within-done c b s e .1)
 
 pub sets : (i : ℕ) → Meets (setting i) (λ c b s. WithBit i b s) (Lacks (λ b. max (b .count) (i / 64 + 1)))
 unfolding setting
@@ -53,7 +34,7 @@ sets i = record {
         here = ap (λ (t : Bool). b .members i || t) (eq-eqb i i refl) ∙ or-true (b .members i);
         others = λ j n. ap (λ (t : Bool). b .members j || t) (ne-eqb j i n) ∙ or-false (b .members j);
       });
-  space = λ c b s h e. roomy c _ s e;
+  sound = setting-sound i;
   why = λ c b e q. lacks c _ e q;
 }
 
@@ -70,7 +51,7 @@ sets-many is = record {
         reached = λ t l. omega (arith, reach-in is t l);
         least = λ n h r. omega (arith, reach-under is n r);
       });
-  space = λ c b s h e. roomy c _ s e;
+  sound = many-sound is;
   why = λ c b e q.
       let r = lacks c (record { members = λ j. b .members j || listed is j; count = max (b .count) (reachOf is) }) e q in
       (r .0, by-lt c (b .count) (λ l. inl l) (λ l. inr (reach-who is c (omega (arith, r .1)))));
@@ -86,7 +67,7 @@ unsets i = record {
         here = ap (λ (t : Bool). b .members i && not t) (eq-eqb i i refl) ∙ and-false (b .members i);
         others = λ j n. ap (λ (t : Bool). b .members j && not t) (ne-eqb j i n) ∙ and-keep (b .members j);
       });
-  space = λ c b s h e. subst (λ (x : Bits). x .count ≤ c) (same e) h;
+  sound = unsetting-sound i;
   why = λ c b e q. never q;
 }
 
@@ -94,24 +75,24 @@ pub trims : Meets trimming (λ c b s. Fewest b s) Never
 unfolding trimming
 trims = record {
   made = λ c b s e. subst (Fewest b) (same e) (record { same = λ i. refl; count = least-count (b .members) (b .count) });
-  space = λ c b s h e. subst (λ (x : Bits). x .count ≤ c) (same e) (omega (arith, least-count (b .members) (b .count) .low));
+  sound = trimming-sound;
   why = λ c b e q. never q;
 }
 
-pub combines : (f : Bool → Bool → Bool) (o : Bits)
+pub combines : (f : Bool → Bool → Bool) → f false false ≡ false → (o : Bits) → Bounded o
     → Meets (combining f o) (λ c b s. Combines f o b s) (Lacks (λ b. trimmedCount (combined f b o .members) (combined f b o .count)))
 unfolding combining combined
-combines f o = record {
+combines f e o k = record {
   made = λ c b s e.
       subst (Combines f o b) (within-done c _ s e .0)
       (record { each = λ i. refl; count = least-count (λ i. f (b .members i) (o .members i)) (max (b .count) (o .count)) });
-  space = λ c b s h e. roomy c _ s e;
+  sound = combining-sound f e o k;
   why = λ c b e q. lacks c _ e q;
 }
 
-pub unites : (o : Bits) → Meets (uniting o) (λ c b s. Unites o b s) (Lacks (λ b. max (b .count) (o .count)))
+pub unites : (o : Bits) → Bounded o → Meets (uniting o) (λ c b s. Unites o b s) (Lacks (λ b. max (b .count) (o .count)))
 unfolding uniting combined
-unites o = record {
+unites o k = record {
   made = λ c b s e.
       subst (Unites o b) (within-done c _ s e .0)
       (record {
@@ -120,7 +101,7 @@ unites o = record {
         only = λ i t. either (b .members i) (o .members i) t;
         count = refl;
       });
-  space = λ c b s h e. roomy c _ s e;
+  sound = uniting-sound o k;
   why = λ c b e q. lacks c _ e q;
 }
   where
@@ -153,10 +134,7 @@ regions i v k some = record {
       by-lt (2 ^ 64) (i + k)
       (λ h. absurd (never (sym e ∙ region-over i k c v b some h)))
       (λ h. (h, subst (WithRegion i v k b) (within-done c _ s (sym (region-put i k c v b some h) ∙ e) .0) (region-rule i v k b)));
-  space = λ c b s h e.
-      by-lt (2 ^ 64) (i + k)
-      (λ l. absurd (never (sym e ∙ region-over i k c v b some l)))
-      (λ l. roomy c _ s (sym (region-put i k c v b some l) ∙ e));
+  sound = region-sound i v k;
   why = λ c b e q.
       by-lt (2 ^ 64) (i + k)
       (λ h. inl (ap numberOf (which (sym q ∙ region-over i k c v b some h)), h))
@@ -195,14 +173,6 @@ tidies k t = record {
     full : (j : ℕ) → j / 64 ≡ k → t .members j ≡ true → wordOf (t .members) k ≡ 0 → ⊥
     full j e m z = false≢true (sym (word-zero (t .members) k (j % 64) z (omega arith)) ∙ ap (t .members) (omega arith) ∙ m)
 
-tidied-le : (k : ℕ) (t : Bits) → tidied k t .count ≤ t .count
-unfolding tidied
-tidied-le k t = fewer (eqb (suc k) (t .count) && eqb (wordOf (t .members) k) 0)
-  where
-    fewer : (x : Bool) → choose x (trimmed t) t .count ≤ t .count
-    fewer true = omega (arith, least-count (t .members) (t .count) .low)
-    fewer false = omega arith
-
 pub keeps-bit : (i : ℕ) → Meets (keepingBit i) (λ c b s. ThenTidied i (OnlyBit i) b s) Never
 unfolding keepingBit
 keeps-bit i = record {
@@ -217,7 +187,7 @@ keeps-bit i = record {
     },
     subst (Tidied (i / 64) _) (same e) (tidies (i / 64) _),
   );
-  space = λ c b s h e. subst (λ (x : Bits). x .count ≤ c) (same e) (omega (arith, tidied-le (i / 64) (record { members = λ j. b .members j && (not (eqb (j / 64) (i / 64)) || eqb j i); count = b .count })));
+  sound = keeping-sound i;
   why = λ c b e q. never q;
 }
 
@@ -233,7 +203,7 @@ drops-bit i = record {
     },
     subst (Tidied (i / 64) _) (same e) (tidies (i / 64) _),
   );
-  space = λ c b s h e. subst (λ (x : Bits). x .count ≤ c) (same e) (omega (arith, tidied-le (i / 64) (record { members = λ j. b .members j && not (eqb j i); count = b .count })));
+  sound = dropping-sound i;
   why = λ c b e q. never q;
 }
 
@@ -251,6 +221,6 @@ flips-bit i = record {
     },
     subst (Tidied (i / 64) _) (within-done c _ s e .0) (tidies (i / 64) _),
   );
-  space = λ c b s h e. roomy c _ s e;
+  sound = flipping-sound i;
   why = λ c b e q. lacks c _ e q;
 }

@@ -16,14 +16,14 @@ use Rattle.word.proofs.Lists.{Fit, member-at, words-fit}
 use Rattle.arch.specs.Scans.{filled}
 use Rattle.arch.specs.Promises.{Fills}
 use Rattle.arch.proofs.Promises.{fills}
-use Rattle.storage.specs.Stores.{Bits, refused, done, view, within, zeroed, Changes}
+use Rattle.storage.specs.Stores.{Bits, refused, done, view, within, inRegion, zeroed, Changes}
 use Rattle.storage.specs.declared.Bitmap.{Bitmap}
 use Rattle.storage.specs.declared.Refusal.the-variants.{IndexOver, NoSpace}
 use Rattle.storage.specs.declared.Change.the-variants.{Done, Refused}
 use Rattle.storage.proofs.Checks.{Passed, within-ok, within-no}
 use Rattle.storage.proofs.Views.{view-count, view-part, view-in}
 use Rattle.storage.proofs.Stores.{changes-done, changes-refused, part-changes, length-zeroed, zeroed-out, zeroed-fit, grown-bit}
-use Rattle.bitmap.specs.Bitmaps.{inRegion, settingRegion}
+use Rattle.bitmap.specs.Bitmaps.{settingRegion}
 
 -- ---- the filled words
 

@@ -1,20 +1,12 @@
 -- The calls of bitmap.rs, on sets and counts (01, "Words that enter and leave use").
-use Prim.Native.Nat.{ℕ, suc, _+_, _-_, _/_, _^_, max}
+use Prim.Native.Nat.{ℕ, suc, _+_, _-_, _/_, max}
 use mathlib.Core.Bool.{Bool, false, not, _&&_, _||_}
 use mathlib.Core.List.{List, [], _∷_}
-use lib.Dec.{ltb, leb, eqb}
+use lib.Dec.{eqb}
 use Rattle.word.specs.Sets.{choose, xorb}
 use Rattle.word.specs.Bits.{wordOf}
-use Rattle.storage.specs.Stores.{Bits, refused, done, Op, within, trimmed, combined}
+use Rattle.storage.specs.Stores.{Bits, refused, done, Op, within, upTo, inRegion, passes, trimmed, combined}
 use Rattle.storage.specs.declared.Refusal.the-variants.{IndexOver}
-
--- the words up to the one of bit i
-abbrev pub upTo : ℕ → ℕ
-upTo i = i / 64 + 1
-
--- i lies in the k numbers from a on
-abbrev pub inRegion : ℕ → ℕ → ℕ → Bool
-inRegion a k i = leb a i && ltb i (a + k)
 
 unfoldable pub trimming : Op
 trimming c b = done (trimmed b)
@@ -37,10 +29,6 @@ reachOf (i ∷ is) = max (upTo i) (reachOf is)
 
 unfoldable pub settingMany : List ℕ → Op
 settingMany is c b = within c (record { members = λ j. b .members j || listed is j; count = max (b .count) (reachOf is) })
-
--- the last of k > 0 numbers from i on passes 2 ^ 64 - 1
-abbrev pub passes : ℕ → ℕ → Bool
-passes i k = ltb (2 ^ 64) (i + k)
 
 -- the k numbers from i on become members, or none of them stays one
 unfoldable pub settingRegion : ℕ → Bool → ℕ → Op

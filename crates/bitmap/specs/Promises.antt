@@ -5,23 +5,8 @@ use mathlib.Core.Bool.{Bool, true, false, not}
 use mathlib.Core.List.{List}
 use mathlib.Core.Logic.{_⊎_}
 use lib.ListN.{length, getD}
-use Rattle.storage.specs.Refusals.{numberOf}
-use Rattle.storage.specs.Stores.{Bits, refused, done, Op}
+use Rattle.storage.specs.Stores.{Bits}
 use Rattle.storage.specs.Promises.{LeastCount}
-
--- what is done is as the rule says and has space; what is refused gets its number where the condition holds
-pub record Meets (op : Op) (rule : ℕ → Bits → Bits → Type 0) (no : ℕ → Bits → ℕ → Type 0) : Type 0 where
-  pub made : (c : ℕ) (b s : Bits) → op c b ≡ done s → rule c b s
-  pub space : (c : ℕ) (b s : Bits) → b .count ≤ c → op c b ≡ done s → s .count ≤ c
-  pub why : (c : ℕ) (b : Bits) (e : _) → op c b ≡ refused e → no c b (numberOf e)
-
--- a call that is never refused
-abbrev pub Never : ℕ → Bits → ℕ → Type 0
-Never c b k = ⊥
-
--- 6, where the count n of the result is above the capacity
-abbrev pub Lacks : (Bits → ℕ) → ℕ → Bits → ℕ → Type 0
-Lacks n c b k = (k ≡ 6) × (c < n b)
 
 -- `set`: i is a member, every other number is as it was, and the words reach to i's
 pub record WithBit (i : ℕ) (b s : Bits) : Type 0 where

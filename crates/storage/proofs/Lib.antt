@@ -4,4 +4,5 @@ pub mod Views
 pub mod Stores
 pub mod Trims
 pub mod Sizes
+pub mod Outcomes
 pub mod Promises

@@ -13,7 +13,7 @@ use Rattle.word.proofs.Cases.{by-lt, every-at}
 use Rattle.word.proofs.Sets.{least}
 use Rattle.word.proofs.Lists.{determined, at-place, member-at}
 use Rattle.storage.specs.Refusals.{numberOf, changeNumber, changeRecord}
-use Rattle.storage.specs.Stores.{Bits, Bounded, Outcome, refused, done, limit, checked, view, beside, trimmedCount, written, answer, store, outcome, Leaves, foundBelow, nextFrom}
+use Rattle.storage.specs.Stores.{Bits, Bounded, Outcome, refused, done, view, beside, trimmedCount, written, answer, store, outcome, Leaves, foundBelow, nextFrom}
 use Rattle.storage.specs.Promises.{EachNumberOnce, RefusalKeeps, StoresFirst, WordsAndSets, SpaceRules, SpaceExact, LeastCount, NextMember, Chains}
 use Rattle.storage.specs.declared.Bitmap.{Bitmap}
 use Rattle.storage.specs.declared.Refusal.{Refusal}
@@ -22,6 +22,7 @@ use Rattle.storage.specs.declared.Found.the-variants.{At, Nothing}
 use Rattle.storage.specs.declared.Change.{Change}
 use Rattle.storage.specs.declared.Change.the-variants.{Done, Refused}
 use Rattle.storage.proofs.Checks.{checked-ok, checked-long, checked-over, within-ok, within-no}
+use Rattle.storage.proofs.Outcomes.{let-pass}
 use Rattle.storage.proofs.Views.{view-count, bounded-view}
 use Rattle.storage.proofs.Stores.{Stored, written-stored, view-written, written-view, length-written}
 use Rattle.storage.proofs.Trims.{trimmed-le, trimmed-holds, trimmed-least}
@@ -138,20 +139,12 @@ unfolding answer store
 accepted (refused e) ws ws' b b' l = let q : Done b' ≡ Refused e b = l .answers in absurd (let z : _≡_ {A = ℕ} 0 1 = cc in omega arith)
 accepted (done s) ws ws' b b' l = (s, refl, ap (λ (r : Change). changeRecord r .count) (l .answers), l .leaves)
 
-passes : (c n : ℕ) (o : Outcome) (s : Bits) → checked c n refused o ≡ done s → (o ≡ done s) × (n ≤ c)
-passes c n o s q =
-    by-lt limit c
-    (λ h. let z : refused StoreTooLong ≡ done s = sym (checked-long c n refused o h) ∙ q in absurd (let y : _≡_ {A = ℕ} 0 1 = cc in omega arith))
-    (λ h. by-lt c n
-    (λ l. let z : refused CountOverStore ≡ done s = sym (checked-over c n refused o h l) ∙ q in absurd (let y : _≡_ {A = ℕ} 0 1 = cc in omega arith))
-    (λ l. (sym (checked-ok c n refused o h l) ∙ q, l)))
-
 pub chains : Chains
 unfolding outcome
 chains op ws ws' b b' sound l =
     let a = accepted (outcome op ws (b .count)) ws ws' b b' l in
     let s : Bits = a .0 in
-    let p = passes (length ws) (b .count) (op (length ws) (view ws (b .count))) s (a .1) in
+    let p = let-pass (length ws) (b .count) (op (length ws) (view ws (b .count))) s (a .1) in
     let in-view : view ws (b .count) .count ≤ length ws = subst (λ (n : ℕ). n ≤ length ws) (sym (view-count ws (b .count))) (p .1) in
     let room : s .count ≤ length ws = sound .space (length ws) (view ws (b .count)) s (bounded-view ws (b .count)) in-view (p .0) in
     let bound : Bounded s = sound .bound (length ws) (view ws (b .count)) s (bounded-view ws (b .count)) in-view (p .0) in

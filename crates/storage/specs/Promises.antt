@@ -73,6 +73,20 @@ pub record Sound (op : Op) : Type 0 where
   pub space : (c : ℕ) (b s : Bits) → Bounded b → b .count ≤ c → op c b ≡ done s → s .count ≤ c
   pub bound : (c : ℕ) (b s : Bits) → Bounded b → b .count ≤ c → op c b ≡ done s → Bounded s
 
+-- what is done is as the rule says, has space and no member past its words; what is refused gets its number where the condition holds
+pub record Meets (op : Op) (rule : ℕ → Bits → Bits → Type 0) (no : ℕ → Bits → ℕ → Type 0) : Type 0 where
+  pub made : (c : ℕ) (b s : Bits) → op c b ≡ done s → rule c b s
+  pub sound : Sound op
+  pub why : (c : ℕ) (b : Bits) (e : Refusal) → op c b ≡ refused e → no c b (numberOf e)
+
+-- a call that is never refused
+abbrev pub Never : ℕ → Bits → ℕ → Type 0
+Never c b k = ⊥
+
+-- 6, where the count n of the result is above the capacity
+abbrev pub Lacks : (Bits → ℕ) → ℕ → Bits → ℕ → Type 0
+Lacks n c b k = (k ≡ 6) × (c < n b)
+
 -- calls in a row: the next call on the record and the store that a call left sees exactly what the operation made
 pub record Seen (op : Op) (ws : List ℕ) (b b' : Bitmap) (ws' : List ℕ) (s : Bits) : Type 0 where
   pub made : op (length ws) (view ws (b .count)) ≡ done s

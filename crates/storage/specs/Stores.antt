@@ -1,11 +1,11 @@
 -- What a call makes of a bitmap. Its meaning is a set of numbers and a word count; a call is an operation on those, and the words follow:
 -- word k in use is the set's, a word that falls out of use is 0, and a word outside both counts is as it was (01, "Words that enter and leave use").
-use Prim.Native.Nat.{ℕ, _+_, _-_, _*_, _/_, _≤_, max}
+use Prim.Native.Nat.{ℕ, _+_, _-_, _*_, _/_, _^_, _≤_, max}
 use mathlib.Core.Path.{_≡_}
 use mathlib.Core.Bool.{Bool, false, not, _&&_}
 use mathlib.Core.List.{List}
 use lib.ListN.{length, getD}
-use lib.Dec.{ltb}
+use lib.Dec.{ltb, leb}
 use Rattle.word.specs.Sets.{choose, countBelow, leastFrom, topBelow}
 use Rattle.word.specs.Bits.{wordOf, member, tabFrom}
 use Rattle.arch.specs.Scans.{filledWords}
@@ -33,6 +33,11 @@ pub data Outcome : Type 0 where
 -- an operation, from the store's capacity in words and the bitmap's meaning
 abbrev pub Op : Type 0
 Op = ℕ → Bits → Outcome
+
+-- one operation after another: the second sees what the first made, and a refusal stays
+unfoldable pub andThen : Outcome → (Bits → Outcome) → Outcome
+andThen (refused e) next = refused e
+andThen (done s) next = next s
 
 -- the most words that a store may have
 abbrev pub limit : ℕ
@@ -80,6 +85,18 @@ nextFrom b i = foundBelow (64 * b .count) (leastFrom (b .members) i (64 * b .cou
 -- 6 where the result has more words than there are
 unfoldable pub within : ℕ → Bits → Outcome
 within c b = choose (ltb c (b .count)) (refused NoSpace) (done b)
+
+-- the words up to the one of bit i
+abbrev pub upTo : ℕ → ℕ
+upTo i = i / 64 + 1
+
+-- i lies in the k numbers from a on
+abbrev pub inRegion : ℕ → ℕ → ℕ → Bool
+inRegion a k i = leb a i && ltb i (a + k)
+
+-- the last of k > 0 numbers from i on passes 2 ^ 64 - 1
+abbrev pub passes : ℕ → ℕ → Bool
+passes i k = ltb (2 ^ 64) (i + k)
 
 -- the words that n bits need
 unfoldable pub wordsFor : ℕ → ℕ

@@ -1,0 +1,128 @@
+-- Results of the operations have space and hold no member past their words. Assumes nothing.
+use mathlib.Core.Path.{_≡_, refl, sym, ap, ap₂, _∙_}
+use mathlib.Core.Bool.{Bool, true, false, not, _&&_, _||_}
+use mathlib.Core.List.{List}
+use Prim.Native.Nat.{ℕ, suc, _+_, _-_, _*_, _/_, _^_, _≤_, max}
+use native.Mathlib.Omega.{arith}
+use lib.Dec.{leb, eqb}
+use borrow.Author.Tests.{le-ltb, ne-eqb}
+use Rattle.word.specs.Sets.{choose, xorb}
+use Rattle.word.specs.Bits.{wordOf}
+use Rattle.word.proofs.Cases.{by-lt, by-eq, by-test, and-false}
+use Rattle.storage.specs.Stores.{Bits, Bounded, inRegion, trimmed, combined}
+use Rattle.storage.specs.Promises.{Sound}
+use Rattle.storage.proofs.Outcomes.{never, sound-within, sound-done}
+use Rattle.storage.proofs.Trims.{bounded-trimmed}
+use Rattle.storage.proofs.Promises.{least-count}
+use Rattle.bitmap.specs.Bitmaps.{trimming, setting, unsetting, listed, reachOf, settingMany, settingRegion, combining, uniting, tidied, keepingBit, droppingBit, flippingBit}
+use Rattle.bitmap.proofs.Many.{reach-in, listed-who}
+use Rattle.bitmap.proofs.Regions.{region-none, region-over, region-put}
+
+pub setting-sound : (i : ℕ) → Sound (setting i)
+unfolding setting
+setting-sound i =
+    sound-within (setting i) (λ b. record { members = λ j. b .members j || eqb j i; count = max (b .count) (i / 64 + 1) }) (λ c b. refl)
+    (λ b h. record { past = λ j l. ap₂ (λ (x y : Bool). x || y) (h .past j (omega arith)) (ne-eqb j i (omega arith)) })
+
+pub many-sound : (is : List ℕ) → Sound (settingMany is)
+unfolding settingMany
+many-sound is =
+    sound-within (settingMany is) (λ b. record { members = λ j. b .members j || listed is j; count = max (b .count) (reachOf is) }) (λ c b. refl)
+    (λ b h. record { past = λ j l. ap₂ (λ (x y : Bool). x || y) (h .past j (omega arith)) (unlisted j (omega arith)) })
+  where
+    unlisted : (j : ℕ) → 64 * reachOf is ≤ j → listed is j ≡ false
+    unlisted j l = by-test (listed is j) (λ y. let r = listed-who is j y in absurd (omega (arith, reach-in is (r .0) (r .1 .0), r .1 .1))) (λ n. n)
+
+pub unsetting-sound : (i : ℕ) → Sound (unsetting i)
+unfolding unsetting
+unsetting-sound i =
+    sound-done (unsetting i) (λ b. record { members = λ j. b .members j && not (eqb j i); count = b .count }) (λ c b. refl) (λ b. omega arith)
+    (λ b h. record { past = λ j l. ap (λ (x : Bool). x && not (eqb j i)) (h .past j l) })
+
+pub trimming-sound : Sound trimming
+unfolding trimming
+trimming-sound = sound-done trimming trimmed (λ c b. refl) (λ b. omega (arith, least-count (b .members) (b .count) .low)) bounded-trimmed
+
+bounded-combined : (f : Bool → Bool → Bool) → f false false ≡ false → (b o : Bits) → Bounded b → Bounded o → Bounded (combined f b o)
+unfolding combined
+bounded-combined f e b o h k = record { past = λ i l. ap₂ f (h .past i (omega arith)) (k .past i (omega arith)) ∙ e }
+
+pub combining-sound : (f : Bool → Bool → Bool) → f false false ≡ false → (o : Bits) → Bounded o → Sound (combining f o)
+unfolding combining
+combining-sound f e o k =
+    sound-within (combining f o) (λ b. trimmed (combined f b o)) (λ c b. refl) (λ b h. bounded-trimmed (combined f b o) (bounded-combined f e b o h k))
+
+pub uniting-sound : (o : Bits) → Bounded o → Sound (uniting o)
+unfolding uniting
+uniting-sound o k = sound-within (uniting o) (λ b. combined _||_ b o) (λ c b. refl) (λ b h. bounded-combined _||_ refl b o h k)
+
+-- ---- a region
+
+region : ℕ → Bool → ℕ → Bits → Bits
+region i v k b = record { members = λ p. choose (inRegion i k p) v (b .members p); count = choose v (max (b .count) ((i + k - 1) / 64 + 1)) (b .count) }
+
+bounded-region : (i k : ℕ) (v : Bool) → (k ≡ 0 → ⊥) → (b : Bits) → Bounded b → Bounded (region i v k b)
+unfolding region
+bounded-region i k true some b h = record {
+  past = λ j l.
+      ap (λ (t : Bool). choose (leb i j && t) true (b .members j)) (le-ltb j (i + k) (omega arith))
+      ∙ ap (λ (t : Bool). choose t true (b .members j)) (and-false (leb i j)) ∙ h .past j (omega arith);
+}
+bounded-region i k false some b h = record { past = λ j l. by-test (inRegion i k j) (λ y. ap (λ (t : Bool). choose t false (b .members j)) y) (λ n. ap (λ (t : Bool). choose t false (b .members j)) n ∙ h .past j l) }
+
+pub region-sound : (i : ℕ) (v : Bool) (k : ℕ) → Sound (settingRegion i v k)
+unfolding region
+region-sound i v k =
+    by-eq k 0
+    (λ z. sound-done (settingRegion i v k) (λ b. b) (λ c b. region-none i k c v b z) (λ b. omega arith) (λ b h. h))
+    (λ some. by-lt (2 ^ 64) (i + k)
+    (λ l. record {
+      space = λ c b s h m q. absurd (never (sym q ∙ region-over i k c v b some l));
+      bound = λ c b s h m q. absurd (never (sym q ∙ region-over i k c v b some l));
+    })
+    (λ l. sound-within (settingRegion i v k) (region i v k) (λ c b. region-put i k c v b some l) (bounded-region i k v some)))
+
+-- ---- one word worked on, and tidied
+
+pub tidied-le : (k : ℕ) (t : Bits) → tidied k t .count ≤ t .count
+unfolding tidied
+tidied-le k t = fewer (eqb (suc k) (t .count) && eqb (wordOf (t .members) k) 0)
+  where
+    fewer : (x : Bool) → choose x (trimmed t) t .count ≤ t .count
+    fewer true = omega (arith, least-count (t .members) (t .count) .low)
+    fewer false = omega arith
+
+bounded-tidied : (k : ℕ) (t : Bits) → Bounded t → Bounded (tidied k t)
+unfolding tidied
+bounded-tidied k t h = either (eqb (suc k) (t .count) && eqb (wordOf (t .members) k) 0)
+  where
+    either : (x : Bool) → Bounded (choose x (trimmed t) t)
+    either true = bounded-trimmed t h
+    either false = h
+
+pub keeping-sound : (i : ℕ) → Sound (keepingBit i)
+unfolding keepingBit
+keeping-sound i =
+    sound-done (keepingBit i) (λ b. tidied (i / 64) (kept b)) (λ c b. refl) (λ b. omega (arith, tidied-le (i / 64) (kept b)))
+    (λ b h. bounded-tidied (i / 64) (kept b) (record { past = λ j l. ap (λ (x : Bool). x && (not (eqb (j / 64) (i / 64)) || eqb j i)) (h .past j l) }))
+  where
+    kept : Bits → Bits
+    kept b = record { members = λ j. b .members j && (not (eqb (j / 64) (i / 64)) || eqb j i); count = b .count }
+
+pub dropping-sound : (i : ℕ) → Sound (droppingBit i)
+unfolding droppingBit
+dropping-sound i =
+    sound-done (droppingBit i) (λ b. tidied (i / 64) (less b)) (λ c b. refl) (λ b. omega (arith, tidied-le (i / 64) (less b)))
+    (λ b h. bounded-tidied (i / 64) (less b) (record { past = λ j l. ap (λ (x : Bool). x && not (eqb j i)) (h .past j l) }))
+  where
+    less : Bits → Bits
+    less b = record { members = λ j. b .members j && not (eqb j i); count = b .count }
+
+pub flipping-sound : (i : ℕ) → Sound (flippingBit i)
+unfolding flippingBit
+flipping-sound i =
+    sound-within (flippingBit i) (λ b. tidied (i / 64) (flipped b)) (λ c b. refl)
+    (λ b h. bounded-tidied (i / 64) (flipped b) (record { past = λ j l. ap₂ xorb (h .past j (omega arith)) (ne-eqb j i (omega arith)) }))
+  where
+    flipped : Bits → Bits
+    flipped b = record { members = λ j. xorb (b .members j) (eqb j i); count = max (b .count) (i / 64 + 1) }

@@ -1,0 +1,63 @@
+-- What an outcome tells, and operations whose results have space and hold no member past their words. Assumes nothing.
+use mathlib.Core.Path.{_≡_, sym, ap, _∙_, subst}
+use mathlib.Core.List.{List}
+use Prim.Native.Nat.{ℕ, _≤_, _<_}
+use native.Mathlib.Omega.{arith}
+use lib.ListN.{length}
+use Rattle.word.proofs.Cases.{by-lt}
+use Rattle.storage.specs.Refusals.{numberOf}
+use Rattle.storage.specs.Stores.{Bits, Bounded, Outcome, refused, done, Op, limit, checked, view, beside, within}
+use Rattle.storage.specs.Promises.{Sound}
+use Rattle.storage.specs.declared.Refusal.{Refusal}
+use Rattle.storage.proofs.Checks.{checked-ok, checked-long, checked-over, within-ok, within-no, within-done}
+use Rattle.storage.proofs.Views.{bounded-view}
+
+pub same : {b s : Bits} → done b ≡ done s → b ≡ s
+same e = cc
+
+pub never : {b : Bits} {e : Refusal} → done b ≡ refused e → ⊥
+never q = let z : _≡_ {A = ℕ} 0 1 = cc in omega arith
+
+pub which : {d e : Refusal} → refused d ≡ refused e → d ≡ e
+which q = cc
+
+-- a result that was refused for space has too many words
+pub lacks : (c : ℕ) (b : Bits) (e : Refusal) → within c b ≡ refused e → (numberOf e ≡ 6) × (c < b .count)
+lacks c b e q =
+    by-lt c (b .count)
+    (λ h. (ap numberOf (which (sym q ∙ within-no c b h)), h))
+    (λ h. absurd (never (sym (within-ok c b h) ∙ q)))
+
+-- what 1 and 2 let pass
+pub let-pass : (c n : ℕ) (o : Outcome) (s : Bits) → checked c n refused o ≡ done s → (o ≡ done s) × (n ≤ c)
+let-pass c n o s q =
+    by-lt limit c
+    (λ h. absurd (never (sym q ∙ checked-long c n refused o h)))
+    (λ h. by-lt c n
+    (λ l. absurd (never (sym q ∙ checked-over c n refused o h l)))
+    (λ l. (sym (checked-ok c n refused o h l) ∙ q, l)))
+
+-- ---- sound operations
+
+-- a result and its space
+pub sound-within : (op : Op) (f : Bits → Bits) → ((c : ℕ) (b : Bits) → op c b ≡ within c (f b)) → ((b : Bits) → Bounded b → Bounded (f b)) → Sound op
+sound-within op f e g = record {
+  space = λ c b s h l q. let w = within-done c (f b) s (sym (e c b) ∙ q) in subst (λ (x : Bits). x .count ≤ c) (w .0) (w .1);
+  bound = λ c b s h l q. let w = within-done c (f b) s (sym (e c b) ∙ q) in subst Bounded (w .0) (g b h);
+}
+
+-- a result of no more words than there were
+pub sound-done : (op : Op) (f : Bits → Bits) → ((c : ℕ) (b : Bits) → op c b ≡ done (f b)) → ((b : Bits) → f b .count ≤ b .count)
+    → ((b : Bits) → Bounded b → Bounded (f b)) → Sound op
+sound-done op f e k g = record {
+  space = λ c b s h l q. subst (λ (x : Bits). x .count ≤ c) (same (sym (e c b) ∙ q)) (omega (arith, k b));
+  bound = λ c b s h l q. subst Bounded (same (sym (e c b) ∙ q)) (g b h);
+}
+
+-- a second bitmap, looked at after the first
+pub sound-beside : (os : List ℕ) (n : ℕ) (op : Bits → Op) → ((o : Bits) → Bounded o → Sound (op o)) → Sound (beside os n op)
+unfolding beside
+sound-beside os n op f = record {
+  space = λ c b s h l q. f (view os n) (bounded-view os n) .space c b s h l (let-pass (length os) n (op (view os n) c b) s q .0);
+  bound = λ c b s h l q. f (view os n) (bounded-view os n) .bound c b s h l (let-pass (length os) n (op (view os n) c b) s q .0);
+}
