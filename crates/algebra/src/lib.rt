@@ -266,39 +266,32 @@ pub fn andnot_count(words: &[u64], b: Bitmap, other: &[u64], o: Bitmap) -> Numbe
     Number::Is(size_andnot(&words[..n], &other[..m]))
 }
 
-// Word k, or 0 past the end.
-fn word_at(a: &[u64], k: usize) -> u64
-    ensures { λ r. ⌜ r ≡ getD (now (a .entry)) k 0 ⌝ }
-{
-    if k < a.len() { a[k] } else { 0 }
-}
-
 // Word k of a & b.
 fn and_at(a: &[u64], b: &[u64], k: usize) -> u64
     ensures { λ r. ⌜ r ≡ bitAnd (getD (now (a .entry)) k 0) (getD (now (b .entry)) k 0) ⌝ }
 {
-    word_at(a, k) & word_at(b, k)
+    arch::word_at(a, k) & arch::word_at(b, k)
 }
 
 // Word k of a | b.
 fn or_at(a: &[u64], b: &[u64], k: usize) -> u64
     ensures { λ r. ⌜ r ≡ bitOr (getD (now (a .entry)) k 0) (getD (now (b .entry)) k 0) ⌝ }
 {
-    word_at(a, k) | word_at(b, k)
+    arch::word_at(a, k) | arch::word_at(b, k)
 }
 
 // Word k of a ^ b.
 fn xor_at(a: &[u64], b: &[u64], k: usize) -> u64
     ensures { λ r. ⌜ r ≡ bitXor (getD (now (a .entry)) k 0) (getD (now (b .entry)) k 0) ⌝ }
 {
-    word_at(a, k) ^ word_at(b, k)
+    arch::word_at(a, k) ^ arch::word_at(b, k)
 }
 
 // Word k of a & !b.
 fn andnot_at(a: &[u64], b: &[u64], k: usize) -> u64
     ensures { λ r. ⌜ r ≡ bitAnd (getD (now (a .entry)) k 0) ((2 ^ 64 - 1) - getD (now (b .entry)) k 0) ⌝ }
 {
-    word_at(a, k) & !word_at(b, k)
+    arch::word_at(a, k) & !arch::word_at(b, k)
 }
 
 // The place of the lowest set bit, from i on, of a & b, or nothing.

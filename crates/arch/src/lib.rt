@@ -17,6 +17,13 @@ pub enum FoundWord {
     Nothing,
 }
 
+// Word k; 0 past the end.
+pub fn word_at(words: &[u64], k: usize) -> u64
+    ensures { λ r. ⌜ r ≡ getD (now (words .entry)) k 0 ⌝ }
+{
+    if k < words.len() { words[k] } else { 0 }
+}
+
 // Some bit is set where one of the eight words from i on is not x.
 fn others_in_eight(words: &[u64], i: usize, x: u64) -> u64
     requires { ⌜ i + 8 ≤ length (now words) ⌝ }

@@ -1,4 +1,5 @@
 pub mod Answers
+pub mod Lasts
 pub mod Firsts
 pub mod Fields
 pub mod Scans

@@ -43,13 +43,6 @@ pub fn get(words: &[u64], b: Bitmap, i: usize) -> Truth
     Truth::Is((words[k] >> (i % 64)) & 1 != 0)
 }
 
-// Word k; 0 past the end.
-fn word_at(words: &[u64], k: usize) -> u64
-    ensures { λ r. ⌜ r ≡ getD (now (words .entry)) k 0 ⌝ }
-{
-    if k < words.len() { words[k] } else { 0 }
-}
-
 // The bits from i on, below i + width, as a number; zeros past the end, whatever i. 3 over 64 bits.
 pub fn get_field(words: &[u64], b: Bitmap, i: usize, width: usize) -> Field
     ensures { λ r. ⌜ r ≡ reading (now (words .entry)) (b .count) Field.Refused (fieldAt i width) ⌝ }
@@ -63,8 +56,8 @@ pub fn get_field(words: &[u64], b: Bitmap, i: usize, width: usize) -> Field
         return Field::Refused(Refusal::WidthOver);
     }
     let k = i / 64;
-    let lo = word_at(&words[..n], k);
-    let hi = word_at(&words[..n], k + 1);
+    let lo = arch::word_at(&words[..n], k);
+    let hi = arch::word_at(&words[..n], k + 1);
     let from = Word::funnel(lo, hi, i % 64, 64 - i % 64);
     Field::Is(from & Word::low_mask(width))
 }

@@ -60,6 +60,27 @@ pub reading-stopped : {A : Type 0} (ws : List ℕ) (n : ℕ) (e : Refusal) (refu
 unfolding reading
 reading-stopped ws n e refuse f p = stopped (length ws) n e refuse (f (view ws n)) p
 
+-- and what an answer tells its caller: a refusal is the store's, and any other answer is of a store that passed
+module _ {A : Type 0} (ws : List ℕ) (n : ℕ) (refuse : Refusal → A) (f : Bits → A) where
+  pub told-refused : (e : Refusal) → ((d : Refusal) → refuse e ≡ refuse d → e ≡ d) → ((b : Bits) → refuse e ≡ f b → ⊥) → refuse e ≡ reading ws n refuse f
+      → Stop e ≡ checked (length ws) n Stop Pass
+  unfolding reading
+  told-refused e one none q =
+      by-lt limit (length ws)
+      (λ h. ap Stop (one StoreTooLong (q ∙ checked-long (length ws) n refuse (f (view ws n)) h)) ∙ sym (checked-long (length ws) n Stop Pass h))
+      (λ h. by-lt (length ws) n
+      (λ l. ap Stop (one CountOverStore (q ∙ checked-over (length ws) n refuse (f (view ws n)) h l)) ∙ sym (checked-over (length ws) n Stop Pass h l))
+      (λ l. absurd (none (view ws n) (q ∙ checked-ok (length ws) n refuse (f (view ws n)) h l))))
+
+  pub told : (a : A) → ((e : Refusal) → a ≡ refuse e → ⊥) → a ≡ reading ws n refuse f → Passed (length ws) n × (a ≡ f (view ws n))
+  unfolding reading
+  told a kept q =
+      by-lt limit (length ws)
+      (λ h. absurd (kept StoreTooLong (q ∙ checked-long (length ws) n refuse (f (view ws n)) h)))
+      (λ h. by-lt (length ws) n
+      (λ l. absurd (kept CountOverStore (q ∙ checked-over (length ws) n refuse (f (view ws n)) h l)))
+      (λ l. (record { short = h; inside = l }, q ∙ checked-ok (length ws) n refuse (f (view ws n)) h l)))
+
 -- ---- a second store
 
 pub beside-ok : (os : List ℕ) (n : ℕ) (op : Bits → Op) (c : ℕ) (b : Bits) → Passed (length os) n → beside os n op c b ≡ op (view os n) c b

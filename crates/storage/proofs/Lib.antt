@@ -3,6 +3,7 @@ pub mod Checks
 pub mod Views
 pub mod Stores
 pub mod Trims
+pub mod Grown
 pub mod Sizes
 pub mod Outcomes
 pub mod Promises

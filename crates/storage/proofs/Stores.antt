@@ -23,7 +23,7 @@ use Rattle.storage.specs.declared.Refusal.{Refusal}
 use Rattle.storage.specs.declared.Change.the-variants.{Done, Refused}
 use Rattle.storage.specs.declared.Guard.the-variants.{Pass, Stop}
 use Rattle.storage.proofs.Checks.{Passed, checked-ok, stopped, beside-stopped}
-use Rattle.storage.proofs.Views.{view-in, view-out}
+use Rattle.storage.proofs.Views.{view-count, view-in, view-out}
 
 -- ---- the store afterwards, by its words and their bits
 
@@ -185,6 +185,20 @@ module _ (op : Op) (ws : List ℕ) (b : Bitmap) where
   pub changes-done : (ws' : List ℕ) (s : Bits) (m : ℕ) → Passed (length ws) (b .count) → op (length ws) (view ws (b .count)) ≡ done s
       → Stored ws (b .count) s ws' → m ≡ s .count → Changes op ws b (Done (record { count = m })) ws'
   changes-done ws' s m p q t e = leaves-done (outcome-ok p ∙ q) t e
+
+-- a call that changes nothing
+pub keeps-changes : (op : Op) (ws : List ℕ) (b : Bitmap) → Fit ws → Passed (length ws) (b .count) → op (length ws) (view ws (b .count)) ≡ done (view ws (b .count))
+    → Changes op ws b (Done b) ws
+keeps-changes op ws b f p q =
+    changes-done op ws b ws (view ws (b .count)) (b .count) p q
+    (record {
+      long = refl;
+      fits = λ k l. f k;
+      used = λ k j l m. sym (view-in ws (b .count) k j (omega (arith, view-count ws (b .count))) m);
+      dropped = λ k l m. absurd (omega (arith, view-count ws (b .count)));
+      kept = λ k l m. refl;
+    })
+    (sym (view-count ws (b .count)))
 
 -- ---- a kernel on the words in use, which the rest of the store follows
 

@@ -1,11 +1,11 @@
 -- What a loop leaves that stores one word a turn: the words from a up to e are new, the others are old. Assumes nothing.
 use mathlib.Core.Path.{_≡_, refl, sym, ap, _∙_, subst}
 use mathlib.Core.Bool.{Bool}
-use mathlib.Core.List.{List}
+use mathlib.Core.List.{List, _++_}
 use Prim.Native.Nat.{ℕ, _+_, _-_, _*_, _^_, _≤_, _<_}
 use native.Mathlib.Omega.{arith}
-use lib.ListN.{length, getD, set, length-set}
-use lib.Seq.{getD-set-same, getD-set-other}
+use lib.ListN.{length, getD, set, take, drop, length-set, length-append, length-drop, List·getD-append}
+use lib.Seq.{getD-set-same, getD-set-other, getD-append-add, getD-take, getD-drop, length-take-le}
 use Rattle.word.specs.Bits.{bit, wordsOf}
 use Rattle.word.proofs.Cases.{by-eq}
 use Rattle.word.proofs.Lists.{words-is}
@@ -61,3 +61,31 @@ swept-words old new s e ws w h f g =
     words-is (length old) s ws (w .long)
     (λ k l. subst (λ (x : ℕ). x < 2 ^ 64) (sym (w .fresh k (omega arith) (omega arith))) (f k l))
     (λ k j l m. ap (λ (x : ℕ). bit x j) (w .fresh k (omega arith) (omega arith)) ∙ g k j l m)
+
+-- ---- a part of the words, a to e, put back: it was swept
+
+pub part-at : (ws : List ℕ) (a e k : ℕ) → a ≤ k → k < e → getD (take (e - a) (drop a ws)) (k - a) 0 ≡ getD ws k 0
+part-at ws a e k p q = getD-take (e - a) (drop a ws) (k - a) 0 (omega arith) ∙ getD-drop a ws (k - a) 0 ∙ ap (λ (x : ℕ). getD ws x 0) (omega arith)
+
+pub part-long : (ws : List ℕ) (a e : ℕ) → e ≤ length ws → length (take (e - a) (drop a ws)) ≡ e - a
+part-long ws a e h = length-take-le (e - a) (drop a ws) (omega (arith, length-drop a ws))
+
+pub part-swept : (ws part : List ℕ) (a e : ℕ) → a ≤ e → e ≤ length ws → length part ≡ e - a
+    → Swept ws (λ k. getD part (k - a) 0) a e (take a ws ++ (part ++ drop (e - a) (drop a ws)))
+part-swept ws part a e p q l = record {
+  long = length-append (take a ws) (part ++ rest) ∙ omega (arith, front, length-append part rest, l, length-drop (e - a) (drop a ws), length-drop a ws);
+  fresh = λ k m n.
+      ap (λ (x : ℕ). getD (take a ws ++ (part ++ rest)) x 0) (omega (arith, front)) ∙ getD-append-add (take a ws) (part ++ rest) (k - a) 0
+      ∙ List·getD-append part rest 0 (k - a) (omega arith);
+  below = λ k m. List·getD-append (take a ws) (part ++ rest) 0 k (omega (arith, front)) ∙ getD-take a ws k 0 m;
+  above = λ k m.
+      ap (λ (x : ℕ). getD (take a ws ++ (part ++ rest)) x 0) (omega (arith, front)) ∙ getD-append-add (take a ws) (part ++ rest) (k - a) 0
+      ∙ ap (λ (x : ℕ). getD (part ++ rest) x 0) (omega (arith, l)) ∙ getD-append-add part rest (k - e) 0
+      ∙ getD-drop (e - a) (drop a ws) (k - e) 0 ∙ getD-drop a ws (e - a + (k - e)) 0 ∙ ap (λ (x : ℕ). getD ws x 0) (omega arith);
+}
+  where
+    rest : List ℕ
+    rest = drop (e - a) (drop a ws)
+
+    front : length (take a ws) ≡ a
+    front = length-take-le a ws (omega arith)

@@ -1,9 +1,8 @@
 use mathlib.Core.Path.{sym}
-use native.Mathlib.Omega.{arith}
 use borrow.Author.Needs.{needs}
 use Rattle.word.proofs.Lists.{past}
-use Rattle.algebra.proofs.word_at.Statement.{statement}
-use Rattle.algebra.proofs.word_at.Tie as tie
+use Rattle.arch.proofs.word_at.Statement.{statement}
+use Rattle.arch.proofs.word_at.Tie as tie
 
 mul-result : tie.Need-mul-result
 mul-result c = search needs
@@ -15,7 +14,7 @@ returns : tie.Need-returns
 returns c = search needs
 
 returns-2 : tie.Need-returns-2
-returns-2 c = sym (past (c .before .args .a .now) (c .before .args .k) (omega arith))
+returns-2 c = sym (past (c .before .args .words .now) (c .before .args .k) (c .if1 .left))
 
 pub word-at-spec : {M : Type 1} → statement M
 word-at-spec = tie.close (tie.spec mul-result shared-slice-read-result returns returns-2)

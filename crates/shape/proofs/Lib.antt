@@ -1,0 +1,7 @@
+pub mod Flips
+pub mod Toggles
+pub mod Moves
+pub mod Sizes
+pub mod Splits
+pub mod Promises
+pub mod Halves

@@ -1,0 +1,163 @@
+-- A bitmap split: the tail moved down into a second store, the head cut. Assumes nothing.
+use mathlib.Core.Path.{_≡_, refl, sym, ap, ap₂, _∙_, subst}
+use mathlib.Core.Bool.{Bool, false}
+use mathlib.Core.List.{List, _++_}
+use Prim.Native.Nat.{ℕ, suc, _+_, _-_, _*_, _/_, _%_, _^_, _≤_, _<_}
+use native.Mathlib.Omega.{arith}
+use lib.ListN.{length, getD, set, take, drop, length-set}
+use lib.Seq.{getD-set-other}
+use Rattle.word.specs.Sets.{topBelow, Top}
+use Rattle.word.specs.Bits.{bit, wordOf, member}
+use Rattle.word.specs.Words.{funneled}
+use Rattle.word.proofs.Cases.{by-lt, by-eq}
+use Rattle.word.proofs.Sets.{top, top-is}
+use Rattle.word.proofs.Bits.{bit-pack, pack-lt}
+use Rattle.word.proofs.Lists.{Fit}
+use Rattle.word.proofs.Sweep.{getD-set}
+use Rattle.arch.specs.Scans.{nonzeroLen, filled}
+use Rattle.storage.specs.Stores.{Outcome, refused, done, checked, view, reading, within, wordsFor, trimmedCount, store, andThen}
+use Rattle.storage.specs.declared.Bitmap.{Bitmap}
+use Rattle.storage.specs.declared.Refusal.{Refusal}
+use Rattle.storage.specs.declared.Refusal.the-variants.{NoSpace}
+use Rattle.storage.specs.declared.Number.{Number}
+use Rattle.storage.specs.declared.Number.the-variants.{Is}
+use Rattle.storage.specs.declared.Guard.the-variants.{Pass, Stop}
+use Rattle.storage.proofs.Checks.{Passed, checked-ok, stopped, reading-ok, reading-stopped, told, told-refused, within-ok, within-no}
+use Rattle.storage.proofs.Views.{view-count, view-out, view-whole}
+use Rattle.storage.proofs.Stores.{Stored, stored-written}
+use Rattle.shift.specs.Shifts.{movedDown}
+use Rattle.shift.proofs.Moves.{right-word}
+use Rattle.shape.specs.Shapes.{topOf, lowered, truncated, tailOutcome, headOutcome, splitAnswer, Splits}
+use Rattle.shape.specs.Kernels.{Lowered}
+use Rattle.shape.specs.declared.Split.{Split}
+use Rattle.shape.specs.declared.Split.the-variants.{Done, Refused}
+use Rattle.shape.proofs.Sizes.{truncate-stored, truncate-count}
+
+-- ---- the greatest member moves down with the others
+
+pub top-lowered : (s : ℕ → Bool) (e at : ℕ) → ((i : ℕ) → e ≤ i → s i ≡ false) → topBelow (movedDown at s) e ≡ topBelow s e - at
+unfolding movedDown
+top-lowered s e at none =
+    top-is (movedDown at s) e (topBelow s e - at)
+    (record {
+      within = omega (arith, t .within);
+      last = λ k q. t .last (k + at) (omega arith);
+      over = λ k a b. by-lt (k + at) e (λ l. t .over (k + at) (omega arith) l) (λ l. none (k + at) l);
+    })
+  where
+    t : Top s e (topBelow s e)
+    t = top s e
+
+pub lowered-count : (at : ℕ) (ws : List ℕ) (n : ℕ) → lowered at (view ws n) .count ≡ wordsFor (topOf (view ws n) - at)
+unfolding lowered trimmedCount
+lowered-count at ws n =
+    ap wordsFor (top-lowered (view ws n .members) (64 * view ws n .count) at (λ i l. view-out ws n i (omega (arith, view-count ws n))))
+
+-- ---- the words that the tail needs
+
+module _ (ws : List ℕ) (n at : ℕ) where
+  pub tail-refused : (e : Refusal) → Stop e ≡ checked (length ws) n Stop Pass → Number.Refused e ≡ reading ws n Number.Refused (λ s. Number.Is (lowered at s .count))
+  tail-refused e p = sym (reading-stopped ws n e Number.Refused (λ s. Number.Is (lowered at s .count)) p)
+
+  pub tail-is : (m : ℕ) → Passed (length ws) n → m ≡ wordsFor (topOf (view ws n) - at) → Number.Is m ≡ reading ws n Number.Refused (λ s. Number.Is (lowered at s .count))
+  tail-is m p e = ap Number.Is (e ∙ sym (lowered-count at ws n)) ∙ sym (reading-ok ws n Number.Refused (λ s. Number.Is (lowered at s .count)) p)
+
+  pub tail-none : (t : ℕ) → topOf (view ws n) ≡ t → t ≤ at → 0 ≡ wordsFor (topOf (view ws n) - at)
+  unfolding wordsFor
+  tail-none t e h = omega arith
+
+  pub tail-some : (p : ℕ) → topOf (view ws n) ≡ suc p → at ≤ p → (p - at) / 64 + 1 ≡ wordsFor (topOf (view ws n) - at)
+  unfolding wordsFor
+  tail-some p e h = omega arith
+
+  -- what the answer tells
+  pub tail-told-refused : (e : Refusal) → Number.Refused e ≡ reading ws n Number.Refused (λ s. Number.Is (lowered at s .count)) → Stop e ≡ checked (length ws) n Stop Pass
+  tail-told-refused e q =
+      told-refused ws n Number.Refused (λ s. Number.Is (lowered at s .count)) e (λ d r. cc) (λ b r. absurd (let y : _≡_ {A = ℕ} 0 1 = cc in omega arith)) q
+
+  pub tail-told : (m : ℕ) → Number.Is m ≡ reading ws n Number.Refused (λ s. Number.Is (lowered at s .count)) → Passed (length ws) n × (m ≡ lowered at (view ws n) .count)
+  tail-told m q =
+      let a = told ws n Number.Refused (λ s. Number.Is (lowered at s .count)) (Number.Is m) (λ e r. absurd (let y : _≡_ {A = ℕ} 0 1 = cc in omega arith)) q in
+      (a .0, same (lowered at (view ws n) .count) (a .1))
+    where
+      same : (k : ℕ) → Number.Is m ≡ Number.Is k → m ≡ k
+      same k e = cc
+
+  pub tail-inside : lowered at (view ws n) .count ≤ n - at / 64
+  unfolding wordsFor
+  tail-inside = omega (arith, lowered-count at ws n, top (view ws n .members) (64 * view ws n .count) .within, view-count ws n)
+
+-- ---- one turn of the walk
+
+pub lowered-none : (at : ℕ) (ws ts : List ℕ) → Lowered at ws 0 ts ts
+lowered-none at ws ts = record { long = refl; below = λ k l. absurd (omega arith); above = λ k l. refl }
+
+pub lowered-next : (at : ℕ) (ws : List ℕ) (j : ℕ) (ts ts' : List ℕ) (v : ℕ) → Fit ws → Lowered at ws j ts ts' → j < length ts
+    → v ≡ funneled 64 (getD ws (j + at / 64) 0) (getD ws (j + at / 64 + 1) 0) (at % 64) (64 - at % 64) → Lowered at ws (j + 1) ts (set ts' j v)
+lowered-next at ws j ts ts' v f s h e = record {
+  long = length-set ts' j v ∙ s .long;
+  below = λ k l.
+      by-eq k j
+      (λ q. getD-set ts' j k v (omega (arith, s .long)) q ∙ e ∙ right-word ws f at j ∙ ap (wordOf (movedDown at (member ws))) (sym q))
+      (λ q. getD-set-other ts' j k v 0 q ∙ s .below k (omega arith));
+  above = λ k l. getD-set-other ts' j k v 0 (omega arith) ∙ s .above k (omega arith);
+}
+
+pub lowered-to : (at : ℕ) (ws : List ℕ) (j m : ℕ) (ts ts' : List ℕ) → Lowered at ws j ts ts' → j ≤ m → m ≤ j → Lowered at ws m ts ts'
+lowered-to at ws j m ts ts' s p q = record { long = s .long; below = λ k l. s .below k (omega arith); above = λ k l. s .above k (omega arith) }
+
+-- ---- the call
+
+module _ (ws ts : List ℕ) (b : Bitmap) (at : ℕ) where
+  split-refused : (e : Refusal) → tailOutcome at ws (b .count) ts ≡ refused e → Splits at ws b ts (Refused e b) ws ts
+  unfolding headOutcome splitAnswer andThen store
+  split-refused e q = record {
+    answers = sym (ap (λ (o : Outcome). splitAnswer (andThen o (λ t. done (truncated at (view ws (b .count))))) o b) q);
+    head = sym (ap (λ (o : Outcome). store (andThen o (λ t. done (truncated at (view ws (b .count))))) ws (b .count)) q);
+    tail = sym (ap (λ (o : Outcome). store o ts 0) q);
+  }
+
+  pub split-stopped : (e : Refusal) → Stop e ≡ checked (length ws) (b .count) Stop Pass → Splits at ws b ts (Refused e b) ws ts
+  unfolding tailOutcome
+  split-stopped e p = split-refused e (stopped (length ws) (b .count) e refused _ p)
+
+  module _ (p : Passed (length ws) (b .count)) where
+    pub split-second : (e : Refusal) → Stop e ≡ checked (length ts) 0 Stop Pass → Splits at ws b ts (Refused e b) ws ts
+    unfolding tailOutcome
+    split-second e q = split-refused e (checked-ok (length ws) (b .count) refused _ (p .short) (p .inside) ∙ stopped (length ts) 0 e refused _ q)
+
+    module _ (q : Passed (length ts) 0) where
+      pub tail-within : tailOutcome at ws (b .count) ts ≡ within (length ts) (lowered at (view ws (b .count)))
+      unfolding tailOutcome
+      tail-within = checked-ok (length ws) (b .count) refused _ (p .short) (p .inside) ∙ checked-ok (length ts) 0 refused _ (q .short) (q .inside)
+
+      pub split-no-space : (m : ℕ) → m ≡ lowered at (view ws (b .count)) .count → length ts < m → Splits at ws b ts (Refused NoSpace b) ws ts
+      split-no-space m e h = split-refused NoSpace (tail-within ∙ within-no (length ts) (lowered at (view ws (b .count))) (omega arith))
+
+      pub split-done : (m r : ℕ) (part ts' : List ℕ) → Fit ws → m ≡ lowered at (view ws (b .count)) .count → m ≤ length ts → Lowered at (take (b .count) ws) m ts ts'
+          → part ≡ filled at (64 * b .count) false (take (b .count) ws) → r ≡ nonzeroLen (take (b .count) (part ++ drop (b .count) ws))
+          → Splits at ws b ts (Done (record { count = r }) (record { count = m })) (part ++ drop (b .count) ws) ts'
+      unfolding headOutcome splitAnswer andThen store lowered wordOf
+      split-done m r part ts' fit em h s ep er = record {
+        answers =
+            ap₂ (λ (x y : ℕ). Split.Done (record { count = x }) (record { count = y })) (er ∙ truncate-count ws b at fit p part ep) em
+            ∙ sym (ap (λ (o : Outcome). splitAnswer (andThen o (λ t. done (truncated at (view ws (b .count))))) o b) is);
+        head =
+            stored-written ws (b .count) (truncated at (view ws (b .count))) (part ++ drop (b .count) ws) (truncate-stored ws b at fit p part ep)
+            ∙ sym (ap (λ (o : Outcome). store (andThen o (λ t. done (truncated at (view ws (b .count))))) ws (b .count)) is);
+        tail = stored-written ts 0 (lowered at (view ws (b .count))) ts' tails ∙ sym (ap (λ (o : Outcome). store o ts 0) is);
+      }
+        where
+          is : tailOutcome at ws (b .count) ts ≡ done (lowered at (view ws (b .count)))
+          is = tail-within ∙ within-ok (length ts) (lowered at (view ws (b .count))) (omega arith)
+
+          tails : Stored ts 0 (lowered at (view ws (b .count))) ts'
+          tails = record {
+            long = s .long;
+            fits = λ k l. subst (λ (x : ℕ). x < 2 ^ 64) (sym (s .below k (omega arith))) (pack-lt 64 (λ j. movedDown at (member (take (b .count) ws)) (64 * k + j)));
+            used = λ k j l q.
+                ap (λ (x : ℕ). bit x j) (s .below k (omega arith)) ∙ bit-pack 64 (λ j. movedDown at (member (take (b .count) ws)) (64 * k + j)) j q
+                ∙ ap (λ (v : ℕ → Bool). movedDown at v (64 * k + j)) (sym (view-whole ws (b .count) (p .inside)));
+            dropped = λ k l q. absurd (omega arith);
+            kept = λ k l q. s .above k (omega arith);
+          }

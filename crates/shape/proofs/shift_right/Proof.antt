@@ -1,0 +1,62 @@
+use Rattle.shape.proofs.Moves.{right-changes}
+use Rattle.storage.proofs.Stores.{changes-stopped}
+use Rattle.storage.proofs.Checks.{passed}
+use lib.Seq.{length-take-le}
+use native.Mathlib.Omega.{arith}
+use mathlib.Core.Path.{sym, _∙_}
+use borrow.Author.Needs.{needs}
+use Rattle.shape.proofs.shift_right.Statement.{statement}
+use Rattle.shape.proofs.shift_right.Tie as tie
+
+check-requires : tie.Need-check-requires
+check-requires c κs = search needs
+
+enum-known-e : tie.Need-enum-known-e
+enum-known-e c = search needs
+
+returns : tie.Need-returns
+returns c = changes-stopped _ _ _ _ (sym (c .before .e .given .1) ∙ c .before .before .before .check .ensures)
+
+enum-told : tie.Need-enum-told
+enum-told c = search needs
+
+slice-relend-prefix-right-words : tie.Need-slice-relend-prefix-right-words
+slice-relend-prefix-right-words c = (passed _ _ (sym (c .enum-told .given .1) ∙ c .before .before .check .ensures)) .inside
+
+slice-aggregate-right-words : tie.Need-slice-aggregate-right-words
+slice-aggregate-right-words c = sym (length-take-le _ _ ((passed _ _ (sym (c .before .enum-told .given .1) ∙ c .before .before .before .check .ensures)) .inside))
+
+right-words-requires : tie.Need-right-words-requires
+right-words-requires c κs = search needs
+
+slice-reshare-prefix-nonzero-len : tie.Need-slice-reshare-prefix-nonzero-len
+slice-reshare-prefix-nonzero-len c = omega (arith, (passed _ _ (sym (c .before .before .before .before .enum-told .given .1) ∙ c .before .before .before .before .before .before .check .ensures)) .inside)
+
+slice-aggregate-nonzero-len : tie.Need-slice-aggregate-nonzero-len
+slice-aggregate-nonzero-len c = sym (length-take-le _ _ (omega (arith, (passed _ _ (sym (c .before .before .before .before .before .enum-told .given .1) ∙ c .before .before .before .before .before .before .before .check .ensures)) .inside)))
+
+nonzero-len-requires : tie.Need-nonzero-len-requires
+nonzero-len-requires c κs = search needs
+
+same-length : tie.Need-same-length
+same-length c = search needs
+
+returns-2 : tie.Need-returns-2
+returns-2 c = right-changes _ _ _ (λ k. omega (arith, c .before .before .before .before .before .before .before .before .before .slice-known .given k)) (passed _ _ (sym (c .before .before .before .before .before .before .enum-told .given .1) ∙ c .before .before .before .before .before .before .before .before .check .ensures)) _ _ (c .before .before .before .before .right-words .ensures) (c .nonzero-len .ensures)
+
+pub shift-right-spec : {M : Type 1} → statement M
+shift-right-spec =
+    tie.close
+    (tie.spec
+    check-requires
+    enum-known-e
+    returns
+    enum-told
+    slice-relend-prefix-right-words
+    slice-aggregate-right-words
+    right-words-requires
+    slice-reshare-prefix-nonzero-len
+    slice-aggregate-nonzero-len
+    nonzero-len-requires
+    same-length
+    returns-2)

@@ -1,0 +1,48 @@
+use Rattle.shape.proofs.Splits.{tail-refused, tail-is, tail-none, tail-some}
+use Rattle.slice.proofs.Lasts.{last-refused, last-nothing, last-at}
+use native.Mathlib.Omega.{arith}
+use mathlib.Core.Path.{sym, _∙_}
+use borrow.Author.Needs.{needs}
+use Rattle.shape.proofs.tail_len.Statement.{statement}
+use Rattle.shape.proofs.tail_len.Tie as tie
+
+last-set-requires : tie.Need-last-set-requires
+last-set-requires c κs = search needs
+
+enum-known-e : tie.Need-enum-known-e
+enum-known-e c = search needs
+
+enum-told : tie.Need-enum-told
+enum-told c = search needs
+
+enum-known-p : tie.Need-enum-known-p
+enum-known-p c = search needs
+
+returns : tie.Need-returns
+returns c = let q = last-at _ _ _ (sym (c .before .before .p .given .1) ∙ c .before .before .before .before .last-set .ensures) in tail-is _ _ _ _ (q .0) (tail-none _ _ _ _ (q .1) (omega arith))
+
+add-t11 : tie.Need-add-t11
+add-t11 c = search needs
+
+returns-2 : tie.Need-returns-2
+returns-2 c = tail-refused _ _ _ _ (last-refused _ _ _ (sym (c .before .e .given .1) ∙ c .before .before .before .last-set .ensures))
+
+returns-3 : tie.Need-returns-3
+returns-3 c = let q = last-nothing _ _ (sym (c .enum-told .given .1) ∙ c .before .before .last-set .ensures) in tail-is _ _ _ _ (q .0) (tail-none _ _ _ _ (q .1) (omega arith))
+
+returns-4 : tie.Need-returns-4
+returns-4 c = let q = last-at _ _ _ (sym (c .before .before .p .given .1) ∙ c .before .before .before .before .last-set .ensures) in tail-is _ _ _ _ (q .0) (tail-some _ _ _ _ (q .1) (omega arith))
+
+pub tail-len-spec : {M : Type 1} → statement M
+tail-len-spec =
+    tie.close
+    (tie.spec
+    last-set-requires
+    enum-known-e
+    enum-told
+    enum-known-p
+    returns
+    add-t11
+    returns-2
+    returns-3
+    returns-4)

@@ -1,0 +1,78 @@
+use mathlib.Core.Path.{sym, _∙_}
+use Prim.Native.Nat.{max}
+use native.Mathlib.Omega.{arith}
+use borrow.Author.Needs.{needs}
+use Rattle.storage.proofs.Checks.{passed}
+use Rattle.storage.proofs.Stores.{changes-stopped}
+use Rattle.shape.proofs.Toggles.{toggle-refused, toggle-changes}
+use Rattle.shape.proofs.toggle.Statement.{statement}
+use Rattle.shape.proofs.toggle.Tie as tie
+
+check-requires : tie.Need-check-requires
+check-requires c κs = search needs
+
+enum-known-e : tie.Need-enum-known-e
+enum-known-e c = search needs
+
+returns : tie.Need-returns
+returns c = changes-stopped _ _ _ _ (sym (c .before .e .given .1) ∙ c .before .before .before .check .ensures)
+
+enum-told : tie.Need-enum-told
+enum-told c = search needs
+
+returns-2 : tie.Need-returns-2
+returns-2 c = toggle-refused _ _ _ (λ k. omega (arith, c .before .before .before .before .slice-known .given k)) (passed _ _ (sym (c .before .enum-told .given .1) ∙ c .before .before .before .check .ensures)) (c .if1 .taken)
+
+add-grow : tie.Need-add-grow
+add-grow c = search needs
+
+grow-requires : tie.Need-grow-requires
+grow-requires c κs = search needs
+
+mul-words : tie.Need-mul-words
+mul-words c = search needs
+
+slice-read-words : tie.Need-slice-read-words
+slice-read-words c = search needs
+
+bit-requires : tie.Need-bit-requires
+bit-requires c κs = search needs
+
+mul-words-2 : tie.Need-mul-words-2
+mul-words-2 c = search needs
+
+slice-write-words : tie.Need-slice-write-words
+slice-write-words c = search needs
+
+add-max : tie.Need-add-max
+add-max c = search needs
+
+max-requires : tie.Need-max-requires
+max-requires c κs = search needs
+
+same-length : tie.Need-same-length
+same-length c = search needs
+
+returns-3 : tie.Need-returns-3
+returns-3 c = toggle-changes _ _ _ (λ k. omega (arith, c .before .before .before .before .before .before .before .before .before .before .before .slice-known .given k)) (passed _ _ (sym (c .before .before .before .before .before .before .before .before .enum-told .given .1) ∙ c .before .before .before .before .before .before .before .before .before .before .check .ensures)) _ _ _ (c .before .before .before .before .before .before .before .if1 .left) (c .before .before .before .before .before .grow .ensures) (c .before .bit .ensures) (c .max .ensures)
+
+pub toggle-spec : {M : Type 1} → statement M
+toggle-spec =
+    tie.close
+    (tie.spec
+    check-requires
+    enum-known-e
+    returns
+    enum-told
+    returns-2
+    add-grow
+    grow-requires
+    mul-words
+    slice-read-words
+    bit-requires
+    mul-words-2
+    slice-write-words
+    add-max
+    max-requires
+    same-length
+    returns-3)
