@@ -9,8 +9,8 @@ use lib.ListN.{getD}
 use lib.Dec.{ltb, leb, eqb}
 use borrow.Author.Tests.{lt-ltb, le-ltb, le-leb, lt-leb, eq-eqb, ne-eqb}
 use Rattle.word.specs.Sets.{choose, xorb}
-use Rattle.word.specs.Bits.{wordOf}
-use Rattle.word.proofs.Cases.{by-lt, by-test, or-false, and-false, and-keep, or-true, xor-true, xor-false}
+use Rattle.word.specs.Bits.{bit, wordOf}
+use Rattle.word.proofs.Cases.{by-lt, by-eq, by-test, or-false, and-false, and-keep, or-true, xor-true, xor-false}
 use Rattle.word.proofs.Lists.{word-none, word-zero}
 use Rattle.storage.specs.Refusals.{numberOf}
 use Rattle.storage.specs.Stores.{Bits, Bounded, done, trimmedCount, trimmed, combined}
@@ -18,11 +18,12 @@ use Rattle.storage.specs.Promises.{LeastCount, Meets, Never, Lacks}
 use Rattle.storage.proofs.Checks.{within-done}
 use Rattle.storage.proofs.Outcomes.{same, never, which, lacks}
 use Rattle.storage.proofs.Promises.{least-count}
-use Rattle.bitmap.specs.Bitmaps.{trimming, setting, unsetting, listed, reachOf, settingMany, settingRegion, combining, uniting, tidied, keepingBit, droppingBit, flippingBit}
-use Rattle.bitmap.specs.Promises.{WithBit, WithListed, LacksListed, WithoutBit, Fewest, WithRegion, Combines, Unites, Tidied, OnlyBit, FlippedBit, ThenTidied}
+use Rattle.bitmap.specs.Bitmaps.{trimming, setting, unsetting, listed, reachOf, settingMany, settingRegion, settingField, combining, uniting, tidied, keepingBit, droppingBit, flippingBit}
+use Rattle.bitmap.specs.Promises.{WithBit, WithListed, LacksListed, WithoutBit, Fewest, WithRegion, WithField, NoField, Combines, Unites, Tidied, OnlyBit, FlippedBit, ThenTidied}
 use Rattle.bitmap.proofs.Many.{reach-in, reach-who, reach-under, listed-at, listed-who}
-use Rattle.bitmap.proofs.Sounds.{setting-sound, many-sound, unsetting-sound, trimming-sound, combining-sound, uniting-sound, region-sound, keeping-sound, dropping-sound, flipping-sound}
+use Rattle.bitmap.proofs.Sounds.{setting-sound, many-sound, unsetting-sound, trimming-sound, combining-sound, uniting-sound, region-sound, field-sound, keeping-sound, dropping-sound, flipping-sound}
 use Rattle.bitmap.proofs.Regions.{region-none, region-over, region-put}
+use Rattle.bitmap.proofs.Fields.{zero-digit, no-digits, some-at, field-wide, field-over, field-put}
 
 pub sets : (i : ℕ) → Meets (setting i) (λ c b s. WithBit i b s) (Lacks (λ b. max (b .count) (i / 64 + 1)))
 unfolding setting
@@ -143,6 +144,62 @@ regions i v k some = record {
 
 pub region-nothing : (i : ℕ) (v : Bool) (c : ℕ) (b : Bits) → settingRegion i v 0 c b ≡ done b
 region-nothing i v c b = region-none i 0 c v b refl
+
+-- ---- a field of width > 0
+
+field-rule : (i value width : ℕ) (b : Bits)
+    → WithField i value width b
+    (record {
+      members = λ p. choose (leb i p && ltb p (i + width)) (bit value (p - i)) (b .members p);
+      count = choose (eqb (value % 2 ^ width) 0) (b .count) (max (b .count) ((i + width - 1) / 64 + 1));
+    })
+field-rule i value width b = record {
+  inside = λ j l.
+      ap₂ (λ (s t : Bool). choose (s && t) (bit value (i + j - i)) (b .members (i + j))) (le-leb i (i + j) (omega arith)) (lt-ltb (i + j) (i + width) (omega arith))
+      ∙ ap (bit value) (omega arith);
+  before = λ p l. ap (λ (s : Bool). choose (s && ltb p (i + width)) (bit value (p - i)) (b .members p)) (lt-leb i p l);
+  after = λ p l.
+      ap (λ (t : Bool). choose (leb i p && t) (bit value (p - i)) (b .members p)) (le-ltb p (i + width) l)
+      ∙ ap (λ (t : Bool). choose t (bit value (p - i)) (b .members p)) (and-false (leb i p));
+  kept = λ none. ap (λ (t : Bool). choose t (b .count) (max (b .count) ((i + width - 1) / 64 + 1))) (eq-eqb (value % 2 ^ width) 0 (no-digits value width none));
+  grown = λ j last l y e.
+      ap (λ (t : Bool). choose t (b .count) (max (b .count) ((i + width - 1) / 64 + 1)))
+      (ne-eqb (value % 2 ^ width) 0 (λ z. false≢true (sym (zero-digit value width z j l) ∙ y)))
+      ∙ ap (λ (x : ℕ). max (b .count) (x / 64 + 1)) (omega arith);
+}
+
+-- 3, 4 and 6 exactly; width 0 does nothing, whatever i
+pub fields : (i value width : ℕ) → (width ≡ 0 → ⊥)
+    → Meets (settingField i value width) (λ c b s. (width ≤ 64) × (i + width ≤ 2 ^ 64) × WithField i value width b s) (NoField i value width)
+fields i value width n = record {
+  made = λ c b s e.
+      by-lt 64 width
+      (λ h. absurd (never (sym e ∙ field-wide i value width c b h)))
+      (λ h. by-lt (2 ^ 64) (i + width)
+      (λ l. absurd (never (sym e ∙ field-over i value width c b h n l)))
+      (λ l. (h, l, subst (WithField i value width b) (within-done c _ s (sym (field-put i value width c b h n l) ∙ e) .0) (field-rule i value width b))));
+  sound = field-sound i value width;
+  why = λ c b e q.
+      by-lt 64 width
+      (λ h. inl (ap numberOf (which (sym q ∙ field-wide i value width c b h)), h))
+      (λ h. by-lt (2 ^ 64) (i + width)
+      (λ l. inr (inl (ap numberOf (which (sym q ∙ field-over i value width c b h n l)), h, l)))
+      (λ l. let x = lacks c _ e (sym (field-put i value width c b h n l) ∙ q) in inr (inr (x .0, h, l, short c b (x .1)))));
+}
+  where
+    short : (c : ℕ) (b : Bits) → c < choose (eqb (value % 2 ^ width) 0) (b .count) (max (b .count) ((i + width - 1) / 64 + 1))
+        → (c < b .count) ⊎ (j : ℕ) × ((j < width) × (bit value j ≡ true) × (64 * c < i + width))
+    short c b h =
+        by-lt c (b .count) (λ l. inl l)
+        (λ l. by-eq (value % 2 ^ width) 0
+        (λ z. absurd (omega (arith, subst (λ (t : Bool). c < choose t (b .count) (max (b .count) ((i + width - 1) / 64 + 1))) (eq-eqb (value % 2 ^ width) 0 z) h)))
+        (λ some.
+        let d = some-at value width some in
+        inr (d .0, (d .1, d .2, omega (arith, subst (λ (t : Bool). c < choose t (b .count) (max (b .count) ((i + width - 1) / 64 + 1))) (ne-eqb (value % 2 ^ width) 0 some) h)))))
+
+pub field-nothing : (i value c : ℕ) (b : Bits) → settingField i value 0 c b ≡ done b
+unfolding settingField
+field-nothing i value c b = refl
 
 -- ---- one word worked on, and tidied
 

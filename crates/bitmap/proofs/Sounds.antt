@@ -2,21 +2,24 @@
 use mathlib.Core.Path.{_≡_, refl, sym, ap, ap₂, _∙_}
 use mathlib.Core.Bool.{Bool, true, false, not, _&&_, _||_}
 use mathlib.Core.List.{List}
-use Prim.Native.Nat.{ℕ, suc, _+_, _-_, _*_, _/_, _^_, _≤_, max}
+use Prim.Native.Nat.{ℕ, suc, _+_, _-_, _*_, _/_, _%_, _^_, _≤_, max}
 use native.Mathlib.Omega.{arith}
 use lib.Dec.{leb, eqb}
 use borrow.Author.Tests.{le-ltb, ne-eqb}
 use Rattle.word.specs.Sets.{choose, xorb}
-use Rattle.word.specs.Bits.{wordOf}
+use Rattle.word.specs.Bits.{bit, wordOf}
 use Rattle.word.proofs.Cases.{by-lt, by-eq, by-test, and-false}
-use Rattle.storage.specs.Stores.{Bits, Bounded, inRegion, trimmed, combined}
+use Rattle.storage.specs.Stores.{Bits, Bounded, refused, Op, inRegion, trimmed, combined}
 use Rattle.storage.specs.Promises.{Sound}
+use Rattle.storage.specs.declared.Refusal.{Refusal}
+use Rattle.storage.specs.declared.Refusal.the-variants.{WidthOver, IndexOver}
 use Rattle.storage.proofs.Outcomes.{never, sound-within, sound-done}
 use Rattle.storage.proofs.Trims.{bounded-trimmed}
 use Rattle.storage.proofs.Promises.{least-count}
-use Rattle.bitmap.specs.Bitmaps.{trimming, setting, unsetting, listed, reachOf, settingMany, settingRegion, combining, uniting, tidied, keepingBit, droppingBit, flippingBit}
+use Rattle.bitmap.specs.Bitmaps.{trimming, setting, unsetting, listed, reachOf, settingMany, settingRegion, settingField, combining, uniting, tidied, keepingBit, droppingBit, flippingBit}
 use Rattle.bitmap.proofs.Many.{reach-in, listed-who}
 use Rattle.bitmap.proofs.Regions.{region-none, region-over, region-put}
+use Rattle.bitmap.proofs.Fields.{field-wide, field-over, field-some, field-cleared}
 
 pub setting-sound : (i : ℕ) → Sound (setting i)
 unfolding setting
@@ -70,17 +73,46 @@ bounded-region i k true some b h = record {
 }
 bounded-region i k false some b h = record { past = λ j l. by-test (inRegion i k j) (λ y. ap (λ (t : Bool). choose t false (b .members j)) y) (λ n. ap (λ (t : Bool). choose t false (b .members j)) n ∙ h .past j l) }
 
+-- an operation that is always refused
+sound-never : (op : Op) (e : Refusal) → ((c : ℕ) (b : Bits) → op c b ≡ refused e) → Sound op
+sound-never op e f = record {
+  space = λ c b s h m q. absurd (never (sym q ∙ f c b));
+  bound = λ c b s h m q. absurd (never (sym q ∙ f c b));
+}
+
 pub region-sound : (i : ℕ) (v : Bool) (k : ℕ) → Sound (settingRegion i v k)
 unfolding region
 region-sound i v k =
     by-eq k 0
     (λ z. sound-done (settingRegion i v k) (λ b. b) (λ c b. region-none i k c v b z) (λ b. omega arith) (λ b h. h))
     (λ some. by-lt (2 ^ 64) (i + k)
-    (λ l. record {
-      space = λ c b s h m q. absurd (never (sym q ∙ region-over i k c v b some l));
-      bound = λ c b s h m q. absurd (never (sym q ∙ region-over i k c v b some l));
-    })
+    (λ l. sound-never (settingRegion i v k) IndexOver (λ c b. region-over i k c v b some l))
     (λ l. sound-within (settingRegion i v k) (region i v k) (λ c b. region-put i k c v b some l) (bounded-region i k v some)))
+
+-- ---- a field
+
+pub field-sound : (i value width : ℕ) → Sound (settingField i value width)
+field-sound i value width =
+    by-lt 64 width
+    (λ h. sound-never (settingField i value width) WidthOver (λ c b. field-wide i value width c b h))
+    (λ h. by-eq (value % 2 ^ width) 0
+    (λ z. record {
+      space = λ c b s k l q. region-sound i false width .space c b s k l (sym (field-cleared i value width c b h z) ∙ q);
+      bound = λ c b s k l q. region-sound i false width .bound c b s k l (sym (field-cleared i value width c b h z) ∙ q);
+    })
+    (λ some. by-eq width 0
+    (λ z. absurd (some (ap (λ (w : ℕ). value % 2 ^ w) z ∙ omega arith)))
+    (λ n. by-lt (2 ^ 64) (i + width)
+    (λ l. sound-never (settingField i value width) IndexOver (λ c b. field-over i value width c b h n l))
+    (λ l. sound-within (settingField i value width) with (λ c b. field-some i value width c b (record { wide = h; some = some; pos = omega arith }) l)
+    (λ b k. record {
+      past = λ j m.
+          ap (λ (t : Bool). choose (leb i j && t) (bit value (j - i)) (b .members j)) (le-ltb j (i + width) (omega arith))
+          ∙ ap (λ (t : Bool). choose t (bit value (j - i)) (b .members j)) (and-false (leb i j)) ∙ k .past j (omega arith);
+    })))))
+  where
+    with : Bits → Bits
+    with b = record { members = λ p. choose (inRegion i width p) (bit value (p - i)) (b .members p); count = max (b .count) ((i + width - 1) / 64 + 1) }
 
 -- ---- one word worked on, and tidied
 

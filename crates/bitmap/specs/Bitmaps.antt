@@ -1,12 +1,12 @@
 -- The calls of bitmap.rs, on sets and counts (01, "Words that enter and leave use").
-use Prim.Native.Nat.{ℕ, suc, _+_, _-_, _/_, max}
+use Prim.Native.Nat.{ℕ, suc, _+_, _-_, _/_, _%_, _^_, max}
 use mathlib.Core.Bool.{Bool, false, not, _&&_, _||_}
 use mathlib.Core.List.{List, [], _∷_}
-use lib.Dec.{eqb}
+use lib.Dec.{ltb, eqb}
 use Rattle.word.specs.Sets.{choose, xorb}
-use Rattle.word.specs.Bits.{wordOf}
+use Rattle.word.specs.Bits.{bit, wordOf}
 use Rattle.storage.specs.Stores.{Bits, refused, done, Op, within, upTo, inRegion, passes, trimmed, combined}
-use Rattle.storage.specs.declared.Refusal.the-variants.{IndexOver}
+use Rattle.storage.specs.declared.Refusal.the-variants.{WidthOver, IndexOver}
 
 unfoldable pub trimming : Op
 trimming c b = done (trimmed b)
@@ -36,6 +36,13 @@ settingRegion i value k c b =
     let count = choose value (max (b .count) (upTo (i + k - 1))) (b .count) in
     let put = within c (record { members = λ p. choose (inRegion i k p) value (b .members p); count = count }) in
     choose (eqb k 0) (done b) (choose (passes i k) (refused IndexOver) put)
+
+-- the field's numbers become the digits of the value: a field of zeros clears what is there, another grows to the word of its last number
+unfoldable pub settingField : ℕ → ℕ → ℕ → Op
+settingField i value width c b =
+    let count = choose (eqb (value % 2 ^ width) 0) (b .count) (max (b .count) (upTo (i + width - 1))) in
+    let put = within c (record { members = λ p. choose (inRegion i width p) (bit value (p - i)) (b .members p); count = count }) in
+    choose (ltb 64 width) (refused WidthOver) (choose (eqb width 0) (done b) (choose (passes i width) (refused IndexOver) put))
 
 -- a set operation with a second bitmap: `and`, `andnot` and `xor` drop trailing zero words, `or` does not
 unfoldable pub combining : (Bool → Bool → Bool) → Bits → Op

@@ -1,10 +1,11 @@
 -- What the calls of bitmap.rs promise, for every number. Each is proved in proofs/Promises.
-use Prim.Native.Nat.{ℕ, suc, _+_, _/_, _≤_, _<_, max}
+use Prim.Native.Nat.{ℕ, suc, _+_, _*_, _/_, _^_, _≤_, _<_, max}
 use mathlib.Core.Path.{_≡_}
 use mathlib.Core.Bool.{Bool, true, false, not}
 use mathlib.Core.List.{List}
 use mathlib.Core.Logic.{_⊎_}
 use lib.ListN.{length, getD}
+use Rattle.word.specs.Bits.{bit}
 use Rattle.storage.specs.Stores.{Bits}
 use Rattle.storage.specs.Promises.{LeastCount}
 
@@ -45,6 +46,21 @@ pub record WithRegion (i : ℕ) (v : Bool) (k : ℕ) (b s : Bits) : Type 0 where
   pub after : (j : ℕ) → i + k ≤ j → s .members j ≡ b .members j
   pub grown : (last : ℕ) → suc last ≡ i + k → v ≡ true → s .count ≡ max (b .count) (last / 64 + 1)
   pub kept : v ≡ false → s .count ≡ b .count
+
+-- `set_field`, of width > 0: the numbers from i on have the value's digits and no others change; zeros keep the count, a digit 1 grows to the last one's word
+pub record WithField (i value width : ℕ) (b s : Bits) : Type 0 where
+  pub inside : (j : ℕ) → j < width → s .members (i + j) ≡ bit value j
+  pub before : (p : ℕ) → p < i → s .members p ≡ b .members p
+  pub after : (p : ℕ) → i + width ≤ p → s .members p ≡ b .members p
+  pub kept : ((j : ℕ) → j < width → bit value j ≡ false) → s .count ≡ b .count
+  pub grown : (j last : ℕ) → j < width → bit value j ≡ true → suc last ≡ i + width → s .count ≡ max (b .count) (last / 64 + 1)
+
+-- 3 over 64 digits, then 4 where the last index passes 2 ^ 64 - 1, then 6 where the words in use, or the last one's word for a digit 1, are past the capacity
+abbrev pub NoField : ℕ → ℕ → ℕ → ℕ → Bits → ℕ → Type 0
+NoField i value width c b k =
+    ((k ≡ 3) × (64 < width))
+    ⊎ (((k ≡ 4) × (width ≤ 64) × (2 ^ 64 < i + width))
+    ⊎ ((k ≡ 6) × (width ≤ 64) × (i + width ≤ 2 ^ 64) × ((c < b .count) ⊎ (j : ℕ) × ((j < width) × (bit value j ≡ true) × (64 * c < i + width)))))
 
 -- a set operation with a second bitmap, in the fewest words that hold the result
 pub record Combines (f : Bool → Bool → Bool) (o b s : Bits) : Type 0 where

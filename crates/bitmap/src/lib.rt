@@ -11,7 +11,7 @@ ghost use lib.ListN.{length};
 ghost use lib.Bits.{bitAnd, bitOr, bitXor};
 ghost use Rattle.word.specs.Sets.{xorb};
 ghost use Rattle.storage.specs.Stores.{andNot, beside, Changes};
-ghost use Rattle.bitmap.specs.Bitmaps.{trimming, setting, unsetting, settingMany, settingRegion, combining, uniting, keepingBit, droppingBit, flippingBit, reachOf};
+ghost use Rattle.bitmap.specs.Bitmaps.{trimming, setting, unsetting, settingMany, settingRegion, settingField, combining, uniting, keepingBit, droppingBit, flippingBit, reachOf};
 ghost use Rattle.bitmap.specs.Kernels.{wordAndNot, Zipped, Listed, tidyCount};
 
 // Drops trailing zero words.
@@ -281,6 +281,35 @@ pub fn set_region(words: &mut [u64], b: Bitmap, i: usize, value: bool, k: usize)
     Change::Done(Bitmap {
         count: word::max(n, w + 1),
     })
+}
+
+// The bits from i on, below i + width, become the low bits of value: zeros clear what is there, another value grows to the last one's word. Width 0 does
+// nothing, whatever i. 3 over 64 bits.
+pub fn set_field(words: &mut [u64], b: Bitmap, i: usize, value: u64, width: usize) -> Change
+    ensures { λ r. ⌜ Changes (settingField i value width) (now (words .entry)) b r (now (words .exit)) ⌝ }
+{
+    let n = b.count;
+    match storage::check(words.len(), n) {
+        Guard::Stop(e) => return Change::Refused(e, b),
+        Guard::Pass => {}
+    }
+    if width > 64 {
+        return Change::Refused(Refusal::WidthOver, b);
+    }
+    // Width 0 has no bits, so it is here too.
+    if value & Word::low_mask(width) == 0 {
+        return set_region(words, b, i, false, width);
+    }
+    if width - 1 > usize::MAX - i {
+        return Change::Refused(Refusal::IndexOver, b);
+    }
+    let w = (i + (width - 1)) / 64;
+    if w >= words.len() {
+        return Change::Refused(Refusal::NoSpace, b);
+    }
+    storage::grow(words, n, w + 1);
+    let used = word::max(n, w + 1);
+    slice::set_field_strict(words, Bitmap { count: used }, i, value, width)
 }
 
 // The count when word k was worked on: trailing zero words go where it is the last and is zero.

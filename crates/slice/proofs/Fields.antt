@@ -67,7 +67,7 @@ pair-member ws k p h =
     ∙ sym (member-at ws (k + 1) (p - 64) (omega arith)) ∙ ap (member ws) e)
 
 -- the low digits that a mask keeps
-low-digits : (x width : ℕ) (p : ℕ → Bool) → width ≤ 64 → x < 2 ^ 64 → ((j : ℕ) → j < 64 → bit x j ≡ p j) → bitAnd x (lowMask 64 width) ≡ pack width p
+pub low-digits : (x width : ℕ) (p : ℕ → Bool) → width ≤ 64 → x < 2 ^ 64 → ((j : ℕ) → j < 64 → bit x j ≡ p j) → bitAnd x (lowMask 64 width) ≡ pack width p
 low-digits x width p h lt f =
     bits-ext 64 (bitAnd x (lowMask 64 width)) (pack width p) (and-lt 64 x (lowMask 64 width) lt (low-mask-lt 64 width))
     (lt-of-lt-of-le (pack-lt width p) (pow-mono h))
@@ -315,7 +315,7 @@ module _ (ws : List ℕ) (b : Bitmap) (i value width : ℕ) (p : Passed (length 
   unfolding fieldSetting view
   setting-past pos wide h = rw (le-ltb 64 width wide, ne-eqb width 0 (omega arith), lt-ltb (64 * b .count) (i + width) h)
 
-  setting-in : 0 < width → width ≤ 64 → i + width ≤ 64 * b .count
+  pub setting-in : 0 < width → width ≤ 64 → i + width ≤ 64 * b .count
       → fieldSetting i value width (length ws) (view ws (b .count)) ≡ done (withField i value width (view ws (b .count)))
   unfolding fieldSetting view
   setting-in pos wide h = rw (le-ltb 64 width wide, ne-eqb width 0 (omega arith), le-ltb (64 * b .count) (i + width) h)
