@@ -1,6 +1,6 @@
 pub mod Moves
 pub mod Rings
-pub mod Reversals
+pub mod Pieces
 pub mod Turns
 pub mod Calls
 pub mod Promises

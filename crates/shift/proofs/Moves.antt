@@ -17,6 +17,7 @@ use Rattle.word.proofs.Sweep.{Swept, sweep-none, sweep-to, sweep-down, sweep-up
 use Rattle.arch.specs.Scans.{filledWords}
 use Rattle.arch.proofs.Regions.{length-filled-words, filled-in, filled-below, filled-above}
 use Rattle.shift.specs.Shifts.{movedUp, movedDown}
+use Rattle.shift.specs.Kernels.{Moved}
 
 -- ---- one word
 
@@ -120,6 +121,21 @@ module _ (ws : List ℕ) (fit : Fit ws) (k : ℕ) where
       (e ∙ ap (λ (y : ℕ). funneled 64 0 y (64 - k % 64) (k % 64)) (s .below 0 (omega arith)) ∙ left-first))
       f (λ m a b. left-none m b) (λ m a. ((λ b. absurd (omega arith)), (λ b. (b, a))))
 
+  -- by whole words alone
+  pub left-moved : (w1 w2 : List ℕ) → Moved 0 (k / 64) (length ws - k / 64) ws w1 → k % 64 ≡ 0 → k / 64 < length ws → w2 ≡ filledWords 0 (k / 64) 0 w1
+      → w2 ≡ wordsOf left (length ws)
+  unfolding wordOf
+  left-moved w1 w2 s e h f =
+      fill-is ws w1 w2 left (k / 64) (length ws) 0 (k / 64)
+      (record { long = s .long; fresh = word; below = s .below; above = λ i l. s .above i (omega arith) })
+      f (λ m a b. left-none m b) (λ m a. ((λ b. absurd (omega arith)), (λ b. (b, a))))
+    where
+      word : (i : ℕ) → k / 64 ≤ i → i < length ws → getD w1 i 0 ≡ wordOf left i
+      word i a b =
+          ap (λ (x : ℕ). getD w1 x 0) {y = k / 64 + (i - k / 64)} (omega arith) ∙ s .moved (i - k / 64) (omega arith)
+          ∙ ap (λ (x : ℕ). getD ws x 0) {y = i - k / 64} (omega arith)
+          ∙ pack-is 64 (getD ws (i - k / 64) 0) (λ j. left (64 * i + j)) (fit (i - k / 64)) (λ j l. from-left i j (i - k / 64) j l (omega arith))
+
   -- every bit passes the end
   pub left-out : (ws' : List ℕ) → length ws ≤ k / 64 → ws' ≡ filledWords 0 (length ws) 0 ws → ws' ≡ wordsOf left (length ws)
   left-out ws' h f =
@@ -167,6 +183,20 @@ module _ (ws : List ℕ) (fit : Fit ws) (k : ℕ) where
       (s .above (length ws - 1) (omega arith) ∙ ap (λ (m : ℕ). getD ws m 0) (omega arith)) (sym (past ws (last + k / 64 + 1) (omega arith)))
       ∙ right-word last))
       f (λ m a b. right-none m (omega arith)) (λ m a. ((λ b. (omega arith, b)), (λ b. absurd (omega arith))))
+
+  -- by whole words alone
+  pub right-moved : (w1 w2 : List ℕ) → Moved (k / 64) 0 (length ws - k / 64) ws w1 → k % 64 ≡ 0 → k / 64 < length ws
+      → w2 ≡ filledWords (length ws - k / 64) (length ws) 0 w1 → w2 ≡ wordsOf right (length ws)
+  unfolding wordOf
+  right-moved w1 w2 s e h f =
+      fill-is ws w1 w2 right 0 (length ws - k / 64) (length ws - k / 64) (length ws)
+      (record { long = s .long; fresh = word; below = s .below; above = λ i l. s .above i (omega arith) })
+      f (λ m a b. right-none m (omega arith)) (λ m a. ((λ b. (omega arith, b)), (λ b. absurd (omega arith))))
+    where
+      word : (i : ℕ) → 0 ≤ i → i < length ws - k / 64 → getD w1 i 0 ≡ wordOf right i
+      word i a b =
+          ap (λ (x : ℕ). getD w1 x 0) {y = 0 + i} (omega arith) ∙ s .moved i b ∙ ap (λ (x : ℕ). getD ws x 0) {y = i + k / 64} (omega arith)
+          ∙ pack-is 64 (getD ws (i + k / 64) 0) (λ j. right (64 * i + j)) (fit (i + k / 64)) (λ j l. from-right i j (i + k / 64) j l (omega arith))
 
   -- every bit is below k
   pub right-out : (ws' : List ℕ) → length ws ≤ k / 64 → ws' ≡ filledWords 0 (length ws) 0 ws → ws' ≡ wordsOf right (length ws)

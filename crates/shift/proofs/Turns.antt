@@ -1,14 +1,13 @@
 -- Words turned whole, and the walks that turn the odd bits. Assumes nothing.
 use mathlib.Core.Path.{_≡_, refl, sym, ap, ap₂, _∙_, subst}
 use mathlib.Core.Bool.{Bool}
-use mathlib.Core.List.{List, _++_}
+use mathlib.Core.List.{List}
 use mathlib.Core.Logic.{_⊎_, inl, inr}
 use Prim.Native.Nat.{ℕ, _+_, _-_, _*_, _/_, _%_, _^_, _≤_, _<_}
 use native.Mathlib.Nat.{mod-lt, mod-eq-of-lt, mod-self, mod-add-mod, add-mod-mod, add-mod-right, mul-comm}
 use native.Mathlib.Omega.{arith}
 use lib.Arith.{mod-mul}
-use lib.ListN.{length, getD, set, take, drop, length-append, length-drop, List·getD-append}
-use lib.Seq.{getD-take, getD-drop, getD-append-add, length-take-le}
+use lib.ListN.{length, getD, set}
 use Rattle.word.specs.Bits.{bit, wordOf, member, wordsOf}
 use Rattle.word.specs.Words.{funneled}
 use Rattle.word.proofs.Cases.{by-lt, by-eq}
@@ -16,7 +15,9 @@ use Rattle.word.proofs.Bits.{bit-pack}
 use Rattle.word.proofs.Lists.{Fit, tab-is, words-is, length-words, word-at, words-fit, member-at, member-words}
 use Rattle.word.proofs.Sweep.{Swept, sweep-to, sweep-up, sweep-down}
 use Rattle.shift.specs.Shifts.{turnedUp, turnedDown}
+use Rattle.shift.specs.Kernels.{turnedWords}
 use Rattle.shift.proofs.Moves.{funneled-is}
+use Rattle.shift.proofs.Pieces.{turned-long, turned-low, turned-high}
 use Rattle.shift.proofs.Rings.{turned-from, turned-by, turned-rest, turned-twice, sunk-by}
 
 -- where there are no words, they are any set's
@@ -51,35 +52,18 @@ module _ (ws : List ℕ) (fit : Fit ws) (k : ℕ) where
   turn-none e = words-is (length ws) turned ws refl (λ i l. fit i) (λ i j l m. from-turn i j i j l m l m (inl (omega arith)))
 
   -- by whole words: the last m words stand before the others
-  pub turn-whole : (ws' : List ℕ) (m : ℕ) → m ≤ length ws → k ≡ 64 * m → ws' ≡ drop (length ws - m) ws ++ take (length ws - m) ws → ws' ≡ wordsOf turned (length ws)
-  turn-whole ws' m h q e =
-      words-is (length ws) turned ws' long
+  pub turn-whole : (m : ℕ) → m ≤ length ws → k ≡ 64 * m → turnedWords m ws ≡ wordsOf turned (length ws)
+  turn-whole m h q =
+      words-is (length ws) turned (turnedWords m ws) (turned-long ws m h)
       (λ i l. by-lt i m
-      (λ p. subst (λ (x : ℕ). x < 2 ^ 64) (sym (low i p)) (fit (length ws - m + i)))
+      (λ p. subst (λ (x : ℕ). x < 2 ^ 64) (sym (turned-low ws m h i p)) (fit (length ws - m + i)))
       (λ p. subst (λ (x : ℕ). x < 2 ^ 64) (sym (high i l p)) (fit (i - m))))
       (λ i j l r. by-lt i m
-      (λ p. ap (λ (x : ℕ). bit x j) (low i p) ∙ from-turn i j (length ws - m + i) j (omega arith) r l r (inr (omega arith)))
+      (λ p. ap (λ (x : ℕ). bit x j) (turned-low ws m h i p) ∙ from-turn i j (length ws - m + i) j (omega arith) r l r (inr (omega arith)))
       (λ p. ap (λ (x : ℕ). bit x j) (high i l p) ∙ from-turn i j (i - m) j (omega arith) r l r (inl (omega arith))))
     where
-      a : List ℕ
-      a = take (length ws - m) ws
-
-      b : List ℕ
-      b = drop (length ws - m) ws
-
-      long-b : length b ≡ m
-      long-b = length-drop (length ws - m) ws ∙ omega arith
-
-      long : length ws' ≡ length ws
-      long = ap length e ∙ length-append b a ∙ omega (arith, long-b, length-take-le (length ws - m) ws (omega arith))
-
-      low : (i : ℕ) → i < m → getD ws' i 0 ≡ getD ws (length ws - m + i) 0
-      low i p = ap (λ (y : List ℕ). getD y i 0) e ∙ List·getD-append b a 0 i (omega (arith, long-b)) ∙ getD-drop (length ws - m) ws i 0
-
-      high : (i : ℕ) → i < length ws → m ≤ i → getD ws' i 0 ≡ getD ws (i - m) 0
-      high i l p =
-          ap (λ (y : List ℕ). getD y i 0) e ∙ ap (λ (x : ℕ). getD (b ++ a) x 0) (omega (arith, long-b))
-          ∙ getD-append-add b a (i - m) 0 ∙ getD-take (length ws - m) ws (i - m) 0 (omega arith)
+      high : (i : ℕ) → i < length ws → m ≤ i → getD (turnedWords m ws) i 0 ≡ getD ws (i - m) 0
+      high i l p = ap (λ (x : ℕ). getD (turnedWords m ws) x 0) {y = m + (i - m)} (omega arith) ∙ turned-high ws m h (i - m) (omega arith)
 
   -- by odd bits: one turn of the walk, from the top down
   pub up-step : (ws' : List ℕ) (i v : ℕ) → k < 64 → Swept ws (wordOf turned) (i + 1) (length ws) ws' → 0 < i → i < length ws
@@ -148,7 +132,13 @@ module _ (ws : List ℕ) (fit : Fit ws) (k : ℕ) where
 
 -- ---- whole words and then odd bits
 
-module _ (ws w1 w2 : List ℕ) (whole : ℕ) (pos : 0 < length ws) (e1 : w1 ≡ wordsOf (turnedUp (64 * length ws) (64 * whole) (member ws)) (length ws)) where
+module _ (ws w1 w2 : List ℕ) (fit : Fit ws) (whole : ℕ) (l1 : whole < length ws) (turned1 : w1 ≡ turnedWords whole ws) where
+  pos : 0 < length ws
+  pos = omega arith
+
+  e1 : w1 ≡ wordsOf (turnedUp (64 * length ws) (64 * whole) (member ws)) (length ws)
+  e1 = turned1 ∙ turn-whole ws fit (64 * whole) whole (omega arith) refl
+
   -- a set taken from the turned words by places, as a set taken from the words
   both : (g : ℕ → ℕ → ℕ) (t : ℕ → Bool) → ((i : ℕ) → g (64 * length ws) i < 64 * length ws) → w2 ≡ wordsOf (λ i. member w1 (g (64 * length w1) i)) (length w1)
       → ((i : ℕ) → i < 64 * length ws → turnedUp (64 * length ws) (64 * whole) (member ws) (g (64 * length ws) i) ≡ t i) → w2 ≡ wordsOf t (length ws)

@@ -1,11 +1,12 @@
 // Shifts and rotations of the words in use, within their length, in place. Whole words and odd bits are split ahead of the walk, and a step
 // makes one word of two neighbours.
+mod whole;
+
 use storage::Bitmap;
 use storage::Change;
 use storage::Guard;
 use word::Word;
 ghost use mathlib.Core.Path.{_≡_};
-ghost use mathlib.Core.List.{reverse};
 ghost use Prim.Native.Nat.{_*_, _<_};
 ghost use lib.ListN.{length};
 ghost use Rattle.word.specs.Bits.{member, wordsOf};
@@ -33,6 +34,11 @@ pub fn left_words(words: &mut [u64], k: usize)
         arch::fill_words(words, 0, n, 0);
         return;
     }
+    if up == 0 {
+        whole::move_up(words, whole);
+        arch::fill_words(words, 0, whole, 0);
+        return;
+    }
     // From the top down, so that each word is read before it is overwritten.
     let mut i = n - 1;
     while i > whole {
@@ -53,6 +59,11 @@ pub fn right_words(words: &mut [u64], k: usize)
     let up = 64 - down;
     if whole >= n {
         arch::fill_words(words, 0, n, 0);
+        return;
+    }
+    if down == 0 {
+        whole::move_down(words, whole);
+        arch::fill_words(words, n - whole, n, 0);
         return;
     }
     // From the bottom up, so that each word is read before it is overwritten.
@@ -90,35 +101,6 @@ pub fn shift_right(words: &mut [u64], b: Bitmap, k: usize) -> Change
     }
     right_words(&mut words[..n], k);
     Change::Done(b)
-}
-
-// The words in the other order.
-fn reverse_words(words: &mut [u64])
-    ensures { λ r. ⌜ now (words .exit) ≡ reverse (now (words .entry)) ⌝ }
-{
-    let n = words.len();
-    let half = n / 2;
-    let mut i = 0;
-    while i < half {
-        let j = n - 1 - i;
-        let x = words[i];
-        words[i] = words[j];
-        words[j] = x;
-        i += 1;
-    }
-}
-
-// Each word goes `whole` words up, those that pass the end to the start: three reversals do it in place.
-fn turn_whole(words: &mut [u64], whole: usize)
-    requires { ⌜ whole < length (now words) ⌝ }
-    ensures { λ r. ⌜ now (words .exit) ≡ wordsOf (turnedUp (64 * length (now (words .entry))) (64 * whole) (member (now (words .entry)))) (length (now (words .entry))) ⌝ }
-{
-    if whole == 0 {
-        return;
-    }
-    reverse_words(words);
-    reverse_words(&mut words[..whole]);
-    reverse_words(&mut words[whole..]);
 }
 
 // Each bit goes `up` places up, within its word or into the next; those that pass the end go to the start.
@@ -168,7 +150,7 @@ pub fn turn_left(words: &mut [u64], k: usize)
     if n == 0 {
         return;
     }
-    turn_whole(words, (k / 64) % n);
+    whole::turn_words(words, (k / 64) % n);
     turn_up(words, k % 64);
 }
 
@@ -181,7 +163,7 @@ pub fn turn_right(words: &mut [u64], k: usize)
         return;
     }
     // Down by whole words is up by what they leave of the length.
-    turn_whole(words, (n - (k / 64) % n) % n);
+    whole::turn_words(words, (n - (k / 64) % n) % n);
     turn_down(words, k % 64);
 }
 

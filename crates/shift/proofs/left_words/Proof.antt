@@ -7,7 +7,7 @@ use Rattle.word.specs.Bits.{member, wordOf}
 use Rattle.word.proofs.Sweep.{Swept, sweep-none, sweep-to}
 use Rattle.arch.proofs.Regions.{length-filled-words}
 use Rattle.shift.specs.Shifts.{movedUp}
-use Rattle.shift.proofs.Moves.{length-after, left-step, left-last, left-out}
+use Rattle.shift.proofs.Moves.{length-after, left-step, left-last, left-out, left-moved}
 use Rattle.shift.proofs.left_words.Statement.{statement}
 use Rattle.shift.proofs.left_words.Tie as tie
 
@@ -28,6 +28,18 @@ same-length c = ap length (c .before .before .fill-words .ensures) ∙ length-fi
 
 returns : tie.Need-returns Inv-loop μ-loop
 returns c = left-out _ (λ m. omega (arith, c .before .before .before .before .before .slice-known .given m)) _ _ (omega arith) (c .before .before .fill-words .ensures)
+
+move-up-requires : tie.Need-move-up-requires Inv-loop μ-loop
+move-up-requires c κs = search needs
+
+fill-words-requires-2 : tie.Need-fill-words-requires-2 Inv-loop μ-loop
+fill-words-requires-2 c κs = search needs
+
+same-length-2 : tie.Need-same-length-2 Inv-loop μ-loop
+same-length-2 c = ap length (c .before .before .fill-words2 .ensures) ∙ length-filled-words _ _ _ _ ∙ c .before .before .before .before .before .before .move-up .ensures .long
+
+returns-2 : tie.Need-returns-2 Inv-loop μ-loop
+returns-2 c = left-moved (c .before .before .before .before .before .before .before .before .before .before .before .args .words .now) (λ m. omega (arith, c .before .before .before .before .before .before .before .before .before .before .slice-known .given m)) _ (c .before .before .before .before .before .before .move-up .last .0) _ (c .before .before .before .before .before .before .move-up .ensures) (omega arith) (omega arith) (c .before .before .fill-words2 .ensures)
 
 sub-i : tie.Need-sub-i Inv-loop μ-loop
 sub-i c = omega arith
@@ -72,7 +84,7 @@ loop-less : tie.Need-loop-less Inv-loop μ-loop
 loop-less c = omega arith
 
 loop-again : tie.Need-loop-again Inv-loop μ-loop
-loop-again c = (omega arith, omega arith, left-step _ (λ m. omega (arith, c .before .before .before .before .before .before .slice-known .given m)) _ _ _ _ (c .before .before .before .before .loop .inv .2) (omega arith) (omega arith) (c .funnel .ensures))
+loop-again c = (omega arith, omega arith, left-step _ (λ m. omega (arith, c .before .before .before .before .before .before .before .slice-known .given m)) _ _ _ _ (c .before .before .before .before .loop .inv .2) (omega arith) (omega arith) (c .funnel .ensures))
 
 slice-read-funnel-3 : tie.Need-slice-read-funnel-3 Inv-loop μ-loop
 slice-read-funnel-3 c = omega arith
@@ -86,14 +98,14 @@ mul-words-2 c = omega arith
 slice-write-words-2 : tie.Need-slice-write-words-2 Inv-loop μ-loop
 slice-write-words-2 c = omega arith
 
-fill-words-requires-2 : tie.Need-fill-words-requires-2 Inv-loop μ-loop
-fill-words-requires-2 c κs = search needs
+fill-words-requires-3 : tie.Need-fill-words-requires-3 Inv-loop μ-loop
+fill-words-requires-3 c κs = search needs
 
-same-length-2 : tie.Need-same-length-2 Inv-loop μ-loop
-same-length-2 c = length-after (c .before .before .before .before .before .before .before .before .before .before .args .words .now) (c .before .before .before .before .before .before .before .loop .words) _ _ (c .before .before .before .before .funnel2 .result) _ _ (c .before .before .before .before .before .before .before .loop .inv .2 .long) (c .before .before .fill-words2 .ensures)
+same-length-3 : tie.Need-same-length-3 Inv-loop μ-loop
+same-length-3 c = length-after (c .before .before .before .before .before .before .before .before .before .before .before .args .words .now) (c .before .before .before .before .before .before .before .loop .words) _ _ (c .before .before .before .before .funnel2 .result) _ _ (c .before .before .before .before .before .before .before .loop .inv .2 .long) (c .before .before .fill-words3 .ensures)
 
-returns-2 : tie.Need-returns-2 Inv-loop μ-loop
-returns-2 c = left-last _ (λ m. omega (arith, c .before .before .before .before .before .before .before .before .before .slice-known .given m)) _ _ _ _ _ (c .before .before .before .before .before .before .before .loop .inv .2) (omega arith) (omega arith) (c .before .before .before .before .funnel2 .ensures) (c .before .before .fill-words2 .ensures)
+returns-3 : tie.Need-returns-3 Inv-loop μ-loop
+returns-3 c = left-last _ (λ m. omega (arith, c .before .before .before .before .before .before .before .before .before .before .slice-known .given m)) _ _ _ _ _ (c .before .before .before .before .before .before .before .loop .inv .2) (omega arith) (omega arith) (c .before .before .before .before .funnel2 .ensures) (c .before .before .fill-words3 .ensures)
 
 pub left-words-spec : {M : Type 1} → statement M
 left-words-spec =
@@ -105,6 +117,10 @@ left-words-spec =
     fill-words-requires
     same-length
     returns
+    move-up-requires
+    fill-words-requires-2
+    same-length-2
+    returns-2
     sub-i
     loop-holds
     sub-funnel
@@ -124,6 +140,6 @@ left-words-spec =
     funnel-requires-2
     mul-words-2
     slice-write-words-2
-    fill-words-requires-2
-    same-length-2
-    returns-2)
+    fill-words-requires-3
+    same-length-3
+    returns-3)

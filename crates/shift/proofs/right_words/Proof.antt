@@ -7,7 +7,7 @@ use Rattle.word.specs.Bits.{member, wordOf}
 use Rattle.word.proofs.Sweep.{Swept, sweep-none}
 use Rattle.arch.proofs.Regions.{length-filled-words}
 use Rattle.shift.specs.Shifts.{movedDown}
-use Rattle.shift.proofs.Moves.{length-after, right-step, right-last, right-out}
+use Rattle.shift.proofs.Moves.{length-after, right-step, right-last, right-out, right-moved}
 use Rattle.shift.proofs.right_words.Statement.{statement}
 use Rattle.shift.proofs.right_words.Tie as tie
 
@@ -28,6 +28,21 @@ same-length c = ap length (c .before .before .fill-words .ensures) ∙ length-fi
 
 returns : tie.Need-returns Inv-loop μ-loop
 returns c = right-out _ (λ m. omega (arith, c .before .before .before .before .before .slice-known .given m)) _ _ (omega arith) (c .before .before .fill-words .ensures)
+
+move-down-requires : tie.Need-move-down-requires Inv-loop μ-loop
+move-down-requires c κs = search needs
+
+sub-fill-words : tie.Need-sub-fill-words Inv-loop μ-loop
+sub-fill-words c = omega arith
+
+fill-words-requires-2 : tie.Need-fill-words-requires-2 Inv-loop μ-loop
+fill-words-requires-2 c κs = search needs
+
+same-length-2 : tie.Need-same-length-2 Inv-loop μ-loop
+same-length-2 c = ap length (c .before .before .fill-words2 .ensures) ∙ length-filled-words _ _ _ _ ∙ c .before .before .before .before .before .before .move-down .ensures .long
+
+returns-2 : tie.Need-returns-2 Inv-loop μ-loop
+returns-2 c = right-moved (c .before .before .before .before .before .before .before .before .before .before .before .args .words .now) (λ m. omega (arith, c .before .before .before .before .before .before .before .before .before .before .slice-known .given m)) _ (c .before .before .before .before .before .before .move-down .last .0) _ (c .before .before .before .before .before .before .move-down .ensures) (omega arith) (omega arith) (c .before .before .fill-words2 .ensures)
 
 sub-last : tie.Need-sub-last Inv-loop μ-loop
 sub-last c = omega arith
@@ -75,7 +90,7 @@ loop-less : tie.Need-loop-less Inv-loop μ-loop
 loop-less c = omega arith
 
 loop-again : tie.Need-loop-again Inv-loop μ-loop
-loop-again c = (omega arith, right-step _ (λ m. omega (arith, c .before .before .before .before .before .before .slice-known .given m)) _ _ _ _ (c .before .before .before .before .loop .inv .1) (omega arith) (c .funnel .ensures))
+loop-again c = (omega arith, right-step _ (λ m. omega (arith, c .before .before .before .before .before .before .before .slice-known .given m)) _ _ _ _ (c .before .before .before .before .loop .inv .1) (omega arith) (c .funnel .ensures))
 
 sub-funnel : tie.Need-sub-funnel Inv-loop μ-loop
 sub-funnel c = omega arith
@@ -98,14 +113,14 @@ slice-write-words-2 c = omega arith
 add-fill-words : tie.Need-add-fill-words Inv-loop μ-loop
 add-fill-words c = omega arith
 
-fill-words-requires-2 : tie.Need-fill-words-requires-2 Inv-loop μ-loop
-fill-words-requires-2 c κs = search needs
+fill-words-requires-3 : tie.Need-fill-words-requires-3 Inv-loop μ-loop
+fill-words-requires-3 c κs = search needs
 
-same-length-2 : tie.Need-same-length-2 Inv-loop μ-loop
-same-length-2 c = length-after (c .before .before .before .before .before .before .before .before .before .before .args .words .now) (c .before .before .before .before .before .before .before .loop .words) _ _ (c .before .before .before .before .funnel2 .result) _ _ (c .before .before .before .before .before .before .before .loop .inv .1 .long) (c .before .before .fill-words2 .ensures)
+same-length-3 : tie.Need-same-length-3 Inv-loop μ-loop
+same-length-3 c = length-after (c .before .before .before .before .before .before .before .before .before .before .before .args .words .now) (c .before .before .before .before .before .before .before .loop .words) _ _ (c .before .before .before .before .funnel2 .result) _ _ (c .before .before .before .before .before .before .before .loop .inv .1 .long) (c .before .before .fill-words3 .ensures)
 
-returns-2 : tie.Need-returns-2 Inv-loop μ-loop
-returns-2 c = right-last _ (λ m. omega (arith, c .before .before .before .before .before .before .before .before .before .slice-known .given m)) _ _ _ _ _ _ (c .before .before .before .before .before .before .before .loop .inv .1) (omega arith) (omega arith) (c .before .before .before .before .funnel2 .ensures) (c .before .before .fill-words2 .ensures)
+returns-3 : tie.Need-returns-3 Inv-loop μ-loop
+returns-3 c = right-last _ (λ m. omega (arith, c .before .before .before .before .before .before .before .before .before .before .slice-known .given m)) _ _ _ _ _ _ (c .before .before .before .before .before .before .before .loop .inv .1) (omega arith) (omega arith) (c .before .before .before .before .funnel2 .ensures) (c .before .before .fill-words3 .ensures)
 
 pub right-words-spec : {M : Type 1} → statement M
 right-words-spec =
@@ -117,6 +132,11 @@ right-words-spec =
     fill-words-requires
     same-length
     returns
+    move-down-requires
+    sub-fill-words
+    fill-words-requires-2
+    same-length-2
+    returns-2
     sub-last
     sub-last-2
     loop-holds
@@ -140,6 +160,6 @@ right-words-spec =
     mul-words-2
     slice-write-words-2
     add-fill-words
-    fill-words-requires-2
-    same-length-2
-    returns-2)
+    fill-words-requires-3
+    same-length-3
+    returns-3)

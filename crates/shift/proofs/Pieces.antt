@@ -1,0 +1,298 @@
+-- Words that move or change places, piece by piece. Assumes nothing.
+use mathlib.Core.Path.{_≡_, refl, sym, ap, _∙_}
+use mathlib.Core.List.{List, _++_, append-nil}
+use Prim.Native.Nat.{ℕ, _+_, _-_, _≤_, _<_, min}
+use native.Mathlib.Omega.{arith}
+use borrow.Rule.Slice.PartMut.{midOf, putMid}
+use lib.ListN.{length, getD, set, take, drop, length-set, length-append, length-drop, List·getD-append}
+use lib.Seq.{getD-set-other, getD-append-add, getD-take, getD-drop, ext-getD, length-take-le}
+use Rattle.word.proofs.Cases.{by-lt, by-eq}
+use Rattle.word.proofs.Lists.{past}
+use Rattle.word.proofs.Sweep.{Swept, getD-set}
+use Rattle.shift.specs.Kernels.{Moved, Swapped, turnedWords}
+
+-- every word copied
+pub copied-all : (old from ws : List ℕ) (i : ℕ) → Swept old (λ k. getD from k 0) 0 i ws → length old ≡ length from → length from ≤ i → ws ≡ from
+copied-all old from ws i s e h = ext-getD 0 ws from (s .long ∙ e) (λ k l. s .fresh k (omega arith) (omega (arith, s .long)))
+
+-- ---- two runs that change places
+
+pub swap-none : (a b : ℕ) (ws : List ℕ) → Swapped a b 0 ws ws
+swap-none a b ws = record { long = refl; first = λ k l. absurd (omega arith); second = λ k l. absurd (omega arith); below = λ k l. refl; between = λ k l h. refl; above = λ k l. refl }
+
+pub swapped-to : (a b i m : ℕ) (old ws : List ℕ) → Swapped a b i old ws → i ≡ m → Swapped a b m old ws
+swapped-to a b i m old ws s e = rw (← e) s
+
+pub swap-more : (a b i : ℕ) (old ws : List ℕ) → Swapped a b i old ws → a + i < b → b + i < length ws
+    → Swapped a b (i + 1) old (set (set ws (a + i) (getD ws (b + i) 0)) (b + i) (getD ws (a + i) 0))
+swap-more a b i old ws s h l = record {
+  long = length-set (set ws (a + i) y) (b + i) x ∙ length-set ws (a + i) y ∙ s .long;
+  first = λ k p.
+      getD-set-other (set ws (a + i) y) (b + i) (a + k) x 0 (omega arith)
+      ∙ by-eq k i
+      (λ e. getD-set ws (a + i) (a + k) y (omega arith) (omega arith) ∙ s .above (b + i) (omega arith) ∙ ap (λ (m : ℕ). getD old (b + m) 0) (sym e))
+      (λ e. getD-set-other ws (a + i) (a + k) y 0 (omega arith) ∙ s .first k (omega arith));
+  second = λ k p.
+      by-eq k i
+      (λ e. getD-set (set ws (a + i) y) (b + i) (b + k) x (omega (arith, length-set ws (a + i) y)) (omega arith) ∙ s .between (a + i) (omega arith) h ∙ ap (λ (m : ℕ). getD old (a + m) 0) (sym e))
+      (λ e. twice (b + k) (omega arith) (omega arith) ∙ s .second k (omega arith));
+  below = λ k p. twice k (omega arith) (omega arith) ∙ s .below k p;
+  between = λ k p q. twice k (omega arith) (omega arith) ∙ s .between k (omega arith) q;
+  above = λ k p. twice k (omega arith) (omega arith) ∙ s .above k (omega arith);
+}
+  where
+    x : ℕ
+    x = getD ws (a + i) 0
+
+    y : ℕ
+    y = getD ws (b + i) 0
+
+    twice : (k : ℕ) → (k ≡ a + i → ⊥) → (k ≡ b + i → ⊥) → getD (set (set ws (a + i) y) (b + i) x) k 0 ≡ getD ws k 0
+    twice k p q = getD-set-other (set ws (a + i) y) (b + i) k x 0 q ∙ getD-set-other ws (a + i) k y 0 p
+
+-- ---- parts that are lent and come back
+
+pub getD-after : (xs ys : List ℕ) (n i : ℕ) → length xs ≡ n → getD (xs ++ ys) (n + i) 0 ≡ getD ys i 0
+getD-after xs ys n i e = ap (λ (m : ℕ). getD (xs ++ ys) (m + i) 0) (sym e) ∙ getD-append-add xs ys i 0
+
+pub part-long : (ws : List ℕ) (a e m : ℕ) → a + m ≡ e → e ≤ length ws → length (midOf a (e - a) ws) ≡ m
+part-long ws a e m q h = length-take-le (e - a) (drop a ws) (omega (arith, length-drop a ws)) ∙ omega arith
+
+pub part-at : (ws : List ℕ) (a e i : ℕ) → a + i < e → getD (midOf a (e - a) ws) i 0 ≡ getD ws (a + i) 0
+part-at ws a e i h = getD-take (e - a) (drop a ws) i 0 (omega arith) ∙ getD-drop a ws i 0
+
+-- parts of the same number of words
+pub take-part : (m a e : ℕ) (xs ws : List ℕ) → a + m ≡ e → m ≤ length xs → e ≤ length ws → length (take m xs) ≡ length (midOf a (e - a) ws)
+take-part m a e xs ws q h l = length-take-le m xs h ∙ sym (part-long ws a e m q l)
+
+pub take-take : (m : ℕ) (xs ys : List ℕ) → m ≤ length xs → m ≤ length ys → length (take m xs) ≡ length (take m ys)
+take-take m xs ys h l = length-take-le m xs h ∙ sym (length-take-le m ys l)
+
+-- words put in the place of those from a on
+module _ (ws ys : List ℕ) (a e : ℕ) (long : a + length ys ≡ e) (h : e ≤ length ws) where
+  pub put-long : length (putMid a (e - a) ws ys) ≡ length ws
+  put-long =
+      length-append (take a ws) (ys ++ drop (e - a) (drop a ws))
+      ∙ omega (arith, length-take-le a ws (omega arith), length-append ys (drop (e - a) (drop a ws)), length-drop (e - a) (drop a ws), length-drop a ws)
+
+  pub put-in : (i : ℕ) → a + i < e → getD (putMid a (e - a) ws ys) (a + i) 0 ≡ getD ys i 0
+  put-in i l =
+      getD-after (take a ws) (ys ++ drop (e - a) (drop a ws)) a i (length-take-le a ws (omega arith))
+      ∙ List·getD-append ys (drop (e - a) (drop a ws)) 0 i (omega arith)
+
+  pub put-below : (i : ℕ) → i < a → getD (putMid a (e - a) ws ys) i 0 ≡ getD ws i 0
+  put-below i l =
+      List·getD-append (take a ws) (ys ++ drop (e - a) (drop a ws)) 0 i (omega (arith, length-take-le a ws (omega arith))) ∙ getD-take a ws i 0 l
+
+  pub put-above : (i : ℕ) → e ≤ i → getD (putMid a (e - a) ws ys) i 0 ≡ getD ws i 0
+  put-above i l =
+      ap (λ (m : ℕ). getD (putMid a (e - a) ws ys) m 0) {y = a + (length ys + (i - e))} (omega arith)
+      ∙ getD-after (take a ws) (ys ++ drop (e - a) (drop a ws)) a (length ys + (i - e)) (length-take-le a ws (omega arith))
+      ∙ getD-append-add ys (drop (e - a) (drop a ws)) (i - e) 0 ∙ getD-drop (e - a) (drop a ws) (i - e) 0
+      ∙ getD-drop a ws (e - a + (i - e)) 0 ∙ ap (λ (m : ℕ). getD ws m 0) (omega arith)
+
+-- what is read of an array into whose start words have been copied
+module _ (ws xs zs : List ℕ) (a e m : ℕ) (f : xs ≡ midOf a (e - a) ws) (q : a + m ≡ e) (h : e ≤ length ws) where
+  pub held-long : m ≤ length (xs ++ zs)
+  held-long = omega (arith, length-append xs zs, ap length f, part-long ws a e m q h)
+
+  pub held-at : (i : ℕ) → i < m → getD (take m (xs ++ zs)) i 0 ≡ getD ws (a + i) 0
+  held-at i l =
+      getD-take m (xs ++ zs) i 0 l ∙ List·getD-append xs zs 0 i (omega (arith, ap length f, part-long ws a e m q h))
+      ∙ ap (λ (y : List ℕ). getD y i 0) f ∙ part-at ws a e i (omega arith)
+
+pub first-long : (ws xs zs : List ℕ) (m : ℕ) → xs ≡ take m ws → m ≤ length ws → m ≤ length (xs ++ zs)
+first-long ws xs zs m f h = omega (arith, length-append xs zs, ap length f, length-take-le m ws h)
+
+-- ---- moved by pieces
+
+pub piece-moved : (from to m : ℕ) (ws xs ys zs : List ℕ) → from + m ≤ length ws → to + m ≤ length ws → xs ≡ midOf from (from + m - from) ws
+    → ys ≡ take m (xs ++ zs) → Moved from to m ws (putMid to (to + m - to) ws ys)
+piece-moved from to m ws xs ys zs hf ht f g = record {
+  long = put-long ws ys to (to + m) long ht;
+  moved = λ i l.
+      put-in ws ys to (to + m) long ht i (omega arith) ∙ ap (λ (y : List ℕ). getD y i 0) g ∙ held-at ws xs zs from (from + m) m f refl hf i l;
+  below = λ i l. put-below ws ys to (to + m) long ht i l;
+  above = λ i l. put-above ws ys to (to + m) long ht i l;
+}
+  where
+    long : to + length ys ≡ to + m
+    long = ap (λ (y : List ℕ). to + length y) g ∙ ap (λ (k : ℕ). to + k) (length-take-le m (xs ++ zs) (held-long ws xs zs from (from + m) m f refl hf))
+
+pub move-none : (a b m : ℕ) (ws : List ℕ) → m ≡ 0 → Moved a b m ws ws
+move-none a b m ws e = record { long = refl; moved = λ i l. absurd (omega arith); below = λ i l. refl; above = λ i l. refl }
+
+pub moved-to : (a b m a' b' m' : ℕ) (old ws : List ℕ) → Moved a b m old ws → a ≡ a' → b ≡ b' → m ≡ m' → Moved a' b' m' old ws
+moved-to a b m a' b' m' old ws s p q r = rw (← p, ← q, ← r) s
+
+-- a piece below those that have moved up
+pub moved-up-more : (left q m n : ℕ) (old w1 w2 : List ℕ) → m ≤ left → left + q ≤ n → Moved left (left + q) (n - q - left) old w1
+    → Moved (left - m) (left - m + q) m w1 w2 → Moved (left - m) (left - m + q) (n - q - (left - m)) old w2
+moved-up-more left q m n old w1 w2 h r s t = record {
+  long = t .long ∙ s .long;
+  moved = λ i l.
+      by-lt i m
+      (λ p. t .moved i p ∙ s .below (left - m + i) (omega arith))
+      (λ p.
+      t .above (left - m + q + i) (omega arith) ∙ ap (λ (x : ℕ). getD w1 x 0) {y = left + q + (i - m)} (omega arith)
+      ∙ s .moved (i - m) (omega arith) ∙ ap (λ (x : ℕ). getD old x 0) (omega arith));
+  below = λ i l. t .below i l ∙ s .below i (omega arith);
+  above = λ i l. t .above i (omega arith) ∙ s .above i (omega arith);
+}
+
+-- a piece above those that have moved down
+pub moved-down-more : (q i m : ℕ) (old w1 w2 : List ℕ) → Moved q 0 i old w1 → Moved (i + q) i m w1 w2 → Moved q 0 (i + m) old w2
+moved-down-more q i m old w1 w2 s t = record {
+  long = t .long ∙ s .long;
+  moved = λ k l.
+      by-lt k i
+      (λ p. t .below (0 + k) (omega arith) ∙ s .moved k p)
+      (λ p.
+      ap (λ (x : ℕ). getD w2 x 0) {y = i + (k - i)} (omega arith) ∙ t .moved (k - i) (omega arith)
+      ∙ s .above (i + q + (k - i)) (omega arith) ∙ ap (λ (x : ℕ). getD old x 0) (omega arith));
+  below = λ k l. absurd (omega arith);
+  above = λ k l. t .above k (omega arith) ∙ s .above k (omega arith);
+}
+
+-- ---- the last words before the others
+
+module _ (ws : List ℕ) (m : ℕ) (h : m ≤ length ws) where
+  long-last : length (drop (length ws - m) ws) ≡ m
+  long-last = length-drop (length ws - m) ws ∙ omega arith
+
+  pub turned-long : length (turnedWords m ws) ≡ length ws
+  turned-long =
+      length-append (drop (length ws - m) ws) (take (length ws - m) ws) ∙ omega (arith, long-last, length-take-le (length ws - m) ws (omega arith))
+
+  pub turned-low : (i : ℕ) → i < m → getD (turnedWords m ws) i 0 ≡ getD ws (length ws - m + i) 0
+  turned-low i l =
+      List·getD-append (drop (length ws - m) ws) (take (length ws - m) ws) 0 i (omega (arith, long-last)) ∙ getD-drop (length ws - m) ws i 0
+
+  pub turned-high : (i : ℕ) → i < length ws - m → getD (turnedWords m ws) (m + i) 0 ≡ getD ws i 0
+  turned-high i l =
+      getD-after (drop (length ws - m) ws) (take (length ws - m) ws) m i long-last ∙ getD-take (length ws - m) ws i 0 l
+
+  pub turned-is : (ws' : List ℕ) → length ws' ≡ length ws → ((i : ℕ) → i < m → getD ws' i 0 ≡ getD ws (length ws - m + i) 0)
+      → ((i : ℕ) → i < length ws - m → getD ws' (m + i) 0 ≡ getD ws i 0) → ws' ≡ turnedWords m ws
+  turned-is ws' e low high =
+      ext-getD 0 ws' (turnedWords m ws) (e ∙ sym turned-long)
+      (λ k l. by-lt k m
+      (λ p. low k p ∙ sym (turned-low k p))
+      (λ p.
+      ap (λ (x : ℕ). getD ws' x 0) {y = m + (k - m)} (omega arith) ∙ high (k - m) (omega arith)
+      ∙ sym (turned-high (k - m) (omega arith)) ∙ ap (λ (x : ℕ). getD (turnedWords m ws) x 0) (omega arith)))
+
+-- nothing turns by no word, by all of them or by more
+pub turned-none : (ws : List ℕ) (m : ℕ) → m ≤ length ws → min m (length ws - m) ≡ 0 → ws ≡ turnedWords m ws
+turned-none ws m h e =
+    turned-is ws m h ws refl (λ i l. ap (λ (x : ℕ). getD ws x 0) (omega arith)) (λ i l. ap (λ (x : ℕ). getD ws x 0) (omega arith))
+
+pub turned-past : (ws : List ℕ) (m : ℕ) → length ws ≤ m → ws ≡ turnedWords m ws
+turned-past ws m h =
+    let e : length ws - m ≡ 0 = omega arith in
+    sym (append-nil ws) ∙ ap (λ (k : ℕ). drop k ws ++ take k ws) (sym e)
+
+-- the last m words held while the others move up
+pub turned-up : (ws w1 xs ys zs : List ℕ) (m : ℕ) → m ≤ length ws → xs ≡ midOf (length ws - m) (length ws - (length ws - m)) ws → ys ≡ take m (xs ++ zs)
+    → Moved 0 m (length ws - m) ws w1 → ys ++ drop m w1 ≡ turnedWords m ws
+turned-up ws w1 xs ys zs m h f g s =
+    turned-is ws m h (ys ++ drop m w1) (length-append ys (drop m w1) ∙ omega (arith, long, length-drop m w1, s .long))
+    (λ i l. List·getD-append ys (drop m w1) 0 i (omega (arith, long)) ∙ ap (λ (y : List ℕ). getD y i 0) g ∙ held-at ws xs zs (length ws - m) (length ws) m f (omega arith) (omega arith) i l)
+    (λ i l. getD-after ys (drop m w1) m i long ∙ getD-drop m w1 i 0 ∙ s .moved i l ∙ ap (λ (x : ℕ). getD ws x 0) (omega arith))
+  where
+    long : length ys ≡ m
+    long = ap length g ∙ length-take-le m (xs ++ zs) (held-long ws xs zs (length ws - m) (length ws) m f (omega arith) (omega arith))
+
+-- the others held while the last m words move down
+pub turned-down : (ws w1 xs ys zs : List ℕ) (m : ℕ) → m ≤ length ws → xs ≡ take (length ws - m) ws → ys ≡ take (length ws - m) (xs ++ zs)
+    → Moved (length ws - m) 0 (length ws - (length ws - m)) ws w1 → putMid m (length ws - m) w1 ys ≡ turnedWords m ws
+turned-down ws w1 xs ys zs m h f g s =
+    turned-is ws m h (putMid m (length ws - m) w1 ys) (put-long w1 ys m (length ws) long (omega (arith, s .long)) ∙ s .long)
+    (λ i l.
+    put-below w1 ys m (length ws) long (omega (arith, s .long)) i l ∙ ap (λ (x : ℕ). getD w1 x 0) {y = 0 + i} (omega arith) ∙ s .moved i (omega arith))
+    (λ i l.
+    put-in w1 ys m (length ws) long (omega (arith, s .long)) i (omega arith) ∙ ap (λ (y : List ℕ). getD y i 0) g
+    ∙ held-at ws xs zs 0 (length ws - m) (length ws - m) whole (omega arith) (omega arith) i l ∙ ap (λ (x : ℕ). getD ws x 0) {y = i} (omega arith))
+  where
+    whole : xs ≡ midOf 0 (length ws - m - 0) ws
+    whole = f ∙ ap (λ (k : ℕ). take k ws) {x = length ws - m} {y = length ws - m - 0} (omega arith)
+
+    long : m + length ys ≡ length ws
+    long =
+        ap (λ (y : List ℕ). m + length y) g
+        ∙ omega (arith, length-take-le (length ws - m) (xs ++ zs) (held-long ws xs zs 0 (length ws - m) (length ws - m) whole (omega arith) (omega arith)))
+
+-- ---- turned by swaps
+
+-- the first `low` words and the `high` after them are left to turn; t is what the words become
+pub record Turning (t : ℕ → ℕ) (low high : ℕ) (ws : List ℕ) : Type 0 where
+  pub up : (i : ℕ) → i < low → getD ws i 0 ≡ t (high + i)
+  pub down : (i : ℕ) → i < high → getD ws (low + i) 0 ≡ t i
+  pub done : (i : ℕ) → low + high ≤ i → getD ws i 0 ≡ t i
+
+pub turning-none : (ws : List ℕ) (m : ℕ) → m ≤ length ws → Turning (λ i. getD (turnedWords m ws) i 0) (length ws - m) m ws
+turning-none ws m h = record {
+  up = λ i l. sym (turned-high ws m h i l);
+  down = λ i l. sym (turned-low ws m h i l);
+  done = λ i l. past ws i (omega arith) ∙ sym (past (turnedWords m ws) i (omega (arith, turned-long ws m h)));
+}
+
+module _ (t : ℕ → ℕ) (low high : ℕ) (w1 w2 : List ℕ) (s : Turning t low high w1) where
+  pub turning-low : high ≤ low → Swapped (low - high) (low - high + high) high w1 w2 → Turning t (low - high) high w2
+  turning-low h c = record {
+    up = λ i l. c .below i l ∙ s .up i (omega arith);
+    down = λ i l. c .first i l ∙ ap (λ (x : ℕ). getD w1 x 0) (omega arith) ∙ s .down i l;
+    done = λ i l.
+        by-lt i (low + high)
+        (λ p.
+        ap (λ (x : ℕ). getD w2 x 0) {y = low - high + high + (i - low)} (omega arith) ∙ c .second (i - low) (omega arith)
+        ∙ s .up (low - high + (i - low)) (omega arith) ∙ ap t (omega arith))
+        (λ p. c .above i (omega arith) ∙ s .done i p);
+  }
+
+  pub turning-high : low ≤ high → Swapped 0 (low + (high - low)) low w1 w2 → Turning t low (high - low) w2
+  turning-high h c = record {
+    up = λ i l.
+        ap (λ (x : ℕ). getD w2 x 0) {y = 0 + i} (omega arith) ∙ c .first i l ∙ ap (λ (x : ℕ). getD w1 x 0) {y = low + (high - low + i)} (omega arith)
+        ∙ s .down (high - low + i) (omega arith);
+    down = λ i l. c .between (low + i) (omega arith) (omega arith) ∙ s .down i (omega arith);
+    done = λ i l.
+        by-lt i (low + high)
+        (λ p.
+        ap (λ (x : ℕ). getD w2 x 0) {y = low + (high - low) + (i - high)} (omega arith) ∙ c .second (i - high) (omega arith)
+        ∙ ap (λ (x : ℕ). getD w1 x 0) {y = i - high} (omega arith) ∙ s .up (i - high) (omega arith) ∙ ap t (omega arith))
+        (λ p. c .above i (omega arith) ∙ s .done i p);
+  }
+
+-- the words that are left, turned by themselves
+pub turning-all : (old ws ys : List ℕ) (m low high : ℕ) → m ≤ length old → length ws ≡ length old → low + high ≤ length ws
+    → Turning (λ i. getD (turnedWords m old) i 0) low high ws → ys ≡ turnedWords high (take (low + high) ws) → ys ++ drop (low + high) ws ≡ turnedWords m old
+turning-all old ws ys m low high h e l s f =
+    ext-getD 0 (ys ++ drop (low + high) ws) (turnedWords m old)
+    (length-append ys (drop (low + high) ws) ∙ omega (arith, long, length-drop (low + high) ws, e, turned-long old m h))
+    (λ k p. by-lt k (low + high)
+    (λ q. List·getD-append ys (drop (low + high) ws) 0 k (omega (arith, long)) ∙ ap (λ (y : List ℕ). getD y k 0) f ∙ inside k q)
+    (λ q.
+    ap (λ (x : ℕ). getD (ys ++ drop (low + high) ws) x 0) {y = low + high + (k - (low + high))} (omega arith)
+    ∙ getD-after ys (drop (low + high) ws) (low + high) (k - (low + high)) long ∙ getD-drop (low + high) ws (k - (low + high)) 0
+    ∙ ap (λ (x : ℕ). getD ws x 0) {y = k} (omega arith) ∙ s .done k q))
+  where
+    part : List ℕ
+    part = take (low + high) ws
+
+    long-part : length part ≡ low + high
+    long-part = length-take-le (low + high) ws l
+
+    long : length ys ≡ low + high
+    long = ap length f ∙ turned-long part high (omega (arith, long-part)) ∙ long-part
+
+    inside : (k : ℕ) → k < low + high → getD (turnedWords high part) k 0 ≡ getD (turnedWords m old) k 0
+    inside k q =
+        by-lt k high
+        (λ p.
+        turned-low part high (omega (arith, long-part)) k p ∙ ap (λ (x : ℕ). getD part x 0) {y = low + k} (omega (arith, long-part))
+        ∙ getD-take (low + high) ws (low + k) 0 (omega arith) ∙ s .down k p)
+        (λ p.
+        ap (λ (x : ℕ). getD (turnedWords high part) x 0) {y = high + (k - high)} (omega arith)
+        ∙ turned-high part high (omega (arith, long-part)) (k - high) (omega (arith, long-part)) ∙ getD-take (low + high) ws (k - high) 0 (omega arith)
+        ∙ s .up (k - high) (omega arith) ∙ ap (λ (x : ℕ). getD (turnedWords m old) x 0) (omega arith))
