@@ -17,7 +17,7 @@ use Rattle.word.proofs.Sweep.{Swept, sweep-to, sweep-up, sweep-down}
 use Rattle.shift.specs.Shifts.{turnedUp, turnedDown}
 use Rattle.shift.specs.Kernels.{turnedWords}
 use Rattle.shift.proofs.Moves.{funneled-is}
-use Rattle.shift.proofs.Pieces.{turned-long, turned-low, turned-high}
+use Rattle.shift.proofs.Swaps.{turned-long, turned-low, turned-high}
 use Rattle.shift.proofs.Rings.{turned-from, turned-by, turned-rest, turned-twice, sunk-by}
 
 -- where there are no words, they are any set's

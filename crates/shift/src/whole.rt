@@ -30,7 +30,7 @@ fn move_piece(words: &mut [u64], from: usize, to: usize, m: usize)
     requires { ⌜ (from + m ≤ length (now words)) × (to + m ≤ length (now words)) × (m ≤ 1024) ⌝ }
     ensures { λ r. ⌜ Moved from to m (now (words .entry)) (now (words .exit)) ⌝ }
 {
-    let mut piece: [u64; 1024] = [0; 1024];
+    let mut piece: [u64; PIECE] = [0; PIECE];
     let from_end = from + m;
     let to_end = to + m;
     copy_words(&mut piece[..m], &words[from..from_end]);
@@ -114,10 +114,10 @@ fn turn_held(words: &mut [u64], m: usize)
         return;
     }
     if short <= FEW {
-        let mut held: [u64; 32] = [0; 32];
+        let mut held: [u64; FEW] = [0; FEW];
         turn_through(words, m, &mut held);
     } else {
-        let mut held: [u64; 256] = [0; 256];
+        let mut held: [u64; HELD] = [0; HELD];
         turn_through(words, m, &mut held);
     }
 }

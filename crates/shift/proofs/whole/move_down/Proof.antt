@@ -1,8 +1,7 @@
-use mathlib.Core.Path.{refl, sym, ap, _∙_}
-use Prim.Native.Nat.{_+_, _-_, _≤_, _<_}
+use mathlib.Core.Path.{refl}
+use Prim.Native.Nat.{_-_, _≤_}
 use native.Mathlib.Omega.{arith}
 use borrow.Author.Needs.{needs}
-use lib.ListN.{length}
 use Rattle.shift.specs.Kernels.{Moved}
 use Rattle.shift.proofs.Pieces.{move-none, moved-to, moved-down-more}
 use Rattle.shift.proofs.whole.move_down.Statement.{statement}

@@ -1,8 +1,7 @@
-use mathlib.Core.Path.{refl, sym, ap, _∙_}
-use Prim.Native.Nat.{_+_, _-_, _≤_, _<_}
+use Prim.Native.Nat.{_-_}
 use native.Mathlib.Omega.{arith}
 use borrow.Author.Needs.{needs}
-use Rattle.shift.proofs.Pieces.{turned-none}
+use Rattle.shift.proofs.Swaps.{turned-none}
 use Rattle.shift.proofs.whole.turn_held.Statement.{statement}
 use Rattle.shift.proofs.whole.turn_held.Tie as tie
 

@@ -1,10 +1,11 @@
-use mathlib.Core.Path.{refl, sym, ap, _∙_}
-use Prim.Native.Nat.{_+_, _-_, _≤_, _<_}
+use mathlib.Core.Path.{sym}
+use Prim.Native.Nat.{_-_}
 use native.Mathlib.Omega.{arith}
 use borrow.Author.Needs.{needs}
 use lib.ListN.{length}
 use lib.Seq.{length-take-le}
-use Rattle.shift.proofs.Pieces.{take-part, take-take, held-long, first-long, turned-up, turned-down}
+use Rattle.shift.proofs.Pieces.{take-part, take-take, held-long, first-long}
+use Rattle.shift.proofs.Swaps.{turned-up, turned-down}
 use Rattle.shift.proofs.whole.turn_through.Statement.{statement}
 use Rattle.shift.proofs.whole.turn_through.Tie as tie
 

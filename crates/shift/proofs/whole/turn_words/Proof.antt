@@ -1,11 +1,11 @@
 use mathlib.Core.Path.{_≡_, refl, sym, _∙_}
-use Prim.Native.Nat.{_+_, _-_, _≤_, _<_}
+use Prim.Native.Nat.{_+_, _-_, _≤_}
 use native.Mathlib.Omega.{arith}
 use borrow.Author.Needs.{needs}
 use lib.ListN.{length, getD}
 use lib.Seq.{length-take-le}
 use Rattle.shift.specs.Kernels.{turnedWords}
-use Rattle.shift.proofs.Pieces.{Turning, turned-past, turning-none, turning-low, turning-high, turning-all}
+use Rattle.shift.proofs.Swaps.{Turning, turned-past, turning-none, turning-low, turning-high, turning-all}
 use Rattle.shift.proofs.whole.turn_words.Statement.{statement}
 use Rattle.shift.proofs.whole.turn_words.Tie as tie
 
