@@ -1,4 +1,5 @@
 pub mod Moves
 pub mod Counts
 pub mod Ranks
+pub mod Places
 pub mod Promises
