@@ -1,5 +1,5 @@
 // Shifts and rotations of the words in use, within their length, in place. Whole words and odd bits are split ahead of the walk, and a step
-// makes one word of two neighbours.
+// makes one word of two neighbours; where there are no odd bits, `whole` moves the words.
 mod whole;
 
 use storage::Bitmap;

@@ -7,12 +7,13 @@ ghost use Rattle.shift.specs.Kernels.{Moved, Swapped, turnedWords};
 // The most words that move as one piece.
 const PIECE: usize = 1024;
 
-// The most words that are held outside while the others turn, and the most for which a small array will do.
+// The most words that are held outside while the others turn.
 const HELD: usize = 256;
 
+// The most that a small array holds, which costs less to clear.
 const FEW: usize = 32;
 
-// As many words as there are.
+// Every word of `from`, to `to`.
 fn copy_words(to: &mut [u64], from: &[u64])
     requires { ⌜ length (now to) ≡ length (now from) ⌝ }
     ensures { λ r. ⌜ now (to .exit) ≡ now (from .entry) ⌝ }
@@ -104,7 +105,7 @@ fn turn_through(words: &mut [u64], m: usize, held: &mut [u64])
     }
 }
 
-// The same where the words to be held are at most HELD. A small array costs less to clear.
+// The same where the words to be held are at most HELD.
 fn turn_held(words: &mut [u64], m: usize)
     requires { ⌜ (m ≤ length (now words)) × (min m (length (now words) - m) ≤ 256) ⌝ }
     ensures { λ r. ⌜ now (words .exit) ≡ turnedWords m (now (words .entry)) ⌝ }
@@ -122,8 +123,8 @@ fn turn_held(words: &mut [u64], m: usize)
     }
 }
 
-// The last m words go before the others. What is left to turn are the first `low` words and the `high` after them: the fewer of the two change
-// places with as many of the others, and then stand where they belong.
+// The last m words go before the others. What is left to turn are the first `low` words and the `high` after them: the shorter part changes
+// places with as many words of the longer, and those that then stand last are where they belong.
 pub fn turn_words(words: &mut [u64], m: usize)
     ensures { λ r. ⌜ now (words .exit) ≡ turnedWords m (now (words .entry)) ⌝ }
 {
