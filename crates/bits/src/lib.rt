@@ -10,7 +10,7 @@ ghost use mathlib.Core.Path.{_≡_};
 ghost use mathlib.Core.Bool.{not};
 ghost use Prim.Native.Nat.{suc, _+_, _-_, _*_, _≤_, _<_};
 ghost use lib.ListN.{length, getD};
-ghost use Rattle.word.specs.Sets.{countBelow, nth};
+ghost use Rattle.word.specs.Sets.{countBelow};
 ghost use Rattle.word.specs.Bits.{bit, member, wordsOf};
 ghost use Rattle.storage.specs.Stores.{limit, reading, Changes};
 ghost use Rattle.bits.specs.Bits.{toggling, inverting, reversing, clearSize, countRegion, rankOf, selected, Passing};
@@ -199,23 +199,6 @@ fn skip_words(words: &[u64], r: usize) -> Skip
     Skip { at, left }
 }
 
-// The place of the n-th set bit of x, counted from 0; 64 if x has none. The lower ones go one by one: for a single word that costs less than to
-// build the table of `select_u64`.
-fn nth_set(x: u64, n: usize) -> usize
-    ensures { λ r. ⌜ r ≡ nth (bit x) n 64 64 ⌝ }
-{
-    if n >= 64 {
-        return 64;
-    }
-    let mut rest = x;
-    let mut left = n;
-    while left > 0 {
-        rest = Word::clear_lowest_set(rest);
-        left -= 1;
-    }
-    Word::trailing_zeros(rest)
-}
-
 // The set bit with exactly r set bits below it.
 pub fn select(words: &[u64], b: Bitmap, r: usize) -> Found
     ensures { λ f. ⌜ f ≡ reading (now (words .entry)) (b .count) Found.Refused (selected r) ⌝ }
@@ -230,5 +213,5 @@ pub fn select(words: &[u64], b: Bitmap, r: usize) -> Found
     if at >= n {
         return Found::Nothing;
     }
-    Found::At(64 * at + nth_set(words[at], s.left))
+    Found::At(64 * at + arch::select::select_u64(words[at], s.left))
 }

@@ -34,20 +34,20 @@ returns-2 c = select-none _ _ _ _ _ ((passed _ _ (sym (c .before .before .before
 mul-t9 : tie.Need-mul-t9
 mul-t9 c = omega (arith, (passed _ _ (sym (c .before .before .before .enum-told .given .1) ∙ c .before .before .before .before .before .check .ensures)) .short, (passed _ _ (sym (c .before .before .before .enum-told .given .1) ∙ c .before .before .before .before .before .check .ensures)) .inside)
 
-mul-nth-set : tie.Need-mul-nth-set
-mul-nth-set c = omega (arith, (passed _ _ (sym (c .before .before .before .enum-told .given .1) ∙ c .before .before .before .before .before .check .ensures)) .short, (passed _ _ (sym (c .before .before .before .enum-told .given .1) ∙ c .before .before .before .before .before .check .ensures)) .inside)
+mul-select-u64 : tie.Need-mul-select-u64
+mul-select-u64 c = omega (arith, (passed _ _ (sym (c .before .before .before .enum-told .given .1) ∙ c .before .before .before .before .before .check .ensures)) .short, (passed _ _ (sym (c .before .before .before .enum-told .given .1) ∙ c .before .before .before .before .before .check .ensures)) .inside)
 
-shared-slice-read-nth-set : tie.Need-shared-slice-read-nth-set
-shared-slice-read-nth-set c = omega (arith, (passed _ _ (sym (c .before .before .before .before .enum-told .given .1) ∙ c .before .before .before .before .before .before .check .ensures)) .inside)
+shared-slice-read-select-u64 : tie.Need-shared-slice-read-select-u64
+shared-slice-read-select-u64 c = omega (arith, (passed _ _ (sym (c .before .before .before .before .enum-told .given .1) ∙ c .before .before .before .before .before .before .check .ensures)) .inside)
 
-nth-set-requires : tie.Need-nth-set-requires
-nth-set-requires c κs = search needs
+select-u64-requires : tie.Need-select-u64-requires
+select-u64-requires c κs = search needs
 
 add-t17 : tie.Need-add-t17
-add-t17 c = omega (arith, (passed _ _ (sym (c .before .before .before .before .before .enum-told .given .1) ∙ c .before .before .before .before .before .before .before .check .ensures)) .short, (passed _ _ (sym (c .before .before .before .before .before .enum-told .given .1) ∙ c .before .before .before .before .before .before .before .check .ensures)) .inside, c .nth-set .ensures, nth-le (bit (getD (c .before .before .before .before .before .before .before .before .before .args .words .now) (c .before .before .before .skip-words .result .at) 0)) (c .before .before .before .skip-words .result .left) 64)
+add-t17 c = omega (arith, (passed _ _ (sym (c .before .before .before .before .before .enum-told .given .1) ∙ c .before .before .before .before .before .before .before .check .ensures)) .short, (passed _ _ (sym (c .before .before .before .before .before .enum-told .given .1) ∙ c .before .before .before .before .before .before .before .check .ensures)) .inside, c .select-u64 .ensures, nth-le (bit (getD (c .before .before .before .before .before .before .before .before .before .args .words .now) (c .before .before .before .skip-words .result .at) 0)) (c .before .before .before .skip-words .result .left) 64)
 
 returns-3 : tie.Need-returns-3
-returns-3 c = select-there _ _ _ _ _ ((passed _ _ (sym (c .before .before .before .before .before .enum-told .given .1) ∙ c .before .before .before .before .before .before .before .check .ensures)) .inside) (c .before .before .before .skip-words .ensures .0) _ (c .before .before .if1 .left) (c .before .before .before .skip-words .ensures .1) (c .nth-set .ensures) ∙ sym (reading-ok _ _ _ _ (passed _ _ (sym (c .before .before .before .before .before .enum-told .given .1) ∙ c .before .before .before .before .before .before .before .check .ensures)))
+returns-3 c = select-there _ _ _ _ _ ((passed _ _ (sym (c .before .before .before .before .before .enum-told .given .1) ∙ c .before .before .before .before .before .before .before .check .ensures)) .inside) (c .before .before .before .skip-words .ensures .0) _ (c .before .before .if1 .left) (c .before .before .before .skip-words .ensures .1) (c .select-u64 .ensures) ∙ sym (reading-ok _ _ _ _ (passed _ _ (sym (c .before .before .before .before .before .enum-told .given .1) ∙ c .before .before .before .before .before .before .before .check .ensures)))
 
 pub select-spec : {M : Type 1} → statement M
 select-spec =
@@ -61,8 +61,8 @@ select-spec =
     skip-words-requires
     returns-2
     mul-t9
-    mul-nth-set
-    shared-slice-read-nth-set
-    nth-set-requires
+    mul-select-u64
+    shared-slice-read-select-u64
+    select-u64-requires
     add-t17
     returns-3)
