@@ -2,14 +2,15 @@
 use mathlib.Core.Path.{_≡_, sym, ap, _∙_}
 use mathlib.Core.Bool.{Bool, not}
 use mathlib.Core.List.{List}
-use Prim.Native.Nat.{ℕ, _+_, _-_, _≤_, _<_}
+use Prim.Native.Nat.{ℕ, suc, _+_, _-_, _≤_, _<_}
 use native.Mathlib.Omega.{arith}
 use lib.ListN.{length, getD}
 use lib.Dec.{eqb}
-use borrow.Author.Tests.{lt-ltb, le-ltb, eq-eqb, ne-eqb, eqb-true, not-false}
+use borrow.Author.Tests.{lt-ltb, le-ltb, eq-eqb, ne-eqb, eqb-true, eqb-false, not-true, not-false}
 use Rattle.word.specs.Sets.{choose}
 use Rattle.word.proofs.Cases.{by-lt, eqb-same}
 use Rattle.word.proofs.Sets.{least, least-is, top, top-is}
+use Rattle.word.proofs.Lists.{past}
 use Rattle.arch.specs.Scans.{Alike, firstOther, wordFound, nonzeroLen, isZero}
 use Rattle.arch.specs.declared.FoundWord.the-variants.{At, Nothing}
 
@@ -88,6 +89,18 @@ nonzero-none ws s =
 pub nonzero-le : (ws : List ℕ) → nonzeroLen ws ≤ length ws
 unfolding nonzeroLen
 nonzero-le ws = top (λ k. not (eqb (getD ws k 0) 0)) (length ws) .within
+
+-- every word past it is 0, and the last one below it is not
+pub nonzero-past : (ws : List ℕ) (k : ℕ) → nonzeroLen ws ≤ k → getD ws k 0 ≡ 0
+unfolding nonzeroLen
+nonzero-past ws k h =
+    by-lt k (length ws)
+    (λ l. eqb-true (getD ws k 0) 0 (not-false (eqb (getD ws k 0) 0) (top (λ k. not (eqb (getD ws k 0) 0)) (length ws) .over k h l)))
+    (λ l. past ws k l)
+
+pub nonzero-last : (ws : List ℕ) (k : ℕ) → suc k ≡ nonzeroLen ws → getD ws k 0 ≡ 0 → ⊥
+unfolding nonzeroLen
+nonzero-last ws k e = eqb-false (getD ws k 0) 0 (not-true (eqb (getD ws k 0) 0) (top (λ k. not (eqb (getD ws k 0) 0)) (length ws) .last k e))
 
 -- ---- no word at all is other than 0
 

@@ -9,6 +9,7 @@ use Rattle.word.proofs.Cases.{by-lt}
 use Rattle.storage.specs.Stores.{Bits, refused, done, Op, limit, checked, view, reading, beside, within}
 use Rattle.storage.specs.declared.Refusal.{Refusal}
 use Rattle.storage.specs.declared.Refusal.the-variants.{StoreTooLong, CountOverStore, NoSpace}
+use Rattle.storage.specs.declared.Guard.{Guard}
 use Rattle.storage.specs.declared.Guard.the-variants.{Pass, Stop}
 
 module _ {A : Type 0} (c n : ℕ) (refuse : Refusal → A) (a : A) where
@@ -33,21 +34,30 @@ pub record Passed (c n : ℕ) : Type 0 where
 never : (e : Refusal) → Stop e ≡ Pass → ⊥
 never e p = let z : _≡_ {A = ℕ} 0 1 = cc in omega arith
 
+module _ (c n : ℕ) (next : Guard) where
+  -- a guard that looks at one store and then at others
+  pub passed-then : Pass ≡ checked c n Stop next → Passed c n × (Pass ≡ next)
+  passed-then p =
+      by-lt limit c
+      (λ h. absurd (never StoreTooLong (sym (p ∙ checked-long c n Stop next h))))
+      (λ h. by-lt c n
+      (λ l. absurd (never CountOverStore (sym (p ∙ checked-over c n Stop next h l))))
+      (λ l. (record { short = h; inside = l }, p ∙ checked-ok c n Stop next h l)))
+
+  pub stopped-then : {A : Type 0} (e : Refusal) (refuse : Refusal → A) (a : A) → Stop e ≡ checked c n Stop next → (Stop e ≡ next → a ≡ refuse e)
+      → checked c n refuse a ≡ refuse e
+  stopped-then e refuse a p rest =
+      by-lt limit c
+      (λ h. let q : Stop e ≡ Stop StoreTooLong = p ∙ checked-long c n Stop next h in checked-long c n refuse a h ∙ ap refuse (cc))
+      (λ h. by-lt c n
+      (λ l. let q : Stop e ≡ Stop CountOverStore = p ∙ checked-over c n Stop next h l in checked-over c n refuse a h l ∙ ap refuse (cc))
+      (λ l. checked-ok c n refuse a h l ∙ rest (p ∙ checked-ok c n Stop next h l)))
+
 pub passed : (c n : ℕ) → Pass ≡ checked c n Stop Pass → Passed c n
-passed c n p =
-    by-lt limit c
-    (λ h. absurd (never StoreTooLong (sym (p ∙ checked-long c n Stop Pass h))))
-    (λ h. by-lt c n
-    (λ l. absurd (never CountOverStore (sym (p ∙ checked-over c n Stop Pass h l))))
-    (λ l. record { short = h; inside = l }))
+passed c n p = passed-then c n Pass p .0
 
 pub stopped : {A : Type 0} (c n : ℕ) (e : Refusal) (refuse : Refusal → A) (a : A) → Stop e ≡ checked c n Stop Pass → checked c n refuse a ≡ refuse e
-stopped c n e refuse a p =
-    by-lt limit c
-    (λ h. let q : Stop e ≡ Stop StoreTooLong = p ∙ checked-long c n Stop Pass h in checked-long c n refuse a h ∙ ap refuse (cc))
-    (λ h. by-lt c n
-    (λ l. let q : Stop e ≡ Stop CountOverStore = p ∙ checked-over c n Stop Pass h l in checked-over c n refuse a h l ∙ ap refuse (cc))
-    (λ l. absurd (never e (p ∙ checked-ok c n Stop Pass h l))))
+stopped c n e refuse a p = stopped-then c n Pass e refuse a p (λ q. absurd (never e q))
 
 -- ---- calls that only read
 

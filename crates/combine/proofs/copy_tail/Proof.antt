@@ -1,0 +1,38 @@
+use Rattle.combine.proofs.Writes.{put-tail}
+use native.Mathlib.Omega.{arith}
+use borrow.Author.Needs.{needs}
+use Rattle.combine.proofs.copy_tail.Statement.{statement}
+use Rattle.combine.proofs.copy_tail.Tie as tie
+
+min-requires : tie.Need-min-requires
+min-requires c κs = search needs
+
+min-requires-2 : tie.Need-min-requires-2
+min-requires-2 c κs = search needs
+
+copy-words-requires : tie.Need-copy-words-requires
+copy-words-requires c κs = search needs
+
+min-requires-3 : tie.Need-min-requires-3
+min-requires-3 c κs = search needs
+
+copy-words-requires-2 : tie.Need-copy-words-requires-2
+copy-words-requires-2 c κs = search needs
+
+same-length : tie.Need-same-length
+same-length c = search needs
+
+returns : tie.Need-returns
+returns c = put-tail (c .before .before .before .before .before .before .before .before .before .before .before .before .before .before .args .left .now) (c .before .before .before .before .before .before .before .before .before .before .before .before .before .before .args .right .now) _ _ _ _ _ _ _ (c .before .before .before .before .before .before .before .before .before .before .min .ensures) (omega arith) (c .before .before .before .before .before .before .before .before .min2 .ensures) (c .before .before .before .min3 .ensures) (c .before .before .before .before .before .before .before .copy-words .ensures) (c .before .before .copy-words2 .ensures)
+
+pub copy-tail-spec : {M : Type 1} → statement M
+copy-tail-spec =
+    tie.close
+    (tie.spec
+    min-requires
+    min-requires-2
+    copy-words-requires
+    min-requires-3
+    copy-words-requires-2
+    same-length
+    returns)

@@ -1,0 +1,69 @@
+use mathlib.Core.Path.{refl, sym, _∙_}
+use lib.Seq.{length-take-le}
+use Rattle.combine.proofs.Guards.{all-passed, all-stopped}
+use Rattle.combine.proofs.Froms.{union-changes, union-refused, or-made}
+use native.Mathlib.Omega.{arith}
+use borrow.Author.Needs.{needs}
+use Rattle.combine.proofs.or_from.Statement.{statement}
+use Rattle.combine.proofs.or_from.Tie as tie
+
+check-all-requires : tie.Need-check-all-requires
+check-all-requires c κs = search needs
+
+enum-known-e : tie.Need-enum-known-e
+enum-known-e c = search needs
+
+returns : tie.Need-returns
+returns c = all-stopped _ _ _ _ _ _ _ _ (sym (c .before .e .given .1) ∙ c .before .before .before .check-all .ensures)
+
+enum-told : tie.Need-enum-told
+enum-told c = search needs
+
+max-requires : tie.Need-max-requires
+max-requires c κs = search needs
+
+returns-2 : tie.Need-returns-2
+returns-2 c = union-refused _ _ _ _ _ _ (all-passed _ _ _ _ _ _ (sym (c .before .before .enum-told .given .1) ∙ c .before .before .before .before .check-all .ensures)) (λ k. omega (arith, c .before .before .before .before .before .before .shared-slice-known .given k)) (λ k. omega (arith, c .before .before .before .before .before .shared-slice-known2 .given k)) _ (c .before .max .ensures) (c .if1 .taken)
+
+slice-aggregate-x : tie.Need-slice-aggregate-x
+slice-aggregate-x c = sym (length-take-le _ _ ((all-passed _ _ _ _ _ _ (sym (c .before .before .before .enum-told .given .1) ∙ c .before .before .before .before .before .check-all .ensures)) .left .inside))
+
+slice-aggregate-y : tie.Need-slice-aggregate-y
+slice-aggregate-y c = sym (length-take-le _ _ ((all-passed _ _ _ _ _ _ (sym (c .before .before .before .before .enum-told .given .1) ∙ c .before .before .before .before .before .before .check-all .ensures)) .right .inside))
+
+min-requires : tie.Need-min-requires
+min-requires c κs = search needs
+
+or-words-requires : tie.Need-or-words-requires
+or-words-requires c κs = omega (arith, length-take-le (c .before .before .before .before .before .before .before .before .before .before .before .before .args .l .count) (c .before .before .before .before .before .before .before .before .before .before .before .before .args .left .now) ((all-passed _ _ _ _ _ _ (sym (c .before .before .before .before .before .before .enum-told .given .1) ∙ c .before .before .before .before .before .before .before .before .check-all .ensures)) .left .inside), length-take-le (c .before .before .before .before .before .before .before .before .before .before .before .before .args .r .count) (c .before .before .before .before .before .before .before .before .before .before .before .before .args .right .now) ((all-passed _ _ _ _ _ _ (sym (c .before .before .before .before .before .before .enum-told .given .1) ∙ c .before .before .before .before .before .before .before .before .check-all .ensures)) .right .inside))
+
+copy-tail-requires : tie.Need-copy-tail-requires
+copy-tail-requires c κs = omega (arith, c .before .before .before .or-words .ensures .long, length-take-le (c .before .before .before .before .before .before .before .before .before .before .before .before .before .before .before .before .args .l .count) (c .before .before .before .before .before .before .before .before .before .before .before .before .before .before .before .before .args .left .now) ((all-passed _ _ _ _ _ _ (sym (c .before .before .before .before .before .before .before .before .before .before .enum-told .given .1) ∙ c .before .before .before .before .before .before .before .before .before .before .before .before .check-all .ensures)) .left .inside), length-take-le (c .before .before .before .before .before .before .before .before .before .before .before .before .before .before .before .before .args .r .count) (c .before .before .before .before .before .before .before .before .before .before .before .before .before .before .before .before .args .right .now) ((all-passed _ _ _ _ _ _ (sym (c .before .before .before .before .before .before .before .before .before .before .enum-told .given .1) ∙ c .before .before .before .before .before .before .before .before .before .before .before .before .check-all .ensures)) .right .inside))
+
+grow-requires : tie.Need-grow-requires
+grow-requires c κs = search needs
+
+same-length : tie.Need-same-length
+same-length c = search needs
+
+returns-3 : tie.Need-returns-3
+returns-3 c = union-changes _ _ _ _ _ _ (all-passed _ _ _ _ _ _ (sym (c .before .before .before .before .before .before .before .before .before .before .before .before .before .before .before .before .before .enum-told .given .1) ∙ c .before .before .before .before .before .before .before .before .before .before .before .before .before .before .before .before .before .before .before .check-all .ensures)) (λ k. omega (arith, c .before .before .before .before .before .before .before .before .before .before .before .before .before .before .before .before .before .before .before .before .before .shared-slice-known .given k)) (λ k. omega (arith, c .before .before .before .before .before .before .before .before .before .before .before .before .before .before .before .before .before .before .before .before .shared-slice-known2 .given k)) _ (c .before .before .before .before .before .before .before .before .before .before .before .before .before .before .before .before .max .ensures) _ _ (omega arith) (or-made _ _ _ _ _ _ _ ((all-passed _ _ _ _ _ _ (sym (c .before .before .before .before .before .before .before .before .before .before .before .before .before .before .before .before .before .enum-told .given .1) ∙ c .before .before .before .before .before .before .before .before .before .before .before .before .before .before .before .before .before .before .before .check-all .ensures)) .left .inside) ((all-passed _ _ _ _ _ _ (sym (c .before .before .before .before .before .before .before .before .before .before .before .before .before .before .before .before .before .enum-told .given .1) ∙ c .before .before .before .before .before .before .before .before .before .before .before .before .before .before .before .before .before .before .before .check-all .ensures)) .right .inside) _ _ (c .before .before .before .before .before .before .before .before .before .before .before .before .before .before .before .before .max .ensures) (c .before .before .before .before .before .before .before .before .before .before .before .min .ensures) (c .before .before .before .before .before .before .before .before .before .before .or-words .ensures) (c .before .before .before .before .before .before .copy-tail .ensures)) (c .before .before .grow .ensures)
+
+pub or-from-spec : {M : Type 1} → statement M
+or-from-spec =
+    tie.close
+    (tie.spec
+    check-all-requires
+    enum-known-e
+    returns
+    enum-told
+    max-requires
+    returns-2
+    slice-aggregate-x
+    slice-aggregate-y
+    min-requires
+    or-words-requires
+    copy-tail-requires
+    grow-requires
+    same-length
+    returns-3)

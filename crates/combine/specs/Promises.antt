@@ -1,0 +1,1 @@
+-- What the calls promise, for every number. Each is proved in proofs/Promises.
