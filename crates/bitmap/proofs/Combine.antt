@@ -18,6 +18,7 @@ use Rattle.arch.specs.Scans.{filledWords, nonzeroLen}
 use Rattle.arch.proofs.Scans.{nonzero-le}
 use Rattle.arch.proofs.Regions.{length-filled-words, filled-in, filled-below, filled-above}
 use Rattle.storage.specs.Stores.{Bits, view, beside, trimmedCount, trimmed, combined, andNot, zeroed, Changes}
+use Rattle.storage.specs.Kernels.{wordAndNot}
 use Rattle.storage.specs.declared.Bitmap.{Bitmap}
 use Rattle.storage.specs.declared.Refusal.the-variants.{NoSpace}
 use Rattle.storage.specs.declared.Change.the-variants.{Done, Refused}
@@ -27,7 +28,7 @@ use Rattle.storage.proofs.Views.{view-count, view-in, view-out}
 use Rattle.storage.proofs.Stores.{changes-done, changes-refused, length-zeroed, zeroed-in, zeroed-out, zeroed-fit, grown-bit}
 use Rattle.storage.proofs.Trims.{trimmed-holds, trimmed-least, trimmed-view, trimmed-length, trimmed-stored, front-none, front-last, front-zero}
 use Rattle.bitmap.specs.Bitmaps.{combining, uniting}
-use Rattle.bitmap.specs.Kernels.{wordAndNot, Zipped}
+use Rattle.bitmap.specs.Kernels.{Zipped}
 
 -- ---- the call with a second bitmap, done: the store afterwards holds the combined set in its first u words
 

@@ -14,12 +14,12 @@ use Rattle.word.proofs.Cases.{by-lt, by-eq, by-test, or-false, and-false, and-k
 use Rattle.word.proofs.Lists.{word-none, word-zero}
 use Rattle.storage.specs.Refusals.{numberOf}
 use Rattle.storage.specs.Stores.{Bits, Bounded, done, trimmedCount, trimmed, combined}
-use Rattle.storage.specs.Promises.{LeastCount, Meets, Never, Lacks}
+use Rattle.storage.specs.Promises.{LeastCount, Combines, Unites, Meets, Never, Lacks}
 use Rattle.storage.proofs.Checks.{within-done}
 use Rattle.storage.proofs.Outcomes.{same, never, which, lacks}
-use Rattle.storage.proofs.Promises.{least-count}
+use Rattle.storage.proofs.Promises.{least-count, combined-fewest, combined-either}
 use Rattle.bitmap.specs.Bitmaps.{trimming, setting, unsetting, listed, reachOf, settingMany, settingRegion, settingField, combining, uniting, tidied, keepingBit, droppingBit, flippingBit}
-use Rattle.bitmap.specs.Promises.{WithBit, WithListed, LacksListed, WithoutBit, Fewest, WithRegion, WithField, NoField, Combines, Unites, Tidied, OnlyBit, FlippedBit, ThenTidied}
+use Rattle.bitmap.specs.Promises.{WithBit, WithListed, LacksListed, WithoutBit, Fewest, WithRegion, WithField, NoField, Tidied, OnlyBit, FlippedBit, ThenTidied}
 use Rattle.bitmap.proofs.Many.{reach-in, reach-who, reach-under, listed-at, listed-who}
 use Rattle.bitmap.proofs.Sounds.{setting-sound, many-sound, unsetting-sound, trimming-sound, combining-sound, uniting-sound, region-sound, field-sound, keeping-sound, dropping-sound, flipping-sound}
 use Rattle.bitmap.proofs.Regions.{region-none, region-over, region-put}
@@ -82,11 +82,9 @@ trims = record {
 
 pub combines : (f : Bool → Bool → Bool) → f false false ≡ false → (o : Bits) → Bounded o
     → Meets (combining f o) (λ c b s. Combines f o b s) (Lacks (λ b. trimmedCount (combined f b o .members) (combined f b o .count)))
-unfolding combining combined
+unfolding combining
 combines f e o k = record {
-  made = λ c b s e.
-      subst (Combines f o b) (within-done c _ s e .0)
-      (record { each = λ i. refl; count = least-count (λ i. f (b .members i) (o .members i)) (max (b .count) (o .count)) });
+  made = λ c b s q. subst (Combines f o b) (within-done c _ s q .0) (combined-fewest f b o);
   sound = combining-sound f e o k;
   why = λ c b e q. lacks c _ e q;
 }
@@ -94,21 +92,10 @@ combines f e o k = record {
 pub unites : (o : Bits) → Bounded o → Meets (uniting o) (λ c b s. Unites o b s) (Lacks (λ b. max (b .count) (o .count)))
 unfolding uniting combined
 unites o k = record {
-  made = λ c b s e.
-      subst (Unites o b) (within-done c _ s e .0)
-      (record {
-        first = λ i t. ap (λ (x : Bool). x || o .members i) t;
-        second = λ i t. ap (λ (x : Bool). b .members i || x) t ∙ or-true (b .members i);
-        only = λ i t. either (b .members i) (o .members i) t;
-        count = refl;
-      });
+  made = λ c b s q. subst (Unites o b) (within-done c _ s q .0) (combined-either b o);
   sound = uniting-sound o k;
   why = λ c b e q. lacks c _ e q;
 }
-  where
-    either : (x y : Bool) → x || y ≡ true → (x ≡ true) ⊎ (y ≡ true)
-    either true y t = inl refl
-    either false y t = inr t
 
 -- ---- a region of k > 0 numbers
 

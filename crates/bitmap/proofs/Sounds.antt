@@ -13,7 +13,7 @@ use Rattle.storage.specs.Stores.{Bits, Bounded, refused, Op, inRegion, trimmed,
 use Rattle.storage.specs.Promises.{Sound}
 use Rattle.storage.specs.declared.Refusal.{Refusal}
 use Rattle.storage.specs.declared.Refusal.the-variants.{WidthOver, IndexOver}
-use Rattle.storage.proofs.Outcomes.{never, sound-within, sound-done}
+use Rattle.storage.proofs.Outcomes.{never, bounded-combined, sound-within, sound-done}
 use Rattle.storage.proofs.Trims.{bounded-trimmed}
 use Rattle.storage.proofs.Promises.{least-count}
 use Rattle.bitmap.specs.Bitmaps.{trimming, setting, unsetting, listed, reachOf, settingMany, settingRegion, settingField, combining, uniting, tidied, keepingBit, droppingBit, flippingBit}
@@ -45,10 +45,6 @@ unsetting-sound i =
 pub trimming-sound : Sound trimming
 unfolding trimming
 trimming-sound = sound-done trimming trimmed (λ c b. refl) (λ b. omega (arith, least-count (b .members) (b .count) .low)) bounded-trimmed
-
-bounded-combined : (f : Bool → Bool → Bool) → f false false ≡ false → (b o : Bits) → Bounded b → Bounded o → Bounded (combined f b o)
-unfolding combined
-bounded-combined f e b o h k = record { past = λ i l. ap₂ f (h .past i (omega arith)) (k .past i (omega arith)) ∙ e }
 
 pub combining-sound : (f : Bool → Bool → Bool) → f false false ≡ false → (o : Bits) → Bounded o → Sound (combining f o)
 unfolding combining

@@ -1,19 +1,14 @@
 -- What the private functions of this crate make of words.
-use Prim.Native.Nat.{ℕ, suc, _+_, _-_, _*_, _^_, _≤_, _<_}
+use Prim.Native.Nat.{ℕ, suc, _+_, _*_, _^_, _≤_, _<_}
 use mathlib.Core.Path.{_≡_}
 use mathlib.Core.Bool.{_&&_, _||_}
 use mathlib.Core.List.{List}
 use lib.ListN.{length, getD, take}
-use lib.Bits.{bitAnd}
 use lib.Dec.{eqb}
 use Rattle.word.specs.Sets.{choose}
 use Rattle.word.specs.Bits.{bit}
 use Rattle.arch.specs.Scans.{nonzeroLen}
 use Rattle.bitmap.specs.Bitmaps.{listed, reachOf}
-
--- the places of x that y does not have
-abbrev pub wordAndNot : ℕ → ℕ → ℕ
-wordAndNot x y = bitAnd x ((2 ^ 64 - 1) - y)
 
 -- the words below e are op of the two, the others are as they were
 pub record Zipped (op : ℕ → ℕ → ℕ) (ws os : List ℕ) (e : ℕ) (ws' : List ℕ) : Type 0 where

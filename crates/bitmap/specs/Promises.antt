@@ -62,18 +62,6 @@ NoField i value width c b k =
     ⊎ (((k ≡ 4) × (width ≤ 64) × (2 ^ 64 < i + width))
     ⊎ ((k ≡ 6) × (width ≤ 64) × (i + width ≤ 2 ^ 64) × ((c < b .count) ⊎ (j : ℕ) × ((j < width) × (bit value j ≡ true) × (64 * c < i + width)))))
 
--- a set operation with a second bitmap, in the fewest words that hold the result
-pub record Combines (f : Bool → Bool → Bool) (o b s : Bits) : Type 0 where
-  pub each : (i : ℕ) → s .members i ≡ f (b .members i) (o .members i)
-  pub count : LeastCount (s .members) (max (b .count) (o .count)) (s .count)
-
--- `or`: the members of either, in as many words as the longer
-pub record Unites (o b s : Bits) : Type 0 where
-  pub first : (i : ℕ) → b .members i ≡ true → s .members i ≡ true
-  pub second : (i : ℕ) → o .members i ≡ true → s .members i ≡ true
-  pub only : (i : ℕ) → s .members i ≡ true → (b .members i ≡ true) ⊎ (o .members i ≡ true)
-  pub count : s .count ≡ max (b .count) (o .count)
-
 -- where word k is the last and holds no member, the same members in the fewest words; otherwise nothing changes
 pub record Tidied (k : ℕ) (t s : Bits) : Type 0 where
   pub same : (j : ℕ) → s .members j ≡ t .members j

@@ -11,8 +11,9 @@ ghost use lib.ListN.{length};
 ghost use lib.Bits.{bitAnd, bitOr, bitXor};
 ghost use Rattle.word.specs.Sets.{xorb};
 ghost use Rattle.storage.specs.Stores.{andNot, beside, Changes};
+ghost use Rattle.storage.specs.Kernels.{wordAndNot};
 ghost use Rattle.bitmap.specs.Bitmaps.{trimming, setting, unsetting, settingMany, settingRegion, settingField, combining, uniting, keepingBit, droppingBit, flippingBit, reachOf};
-ghost use Rattle.bitmap.specs.Kernels.{wordAndNot, Zipped, Listed, tidyCount};
+ghost use Rattle.bitmap.specs.Kernels.{Zipped, Listed, tidyCount};
 
 // Drops trailing zero words.
 pub fn trim(words: &[u64], b: Bitmap) -> Change

@@ -1,6 +1,6 @@
 -- The set operations into another store, over the truth table of two bits. Assumes nothing.
 use mathlib.Core.Path.{_≡_, refl, sym, ap, ap₂, _∙_, subst}
-use mathlib.Core.Bool.{Bool, false, _||_}
+use mathlib.Core.Bool.{Bool, _||_}
 use mathlib.Core.List.{List}
 use mathlib.Core.Logic.{inl, inr}
 use Prim.Native.Nat.{ℕ, _+_, _*_, _/_, _%_, _^_, _≤_, _<_, min, max}
@@ -12,7 +12,8 @@ use Rattle.word.specs.Bits.{bit, wordOf}
 use Rattle.word.proofs.Cases.{by-lt}
 use Rattle.word.proofs.Bits.{pack-is}
 use Rattle.word.proofs.Lists.{Fit, at-place, past, member-at, word-zero}
-use Rattle.storage.specs.Stores.{Bits, view, within, trimmedCount, trimmed, combined, zeroed, Changes}
+use Rattle.storage.specs.Stores.{Bits, view, trimmedCount, trimmed, combined, zeroed, Changes}
+use Rattle.storage.specs.Kernels.{wordAndNot}
 use Rattle.storage.specs.declared.Bitmap.{Bitmap}
 use Rattle.storage.specs.declared.Refusal.the-variants.{NoSpace}
 use Rattle.storage.specs.declared.Change.the-variants.{Done, Refused}
@@ -22,7 +23,7 @@ use Rattle.storage.proofs.Views.{view-count, view-part}
 use Rattle.storage.proofs.Stores.{Stored, changes-done, changes-refused, length-zeroed, zeroed-in, zeroed-out}
 use Rattle.storage.proofs.Trims.{trimmed-is}
 use Rattle.combine.specs.Combine.{combiningFrom, unitingFrom, besideBoth}
-use Rattle.combine.specs.Kernels.{wordAndNot, wordFrom, tailWord, Ends, Put}
+use Rattle.combine.specs.Kernels.{wordFrom, tailWord, Ends, Put}
 use Rattle.combine.proofs.Guards.{AllPassed, both-ok}
 use Rattle.combine.proofs.Lengths.{ends-within}
 use Rattle.combine.proofs.Writes.{put-andnot, put-or, put-xor}

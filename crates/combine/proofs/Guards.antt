@@ -1,8 +1,7 @@
 -- 1 and 2 of the store that is written and of the two that are read. Assumes nothing.
-use mathlib.Core.Path.{_≡_, sym, ap, _∙_}
+use mathlib.Core.Path.{_≡_, sym, _∙_}
 use mathlib.Core.List.{List}
 use Prim.Native.Nat.{ℕ}
-use native.Mathlib.Omega.{arith}
 use lib.ListN.{length}
 use Rattle.storage.specs.Stores.{Bits, refused, Op, checked, view, beside, outcome, Changes}
 use Rattle.storage.specs.declared.Bitmap.{Bitmap}

@@ -1,16 +1,17 @@
 -- Where the words that two lists make one by one end. Assumes nothing.
 use mathlib.Core.Path.{_≡_, refl, sym, ap, ap₂, _∙_}
 use mathlib.Core.List.{List}
-use Prim.Native.Nat.{ℕ, suc, _-_, _^_, _≤_, _<_, min, max}
+use Prim.Native.Nat.{ℕ, _-_, _^_, _≤_, _<_, min, max}
 use native.Mathlib.Nat.{mod-eq-of-lt}
 use native.Mathlib.Omega.{arith}
 use lib.ListN.{length, getD}
 use lib.Bits.{bitAnd, bitXor, and-zero-l, and-zero-r, xor-zero-l, xor-zero-r, and-mask}
-use Rattle.word.proofs.Cases.{by-lt, by-eq}
+use Rattle.word.proofs.Cases.{by-lt}
 use Rattle.word.proofs.Lists.{Fit, past}
 use Rattle.arch.specs.Scans.{nonzeroLen}
-use Rattle.arch.proofs.Scans.{nonzero-le, nonzero-past, nonzero-last}
-use Rattle.combine.specs.Kernels.{wordAndNot, wordFrom, Ends}
+use Rattle.arch.proofs.Scans.{nonzero-past, nonzero-last}
+use Rattle.storage.specs.Kernels.{wordAndNot}
+use Rattle.combine.specs.Kernels.{wordFrom, Ends}
 
 -- every word from k on is 0, as far as a scan from the end has come
 pub record ZeroFrom (op : ℕ → ℕ → ℕ) (xs ys : List ℕ) (k : ℕ) : Type 0 where

@@ -2,3 +2,4 @@ pub mod Guards
 pub mod Lengths
 pub mod Writes
 pub mod Froms
+pub mod Promises

@@ -1,15 +1,16 @@
 -- Words put into a store. Assumes nothing.
-use mathlib.Core.Path.{_≡_, sym, ap, ap₂, _∙_}
+use mathlib.Core.Path.{_≡_, sym, ap, _∙_}
 use mathlib.Core.List.{List}
 use mathlib.Core.Logic.{_⊎_, inl, inr}
-use Prim.Native.Nat.{ℕ, _+_, _≤_, _<_, min, max}
+use Prim.Native.Nat.{ℕ, _≤_, _<_, min, max}
 use native.Mathlib.Omega.{arith}
 use lib.ListN.{length, getD}
 use lib.Bits.{bitOr, bitXor, or-zero-l, or-zero-r, xor-zero-l, xor-zero-r}
 use Rattle.word.proofs.Cases.{by-lt}
 use Rattle.word.proofs.Lists.{Fit, past}
 use Rattle.word.proofs.Sweep.{Swept}
-use Rattle.combine.specs.Kernels.{wordAndNot, wordFrom, tailWord, Put}
+use Rattle.storage.specs.Kernels.{wordAndNot}
+use Rattle.combine.specs.Kernels.{wordFrom, tailWord, Put}
 use Rattle.combine.proofs.Lengths.{andnot-zero}
 
 -- what a loop leaves

@@ -1,10 +1,9 @@
 -- What the private functions of this crate make of words. Past its end a list reads as 0.
-use Prim.Native.Nat.{ℕ, suc, _+_, _-_, _^_, _≤_, _<_}
+use Prim.Native.Nat.{ℕ, suc, _+_, _≤_, _<_}
 use mathlib.Core.Path.{_≡_}
 use mathlib.Core.List.{List}
 use mathlib.Core.Logic.{_⊎_}
 use lib.ListN.{length, getD}
-use lib.Bits.{bitAnd}
 use Rattle.storage.specs.Stores.{checked}
 use Rattle.storage.specs.declared.Guard.{Guard}
 use Rattle.storage.specs.declared.Guard.the-variants.{Pass, Stop}
@@ -12,10 +11,6 @@ use Rattle.storage.specs.declared.Guard.the-variants.{Pass, Stop}
 -- 1 and 2 of three stores in order
 unfoldable pub checkedAll : ℕ → ℕ → ℕ → ℕ → ℕ → ℕ → Guard
 checkedAll c n d l e r = checked c n Stop (checked d l Stop (checked e r Stop Pass))
-
--- the places of x that y does not have
-abbrev pub wordAndNot : ℕ → ℕ → ℕ
-wordAndNot x y = bitAnd x ((2 ^ 64 - 1) - y)
 
 -- word k of the two lists' words, one by one
 abbrev pub wordFrom : (ℕ → ℕ → ℕ) → List ℕ → List ℕ → ℕ → ℕ

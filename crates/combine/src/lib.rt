@@ -12,8 +12,9 @@ ghost use lib.ListN.{length, getD};
 ghost use lib.Bits.{bitAnd, bitOr, bitXor};
 ghost use Rattle.word.specs.Sets.{xorb};
 ghost use Rattle.storage.specs.Stores.{andNot, Changes, Makes};
+ghost use Rattle.storage.specs.Kernels.{wordAndNot};
 ghost use Rattle.combine.specs.Combine.{combiningFrom, unitingFrom, besideBoth};
-ghost use Rattle.combine.specs.Kernels.{checkedAll, wordAndNot, wordFrom, tailWord, Ends, Put};
+ghost use Rattle.combine.specs.Kernels.{checkedAll, wordFrom, tailWord, Ends, Put};
 
 // Refuses for a store of c words whose bitmap has n, then for one of d words and l, then for one of e words and r.
 fn check_all(c: usize, n: usize, d: usize, l: usize, e: usize, r: usize) -> Guard

@@ -8,6 +8,7 @@ use Rattle.word.specs.Sets.{xorb}
 use Rattle.word.specs.Bits.{bit}
 use Rattle.word.proofs.Bits.{bit-and, bit-or, bit-xor, bit-not}
 use Rattle.storage.specs.Stores.{andNot}
+use Rattle.storage.specs.Kernels.{wordAndNot}
 
 -- f is op's truth table
 pub record WordOp (f : Bool → Bool → Bool) (op : ℕ → ℕ → ℕ) : Type 0 where
@@ -23,7 +24,7 @@ word-or = record { bits = λ x y j h l. bit-or x y j; fits = or-lt 64 }
 pub word-xor : WordOp xorb bitXor
 word-xor = record { bits = λ x y j h l. bit-xor x y j; fits = xor-lt 64 }
 
-pub word-andnot : WordOp andNot (λ x y. bitAnd x ((2 ^ 64 - 1) - y))
+pub word-andnot : WordOp andNot wordAndNot
 word-andnot = record {
   bits = λ x y j h l. bit-and x ((2 ^ 64 - 1) - y) j ∙ ap (λ (t : Bool). bit x j && t) (bit-not y 64 j h l);
   fits = λ x y p q. and-lt 64 x ((2 ^ 64 - 1) - y) p (ones-sub-lt 64 y);

@@ -1,12 +1,13 @@
 -- What an outcome tells, and operations whose results have space and hold no member past their words. Assumes nothing.
-use mathlib.Core.Path.{_≡_, sym, ap, _∙_, subst}
+use mathlib.Core.Path.{_≡_, sym, ap, ap₂, _∙_, subst}
+use mathlib.Core.Bool.{Bool, false}
 use mathlib.Core.List.{List}
 use Prim.Native.Nat.{ℕ, _≤_, _<_}
 use native.Mathlib.Omega.{arith}
 use lib.ListN.{length}
 use Rattle.word.proofs.Cases.{by-lt}
 use Rattle.storage.specs.Refusals.{numberOf}
-use Rattle.storage.specs.Stores.{Bits, Bounded, Outcome, refused, done, Op, limit, checked, view, beside, within}
+use Rattle.storage.specs.Stores.{Bits, Bounded, Outcome, refused, done, Op, limit, checked, view, beside, within, combined}
 use Rattle.storage.specs.Promises.{Sound}
 use Rattle.storage.specs.declared.Refusal.{Refusal}
 use Rattle.storage.proofs.Checks.{checked-ok, checked-long, checked-over, within-ok, within-no, within-done}
@@ -38,6 +39,10 @@ let-pass c n o s q =
     (λ l. (sym (checked-ok c n refused o h l) ∙ q, l)))
 
 -- ---- sound operations
+
+pub bounded-combined : (f : Bool → Bool → Bool) → f false false ≡ false → (b o : Bits) → Bounded b → Bounded o → Bounded (combined f b o)
+unfolding combined
+bounded-combined f e b o h k = record { past = λ i l. ap₂ f (h .past i (omega arith)) (k .past i (omega arith)) ∙ e }
 
 -- a result and its space
 pub sound-within : (op : Op) (f : Bits → Bits) → ((c : ℕ) (b : Bits) → op c b ≡ within c (f b)) → ((b : Bits) → Bounded b → Bounded (f b)) → Sound op

@@ -1,20 +1,21 @@
 -- The promises of specs/Promises. Assumes nothing.
 use mathlib.Core.Path.{_≡_, refl, sym, ap, _∙_, subst}
-use mathlib.Core.Bool.{Bool}
+use mathlib.Core.Bool.{Bool, true, false, _||_}
 use mathlib.Core.List.{List, [], _∷_}
-use Prim.Native.Nat.{ℕ, suc, _+_, _-_, _*_, _/_, _%_, _≤_, _<_}
+use mathlib.Core.Logic.{_⊎_, inl, inr}
+use Prim.Native.Nat.{ℕ, suc, _+_, _-_, _*_, _/_, _%_, _≤_, _<_, max}
 use native.Mathlib.Omega.{arith}
 use lib.ListN.{length, getD}
 use lib.Dec.{eqb, eqb→eq}
 use borrow.Author.Tests.{lt-ltb, le-ltb}
 use Rattle.word.specs.Sets.{choose, leastFrom, Least}
 use Rattle.word.specs.Bits.{member}
-use Rattle.word.proofs.Cases.{by-lt, every-at}
+use Rattle.word.proofs.Cases.{by-lt, every-at, or-true}
 use Rattle.word.proofs.Sets.{least}
 use Rattle.word.proofs.Lists.{determined, at-place, member-at}
 use Rattle.storage.specs.Refusals.{numberOf, changeNumber, changeRecord}
-use Rattle.storage.specs.Stores.{Bits, Bounded, Outcome, refused, done, view, beside, trimmedCount, written, answer, store, outcome, Leaves, foundBelow, nextFrom}
-use Rattle.storage.specs.Promises.{EachNumberOnce, RefusalKeeps, StoresFirst, WordsAndSets, SpaceRules, SpaceExact, LeastCount, NextMember, Chains}
+use Rattle.storage.specs.Stores.{Bits, Bounded, Outcome, refused, done, view, beside, trimmedCount, trimmed, combined, written, answer, store, outcome, Leaves, foundBelow, nextFrom}
+use Rattle.storage.specs.Promises.{EachNumberOnce, RefusalKeeps, StoresFirst, WordsAndSets, SpaceRules, SpaceExact, LeastCount, Combines, Unites, NextMember, Chains}
 use Rattle.storage.specs.declared.Bitmap.{Bitmap}
 use Rattle.storage.specs.declared.Refusal.{Refusal}
 use Rattle.storage.specs.declared.Refusal.the-variants.{StoreTooLong, CountOverStore, WidthOver, IndexOver, PastLength, NoSpace, NotList, NotAscii, NotSheet, CutRecord, BytesRemain, BadPayload, NewerKind, NoEdition}
@@ -89,7 +90,7 @@ refusal-keeps op ws ws' b r l p = keeps (outcome op ws (b .count)) ws ws' b r l 
 
 -- ---- 1 and 2 come first
 
-refuses : (o : Outcome) (ws ws' : List ℕ) (b : Bitmap) (r : Change) (e : Refusal) → Leaves o ws b r ws' → o ≡ refused e → changeNumber r ≡ numberOf e
+pub refuses : (o : Outcome) (ws ws' : List ℕ) (b : Bitmap) (r : Change) (e : Refusal) → Leaves o ws b r ws' → o ≡ refused e → changeNumber r ≡ numberOf e
 unfolding answer
 refuses o ws ws' b r e l q = ap changeNumber (l .answers ∙ ap (λ (x : Outcome). answer x b) q)
 
@@ -130,6 +131,25 @@ space-exact c b = record { enough = within-ok c b; lacking = λ h. (NoSpace, wit
 
 pub least-count : (s : ℕ → Bool) (n : ℕ) → LeastCount s n (trimmedCount s n)
 least-count s n = record { low = trimmed-le s n; holds = trimmed-holds s n; least = trimmed-least s n }
+
+-- ---- set operations of two bitmaps
+
+pub combined-fewest : (f : Bool → Bool → Bool) (b o : Bits) → Combines f o b (trimmed (combined f b o))
+unfolding combined
+combined-fewest f b o = record { each = λ i. refl; count = least-count (λ i. f (b .members i) (o .members i)) (max (b .count) (o .count)) }
+
+pub combined-either : (b o : Bits) → Unites o b (combined _||_ b o)
+unfolding combined
+combined-either b o = record {
+  first = λ i t. ap (λ (x : Bool). x || o .members i) t;
+  second = λ i t. ap (λ (x : Bool). b .members i || x) t ∙ or-true (b .members i);
+  only = λ i t. either (b .members i) (o .members i) t;
+  count = refl;
+}
+  where
+    either : (x y : Bool) → x || y ≡ true → (x ≡ true) ⊎ (y ≡ true)
+    either true y t = inl refl
+    either false y t = inr t
 
 -- ---- calls in a row
 

@@ -1,3 +1,4 @@
 pub mod Refusals
 pub mod Stores
+pub mod Kernels
 pub mod Promises

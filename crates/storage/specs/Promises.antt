@@ -1,8 +1,9 @@
 -- What the definitions promise, in words of their own. Each is proved in proofs/Promises.
-use Prim.Native.Nat.{ℕ, _*_, _≤_, _<_, _^_}
+use Prim.Native.Nat.{ℕ, _*_, _≤_, _<_, _^_, max}
 use mathlib.Core.Path.{_≡_}
 use mathlib.Core.Bool.{Bool, true, false}
 use mathlib.Core.List.{List}
+use mathlib.Core.Logic.{_⊎_}
 use lib.ListN.{length, getD}
 use Rattle.word.specs.Bits.{member}
 use Rattle.storage.specs.Refusals.{numberOf, changeNumber, changeRecord}
@@ -61,6 +62,18 @@ pub record LeastCount (s : ℕ → Bool) (n m : ℕ) : Type 0 where
   pub low : m ≤ n
   pub holds : (i : ℕ) → i < 64 * n → s i ≡ true → i < 64 * m
   pub least : (k : ℕ) → ((i : ℕ) → i < 64 * n → s i ≡ true → i < 64 * k) → m ≤ k
+
+-- demand 2: a set operation of b and o, in the fewest words that hold the result
+pub record Combines (f : Bool → Bool → Bool) (o b s : Bits) : Type 0 where
+  pub each : (i : ℕ) → s .members i ≡ f (b .members i) (o .members i)
+  pub count : LeastCount (s .members) (max (b .count) (o .count)) (s .count)
+
+-- demand 2: the members of either, in as many words as the longer
+pub record Unites (o b s : Bits) : Type 0 where
+  pub first : (i : ℕ) → b .members i ≡ true → s .members i ≡ true
+  pub second : (i : ℕ) → o .members i ≡ true → s .members i ≡ true
+  pub only : (i : ℕ) → s .members i ≡ true → (b .members i ≡ true) ⊎ (o .members i ≡ true)
+  pub count : s .count ≡ max (b .count) (o .count)
 
 -- demand 2: a scan or a walk from i answers a member, at least i, with none between; nothing only where no member is at least i
 abbrev pub NextMember : (ℕ → Bool) → ℕ → Found → Type 0

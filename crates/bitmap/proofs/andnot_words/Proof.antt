@@ -3,7 +3,7 @@ use Prim.Native.Nat.{_-_, _≤_, ℕ}
 use native.Mathlib.Omega.{arith}
 use lib.ListN.{getD}
 use Rattle.word.proofs.Sweep.{sweep-up, Swept, sweep-none}
-use Rattle.bitmap.specs.Kernels.{wordAndNot}
+use Rattle.storage.specs.Kernels.{wordAndNot}
 use Rattle.bitmap.proofs.Combine.{zipped}
 use Rattle.bitmap.proofs.andnot_words.Statement.{statement}
 use Rattle.bitmap.proofs.andnot_words.Tie as tie

@@ -1,7 +1,7 @@
 use Prim.Native.Nat.{_≤_}
 use lib.ListN.{length}
 use Rattle.arch.proofs.Scans.{nonzero-le}
-use Rattle.combine.specs.Kernels.{wordAndNot}
+use Rattle.storage.specs.Kernels.{wordAndNot}
 use Rattle.combine.proofs.Lengths.{ZeroFrom, zero-down, ends-at, ends-none, andnot-start, andnot-longer}
 use native.Mathlib.Omega.{arith}
 use borrow.Author.Needs.{needs}

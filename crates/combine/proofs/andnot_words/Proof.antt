@@ -1,7 +1,8 @@
 use mathlib.Core.Path.{refl}
 use Prim.Native.Nat.{_-_, _≤_}
 use Rattle.word.proofs.Sweep.{sweep-up, Swept, sweep-none}
-use Rattle.combine.specs.Kernels.{wordAndNot, wordFrom}
+use Rattle.storage.specs.Kernels.{wordAndNot}
+use Rattle.combine.specs.Kernels.{wordFrom}
 use Rattle.combine.proofs.Writes.{swept-put}
 use native.Mathlib.Omega.{arith}
 use Rattle.combine.proofs.andnot_words.Statement.{statement}

@@ -1,4 +1,4 @@
-use mathlib.Core.Path.{refl, sym, _∙_}
+use mathlib.Core.Path.{sym, _∙_}
 use lib.Seq.{length-take-le}
 use Rattle.combine.proofs.Guards.{all-passed, all-stopped}
 use Rattle.combine.proofs.Froms.{union-changes, union-refused, or-made}
