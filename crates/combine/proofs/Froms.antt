@@ -12,10 +12,11 @@ use Rattle.word.specs.Bits.{bit, wordOf}
 use Rattle.word.proofs.Cases.{by-lt}
 use Rattle.word.proofs.Bits.{pack-is}
 use Rattle.word.proofs.Lists.{Fit, at-place, past, member-at, word-zero}
-use Rattle.storage.specs.Stores.{Bits, view, trimmedCount, trimmed, combined, zeroed, Changes}
+use Rattle.storage.specs.Stores.{Bits, Op, view, within, trimmedCount, trimmed, combined, zeroed, Changes}
 use Rattle.storage.specs.Kernels.{wordAndNot}
 use Rattle.storage.specs.declared.Bitmap.{Bitmap}
 use Rattle.storage.specs.declared.Refusal.the-variants.{NoSpace}
+use Rattle.storage.specs.declared.Change.{Change}
 use Rattle.storage.specs.declared.Change.the-variants.{Done, Refused}
 use Rattle.storage.proofs.Operations.{WordOp, word-or}
 use Rattle.storage.proofs.Checks.{within-ok, within-no}
@@ -91,47 +92,48 @@ module _ {f : Bool → Bool → Bool} {op : ℕ → ℕ → ℕ} (w : WordOp f o
 -- ---- the calls
 
 module _ (ws left right : List ℕ) (b : Bitmap) (l r : ℕ) (p : AllPassed (length ws) (b .count) (length left) l (length right) r) (fl : Fit left) (fr : Fit right) where
+  -- a call that comes to the set s of m words, if there is space
+  module _ {f : Bool → Bool → Bool} {op : ℕ → ℕ → ℕ} (w : WordOp f op) (g : Bits → Bits → Op) (s : Bits) (m : ℕ)
+      (is : g (view left l) (view right r) (length ws) (view ws (b .count)) ≡ within (length ws) s) (ec : s .count ≡ m)
+      (same : (i : ℕ) → s .members i ≡ combined f (view left l) (view right r) .members i) where
+    comes-to : besideBoth left l right r g (length ws) (view ws (b .count)) ≡ within (length ws) s
+    comes-to = both-ok ws left right b l r g (length ws) (view ws (b .count)) (p .left) (p .right) ∙ is
+
+    made-changes : (a : Change) (w1 ws' : List ℕ) → m ≤ length ws → Put (wordFrom op (take l left) (take r right)) 0 m ws w1
+        → (a ≡ Done (record { count = m })) × (ws' ≡ zeroed m (b .count) w1) → Changes (besideBoth left l right r g) ws b a ws'
+    made-changes a w1 ws' h t e =
+        subst (λ (y : Change). Changes (besideBoth left l right r g) ws b y ws') (sym (e .0))
+        (changes-done (besideBoth left l right r g) ws b ws' s m (p .own) (comes-to ∙ within-ok (length ws) s (omega arith))
+        (put-stored w left right l r (p .left .inside) (p .right .inside) fl fr ws w1 ws' (b .count) m s t (e .1) ec same) (sym ec))
+
+    made-refused : length ws < m → Changes (besideBoth left l right r g) ws b (Refused NoSpace b) ws
+    made-refused h = changes-refused (besideBoth left l right r g) ws b NoSpace (p .own) (comes-to ∙ within-no (length ws) s (omega arith))
+
   module _ {f : Bool → Bool → Bool} {op : ℕ → ℕ → ℕ} (w : WordOp f op) (z : op 0 0 ≡ 0) (m : ℕ) (s : Ends op (take l left) (take r right) m) where
     count : trimmed (combined f (view left l) (view right r)) .count ≡ m
     count = ends-count w left right l r (p .left .inside) (p .right .inside) fl fr m z s
 
-    pub from-changes : (w1 ws' : List ℕ) → m ≤ length ws → Put (wordFrom op (take l left) (take r right)) 0 m ws w1 → ws' ≡ zeroed m (b .count) w1
-        → Changes (besideBoth left l right r (combiningFrom f)) ws b (Done (record { count = m })) ws'
+    pub from-changes : (a : Change) (w1 ws' : List ℕ) → m ≤ length ws → Put (wordFrom op (take l left) (take r right)) 0 m ws w1
+        → (a ≡ Done (record { count = m })) × (ws' ≡ zeroed m (b .count) w1) → Changes (besideBoth left l right r (combiningFrom f)) ws b a ws'
     unfolding combiningFrom
-    from-changes w1 ws' h t e =
-        changes-done (besideBoth left l right r (combiningFrom f)) ws b ws' (trimmed (combined f (view left l) (view right r))) m (p .own)
-        (both-ok ws left right b l r (combiningFrom f) (length ws) (view ws (b .count)) (p .left) (p .right)
-        ∙ within-ok (length ws) (trimmed (combined f (view left l) (view right r))) (omega (arith, count)))
-        (put-stored w left right l r (p .left .inside) (p .right .inside) fl fr ws w1 ws' (b .count) m (trimmed (combined f (view left l) (view right r))) t e count (λ i. refl))
-        (sym count)
+    from-changes = made-changes w (combiningFrom f) (trimmed (combined f (view left l) (view right r))) m refl count (λ i. refl)
 
     pub from-refused : length ws < m → Changes (besideBoth left l right r (combiningFrom f)) ws b (Refused NoSpace b) ws
     unfolding combiningFrom
-    from-refused h =
-        changes-refused (besideBoth left l right r (combiningFrom f)) ws b NoSpace (p .own)
-        (both-ok ws left right b l r (combiningFrom f) (length ws) (view ws (b .count)) (p .left) (p .right)
-        ∙ within-no (length ws) (trimmed (combined f (view left l) (view right r))) (omega (arith, count)))
+    from-refused = made-refused w (combiningFrom f) (trimmed (combined f (view left l) (view right r))) m refl count (λ i. refl)
 
   module _ (m : ℕ) (em : m ≡ max l r) where
     longer : combined _||_ (view left l) (view right r) .count ≡ m
     longer = set-count word-or left right l r (p .left .inside) (p .right .inside) fl fr ∙ sym em
 
-    pub union-changes : (w1 ws' : List ℕ) → m ≤ length ws → Put (wordFrom bitOr (take l left) (take r right)) 0 m ws w1 → ws' ≡ zeroed m (b .count) w1
-        → Changes (besideBoth left l right r unitingFrom) ws b (Done (record { count = m })) ws'
+    pub union-changes : (a : Change) (w1 ws' : List ℕ) → m ≤ length ws → Put (wordFrom bitOr (take l left) (take r right)) 0 m ws w1
+        → (a ≡ Done (record { count = m })) × (ws' ≡ zeroed m (b .count) w1) → Changes (besideBoth left l right r unitingFrom) ws b a ws'
     unfolding unitingFrom
-    union-changes w1 ws' h t e =
-        changes-done (besideBoth left l right r unitingFrom) ws b ws' (combined _||_ (view left l) (view right r)) m (p .own)
-        (both-ok ws left right b l r unitingFrom (length ws) (view ws (b .count)) (p .left) (p .right)
-        ∙ within-ok (length ws) (combined _||_ (view left l) (view right r)) (omega (arith, longer)))
-        (put-stored word-or left right l r (p .left .inside) (p .right .inside) fl fr ws w1 ws' (b .count) m (combined _||_ (view left l) (view right r)) t e longer (λ i. refl))
-        (sym longer)
+    union-changes = made-changes word-or unitingFrom (combined _||_ (view left l) (view right r)) m refl longer (λ i. refl)
 
     pub union-refused : length ws < m → Changes (besideBoth left l right r unitingFrom) ws b (Refused NoSpace b) ws
     unfolding unitingFrom
-    union-refused h =
-        changes-refused (besideBoth left l right r unitingFrom) ws b NoSpace (p .own)
-        (both-ok ws left right b l r unitingFrom (length ws) (view ws (b .count)) (p .left) (p .right)
-        ∙ within-no (length ws) (combined _||_ (view left l) (view right r)) (omega (arith, longer)))
+    union-refused = made-refused word-or unitingFrom (combined _||_ (view left l) (view right r)) m refl longer (λ i. refl)
 
 -- ---- what is written, part by part
 

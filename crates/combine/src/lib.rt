@@ -11,8 +11,9 @@ ghost use Prim.Native.Nat.{_≤_, min, max};
 ghost use lib.ListN.{length, getD};
 ghost use lib.Bits.{bitAnd, bitOr, bitXor};
 ghost use Rattle.word.specs.Sets.{xorb};
-ghost use Rattle.storage.specs.Stores.{andNot, Changes, Makes};
+ghost use Rattle.storage.specs.Stores.{andNot, zeroed, Changes, Makes};
 ghost use Rattle.storage.specs.Kernels.{wordAndNot};
+ghost use Rattle.storage.specs.declared.Change.the-variants.{Done};
 ghost use Rattle.combine.specs.Combine.{combiningFrom, unitingFrom, besideBoth};
 ghost use Rattle.combine.specs.Kernels.{checkedAll, wordFrom, tailWord, Ends, Put};
 
@@ -51,6 +52,14 @@ fn copy_tail(words: &mut [u64], left: &[u64], right: &[u64], m: usize)
     let both = word::min(left.len(), right.len());
     copy_words(words, left, both, word::min(left.len(), m));
     copy_words(words, right, both, word::min(right.len(), m));
+}
+
+// m words are in use where n were: those that fall out of use become zero.
+fn finish(words: &mut [u64], m: usize, n: usize) -> Change
+    ensures { λ r. ⌜ (r ≡ Done (record { count = m })) × (now (words .exit) ≡ zeroed m n (now (words .entry))) ⌝ }
+{
+    storage::grow(words, m, n);
+    Change::Done(Bitmap { count: m })
 }
 
 // The words up to the last one of left & right that is not zero.
@@ -104,8 +113,7 @@ pub fn and_from(
         return Change::Refused(Refusal::NoSpace, b);
     }
     and_words(words, x, y, m);
-    storage::grow(words, m, n);
-    Change::Done(Bitmap { count: m })
+    finish(words, m, n)
 }
 
 // The words up to the last one of left & !right that is not zero.
@@ -164,8 +172,7 @@ pub fn andnot_from(
     let both = word::min(j, m);
     andnot_words(words, x, y, both);
     copy_words(words, x, both, m);
-    storage::grow(words, m, n);
-    Change::Done(Bitmap { count: m })
+    finish(words, m, n)
 }
 
 // Either bit, for the words below e.
@@ -206,8 +213,7 @@ pub fn or_from(
     let y = &right[..j];
     or_words(words, x, y, word::min(i, j));
     copy_tail(words, x, y, m);
-    storage::grow(words, m, n);
-    Change::Done(Bitmap { count: m })
+    finish(words, m, n)
 }
 
 // The words up to the last one of left ^ right that is not zero.
@@ -267,8 +273,7 @@ pub fn xor_from(
     }
     xor_words(words, x, y, word::min(word::min(i, j), m));
     copy_tail(words, x, y, m);
-    storage::grow(words, m, n);
-    Change::Done(Bitmap { count: m })
+    finish(words, m, n)
 }
 
 // The members of both bitmaps, into a store with no earlier count.

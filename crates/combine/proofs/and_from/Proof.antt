@@ -36,14 +36,14 @@ returns-2 c = from-refused _ _ _ _ _ _ (all-passed _ _ _ _ _ _ (sym (c .before .
 and-words-requires : tie.Need-and-words-requires
 and-words-requires c κs = omega (arith, and-both (c .before .before .and-len .ensures))
 
-grow-requires : tie.Need-grow-requires
-grow-requires c κs = search needs
+finish-requires : tie.Need-finish-requires
+finish-requires c κs = search needs
 
 same-length : tie.Need-same-length
 same-length c = search needs
 
 returns-3 : tie.Need-returns-3
-returns-3 c = from-changes _ _ _ _ _ _ (all-passed _ _ _ _ _ _ (sym (c .before .before .before .before .before .before .before .before .before .before .before .before .enum-told .given .1) ∙ c .before .before .before .before .before .before .before .before .before .before .before .before .before .before .check-all .ensures)) (λ k. omega (arith, c .before .before .before .before .before .before .before .before .before .before .before .before .before .before .before .before .shared-slice-known .given k)) (λ k. omega (arith, c .before .before .before .before .before .before .before .before .before .before .before .before .before .before .before .shared-slice-known2 .given k)) word-and refl _ (c .before .before .before .before .before .before .before .before .before .and-len .ensures) _ _ (omega arith) (c .before .before .before .before .before .before .and-words .ensures) (c .before .before .grow .ensures)
+returns-3 c = from-changes _ _ _ _ _ _ (all-passed _ _ _ _ _ _ (sym (c .before .before .before .before .before .before .before .before .before .before .before .before .enum-told .given .1) ∙ c .before .before .before .before .before .before .before .before .before .before .before .before .before .before .check-all .ensures)) (λ k. omega (arith, c .before .before .before .before .before .before .before .before .before .before .before .before .before .before .before .before .shared-slice-known .given k)) (λ k. omega (arith, c .before .before .before .before .before .before .before .before .before .before .before .before .before .before .before .shared-slice-known2 .given k)) word-and refl _ (c .before .before .before .before .before .before .before .before .before .and-len .ensures) _ _ _ (omega arith) (c .before .before .before .before .before .before .and-words .ensures) (c .before .before .finish .ensures)
 
 pub and-from-spec : {M : Type 1} → statement M
 and-from-spec =
@@ -58,6 +58,6 @@ and-from-spec =
     and-len-requires
     returns-2
     and-words-requires
-    grow-requires
+    finish-requires
     same-length
     returns-3)

@@ -42,14 +42,14 @@ andnot-words-requires c κs = omega (arith, andnot-left (c .before .before .befo
 copy-words-requires : tie.Need-copy-words-requires
 copy-words-requires c κs = omega (arith, andnot-left (c .before .before .before .before .before .before .before .andnot-len .ensures), c .before .before .before .andnot-words .ensures .long)
 
-grow-requires : tie.Need-grow-requires
-grow-requires c κs = search needs
+finish-requires : tie.Need-finish-requires
+finish-requires c κs = search needs
 
 same-length : tie.Need-same-length
 same-length c = search needs
 
 returns-3 : tie.Need-returns-3
-returns-3 c = from-changes _ _ _ _ _ _ (all-passed _ _ _ _ _ _ (sym (c .before .before .before .before .before .before .before .before .before .before .before .before .before .before .before .before .before .enum-told .given .1) ∙ c .before .before .before .before .before .before .before .before .before .before .before .before .before .before .before .before .before .before .before .check-all .ensures)) (λ k. omega (arith, c .before .before .before .before .before .before .before .before .before .before .before .before .before .before .before .before .before .before .before .before .before .shared-slice-known .given k)) (λ k. omega (arith, c .before .before .before .before .before .before .before .before .before .before .before .before .before .before .before .before .before .before .before .before .shared-slice-known2 .given k)) word-andnot refl _ (c .before .before .before .before .before .before .before .before .before .before .before .before .before .before .andnot-len .ensures) _ _ (omega arith) (andnot-made _ _ _ _ _ _ _ ((all-passed _ _ _ _ _ _ (sym (c .before .before .before .before .before .before .before .before .before .before .before .before .before .before .before .before .before .enum-told .given .1) ∙ c .before .before .before .before .before .before .before .before .before .before .before .before .before .before .before .before .before .before .before .check-all .ensures)) .left .inside) ((all-passed _ _ _ _ _ _ (sym (c .before .before .before .before .before .before .before .before .before .before .before .before .before .before .before .before .before .enum-told .given .1) ∙ c .before .before .before .before .before .before .before .before .before .before .before .before .before .before .before .before .before .before .before .check-all .ensures)) .right .inside) _ _ (λ k. omega (arith, c .before .before .before .before .before .before .before .before .before .before .before .before .before .before .before .before .before .before .before .before .before .shared-slice-known .given k)) (c .before .before .before .before .before .before .before .before .before .before .before .before .min .ensures) (c .before .before .before .before .before .before .before .before .before .before .andnot-words .ensures) (c .before .before .before .before .before .before .copy-words .ensures)) (c .before .before .grow .ensures)
+returns-3 c = from-changes _ _ _ _ _ _ (all-passed _ _ _ _ _ _ (sym (c .before .before .before .before .before .before .before .before .before .before .before .before .before .before .before .before .before .enum-told .given .1) ∙ c .before .before .before .before .before .before .before .before .before .before .before .before .before .before .before .before .before .before .before .check-all .ensures)) (λ k. omega (arith, c .before .before .before .before .before .before .before .before .before .before .before .before .before .before .before .before .before .before .before .before .before .shared-slice-known .given k)) (λ k. omega (arith, c .before .before .before .before .before .before .before .before .before .before .before .before .before .before .before .before .before .before .before .before .shared-slice-known2 .given k)) word-andnot refl _ (c .before .before .before .before .before .before .before .before .before .before .before .before .before .before .andnot-len .ensures) _ _ _ (omega arith) (andnot-made _ _ _ _ _ _ _ ((all-passed _ _ _ _ _ _ (sym (c .before .before .before .before .before .before .before .before .before .before .before .before .before .before .before .before .before .enum-told .given .1) ∙ c .before .before .before .before .before .before .before .before .before .before .before .before .before .before .before .before .before .before .before .check-all .ensures)) .left .inside) ((all-passed _ _ _ _ _ _ (sym (c .before .before .before .before .before .before .before .before .before .before .before .before .before .before .before .before .before .enum-told .given .1) ∙ c .before .before .before .before .before .before .before .before .before .before .before .before .before .before .before .before .before .before .before .check-all .ensures)) .right .inside) _ _ (λ k. omega (arith, c .before .before .before .before .before .before .before .before .before .before .before .before .before .before .before .before .before .before .before .before .before .shared-slice-known .given k)) (c .before .before .before .before .before .before .before .before .before .before .before .before .min .ensures) (c .before .before .before .before .before .before .before .before .before .before .andnot-words .ensures) (c .before .before .before .before .before .before .copy-words .ensures)) (c .before .before .finish .ensures)
 
 pub andnot-from-spec : {M : Type 1} → statement M
 andnot-from-spec =
@@ -66,6 +66,6 @@ andnot-from-spec =
     min-requires
     andnot-words-requires
     copy-words-requires
-    grow-requires
+    finish-requires
     same-length
     returns-3)

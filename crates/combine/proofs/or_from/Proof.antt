@@ -40,14 +40,14 @@ or-words-requires c κs = omega (arith, length-take-le (c .before .before .befor
 copy-tail-requires : tie.Need-copy-tail-requires
 copy-tail-requires c κs = omega (arith, c .before .before .before .or-words .ensures .long, length-take-le (c .before .before .before .before .before .before .before .before .before .before .before .before .before .before .before .before .args .l .count) (c .before .before .before .before .before .before .before .before .before .before .before .before .before .before .before .before .args .left .now) ((all-passed _ _ _ _ _ _ (sym (c .before .before .before .before .before .before .before .before .before .before .enum-told .given .1) ∙ c .before .before .before .before .before .before .before .before .before .before .before .before .check-all .ensures)) .left .inside), length-take-le (c .before .before .before .before .before .before .before .before .before .before .before .before .before .before .before .before .args .r .count) (c .before .before .before .before .before .before .before .before .before .before .before .before .before .before .before .before .args .right .now) ((all-passed _ _ _ _ _ _ (sym (c .before .before .before .before .before .before .before .before .before .before .enum-told .given .1) ∙ c .before .before .before .before .before .before .before .before .before .before .before .before .check-all .ensures)) .right .inside))
 
-grow-requires : tie.Need-grow-requires
-grow-requires c κs = search needs
+finish-requires : tie.Need-finish-requires
+finish-requires c κs = search needs
 
 same-length : tie.Need-same-length
 same-length c = search needs
 
 returns-3 : tie.Need-returns-3
-returns-3 c = union-changes _ _ _ _ _ _ (all-passed _ _ _ _ _ _ (sym (c .before .before .before .before .before .before .before .before .before .before .before .before .before .before .before .before .before .enum-told .given .1) ∙ c .before .before .before .before .before .before .before .before .before .before .before .before .before .before .before .before .before .before .before .check-all .ensures)) (λ k. omega (arith, c .before .before .before .before .before .before .before .before .before .before .before .before .before .before .before .before .before .before .before .before .before .shared-slice-known .given k)) (λ k. omega (arith, c .before .before .before .before .before .before .before .before .before .before .before .before .before .before .before .before .before .before .before .before .shared-slice-known2 .given k)) _ (c .before .before .before .before .before .before .before .before .before .before .before .before .before .before .before .before .max .ensures) _ _ (omega arith) (or-made _ _ _ _ _ _ _ ((all-passed _ _ _ _ _ _ (sym (c .before .before .before .before .before .before .before .before .before .before .before .before .before .before .before .before .before .enum-told .given .1) ∙ c .before .before .before .before .before .before .before .before .before .before .before .before .before .before .before .before .before .before .before .check-all .ensures)) .left .inside) ((all-passed _ _ _ _ _ _ (sym (c .before .before .before .before .before .before .before .before .before .before .before .before .before .before .before .before .before .enum-told .given .1) ∙ c .before .before .before .before .before .before .before .before .before .before .before .before .before .before .before .before .before .before .before .check-all .ensures)) .right .inside) _ _ (c .before .before .before .before .before .before .before .before .before .before .before .before .before .before .before .before .max .ensures) (c .before .before .before .before .before .before .before .before .before .before .before .min .ensures) (c .before .before .before .before .before .before .before .before .before .before .or-words .ensures) (c .before .before .before .before .before .before .copy-tail .ensures)) (c .before .before .grow .ensures)
+returns-3 c = union-changes _ _ _ _ _ _ (all-passed _ _ _ _ _ _ (sym (c .before .before .before .before .before .before .before .before .before .before .before .before .before .before .before .before .before .enum-told .given .1) ∙ c .before .before .before .before .before .before .before .before .before .before .before .before .before .before .before .before .before .before .before .check-all .ensures)) (λ k. omega (arith, c .before .before .before .before .before .before .before .before .before .before .before .before .before .before .before .before .before .before .before .before .before .shared-slice-known .given k)) (λ k. omega (arith, c .before .before .before .before .before .before .before .before .before .before .before .before .before .before .before .before .before .before .before .before .shared-slice-known2 .given k)) _ (c .before .before .before .before .before .before .before .before .before .before .before .before .before .before .before .before .max .ensures) _ _ _ (omega arith) (or-made _ _ _ _ _ _ _ ((all-passed _ _ _ _ _ _ (sym (c .before .before .before .before .before .before .before .before .before .before .before .before .before .before .before .before .before .enum-told .given .1) ∙ c .before .before .before .before .before .before .before .before .before .before .before .before .before .before .before .before .before .before .before .check-all .ensures)) .left .inside) ((all-passed _ _ _ _ _ _ (sym (c .before .before .before .before .before .before .before .before .before .before .before .before .before .before .before .before .before .enum-told .given .1) ∙ c .before .before .before .before .before .before .before .before .before .before .before .before .before .before .before .before .before .before .before .check-all .ensures)) .right .inside) _ _ (c .before .before .before .before .before .before .before .before .before .before .before .before .before .before .before .before .max .ensures) (c .before .before .before .before .before .before .before .before .before .before .before .min .ensures) (c .before .before .before .before .before .before .before .before .before .before .or-words .ensures) (c .before .before .before .before .before .before .copy-tail .ensures)) (c .before .before .finish .ensures)
 
 pub or-from-spec : {M : Type 1} → statement M
 or-from-spec =
@@ -64,6 +64,6 @@ or-from-spec =
     min-requires
     or-words-requires
     copy-tail-requires
-    grow-requires
+    finish-requires
     same-length
     returns-3)

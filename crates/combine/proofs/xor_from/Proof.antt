@@ -45,14 +45,14 @@ xor-words-requires c κs = omega (arith, length-take-le (c .before .before .befo
 copy-tail-requires : tie.Need-copy-tail-requires
 copy-tail-requires c κs = omega (arith, c .before .before .before .xor-words .ensures .long, ends-within refl (c .before .before .before .before .before .before .before .before .xor-len .ensures))
 
-grow-requires : tie.Need-grow-requires
-grow-requires c κs = search needs
+finish-requires : tie.Need-finish-requires
+finish-requires c κs = search needs
 
 same-length : tie.Need-same-length
 same-length c = search needs
 
 returns-3 : tie.Need-returns-3
-returns-3 c = from-changes _ _ _ _ _ _ (all-passed _ _ _ _ _ _ (sym (c .before .before .before .before .before .before .before .before .before .before .before .before .before .before .before .before .before .before .enum-told .given .1) ∙ c .before .before .before .before .before .before .before .before .before .before .before .before .before .before .before .before .before .before .before .before .check-all .ensures)) (λ k. omega (arith, c .before .before .before .before .before .before .before .before .before .before .before .before .before .before .before .before .before .before .before .before .before .before .shared-slice-known .given k)) (λ k. omega (arith, c .before .before .before .before .before .before .before .before .before .before .before .before .before .before .before .before .before .before .before .before .before .shared-slice-known2 .given k)) word-xor refl _ (c .before .before .before .before .before .before .before .before .before .before .before .before .before .before .before .xor-len .ensures) _ _ (omega arith) (xor-made _ _ _ _ _ _ _ ((all-passed _ _ _ _ _ _ (sym (c .before .before .before .before .before .before .before .before .before .before .before .before .before .before .before .before .before .before .enum-told .given .1) ∙ c .before .before .before .before .before .before .before .before .before .before .before .before .before .before .before .before .before .before .before .before .check-all .ensures)) .left .inside) ((all-passed _ _ _ _ _ _ (sym (c .before .before .before .before .before .before .before .before .before .before .before .before .before .before .before .before .before .before .enum-told .given .1) ∙ c .before .before .before .before .before .before .before .before .before .before .before .before .before .before .before .before .before .before .before .before .check-all .ensures)) .right .inside) _ _ _ (c .before .before .before .before .before .before .before .before .before .before .before .before .min .ensures) (c .before .before .before .before .before .before .before .before .before .before .before .min2 .ensures) (c .before .before .before .before .before .before .before .before .before .before .xor-words .ensures) (c .before .before .before .before .before .before .copy-tail .ensures)) (c .before .before .grow .ensures)
+returns-3 c = from-changes _ _ _ _ _ _ (all-passed _ _ _ _ _ _ (sym (c .before .before .before .before .before .before .before .before .before .before .before .before .before .before .before .before .before .before .enum-told .given .1) ∙ c .before .before .before .before .before .before .before .before .before .before .before .before .before .before .before .before .before .before .before .before .check-all .ensures)) (λ k. omega (arith, c .before .before .before .before .before .before .before .before .before .before .before .before .before .before .before .before .before .before .before .before .before .before .shared-slice-known .given k)) (λ k. omega (arith, c .before .before .before .before .before .before .before .before .before .before .before .before .before .before .before .before .before .before .before .before .before .shared-slice-known2 .given k)) word-xor refl _ (c .before .before .before .before .before .before .before .before .before .before .before .before .before .before .before .xor-len .ensures) _ _ _ (omega arith) (xor-made _ _ _ _ _ _ _ ((all-passed _ _ _ _ _ _ (sym (c .before .before .before .before .before .before .before .before .before .before .before .before .before .before .before .before .before .before .enum-told .given .1) ∙ c .before .before .before .before .before .before .before .before .before .before .before .before .before .before .before .before .before .before .before .before .check-all .ensures)) .left .inside) ((all-passed _ _ _ _ _ _ (sym (c .before .before .before .before .before .before .before .before .before .before .before .before .before .before .before .before .before .before .enum-told .given .1) ∙ c .before .before .before .before .before .before .before .before .before .before .before .before .before .before .before .before .before .before .before .before .check-all .ensures)) .right .inside) _ _ _ (c .before .before .before .before .before .before .before .before .before .before .before .before .min .ensures) (c .before .before .before .before .before .before .before .before .before .before .before .min2 .ensures) (c .before .before .before .before .before .before .before .before .before .before .xor-words .ensures) (c .before .before .before .before .before .before .copy-tail .ensures)) (c .before .before .finish .ensures)
 
 pub xor-from-spec : {M : Type 1} → statement M
 xor-from-spec =
@@ -70,6 +70,6 @@ xor-from-spec =
     min-requires-2
     xor-words-requires
     copy-tail-requires
-    grow-requires
+    finish-requires
     same-length
     returns-3)
