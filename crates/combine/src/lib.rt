@@ -99,10 +99,9 @@ pub fn and_from(
 ) -> Change
     ensures { λ a. ⌜ Changes (besideBoth (now (left .entry)) (l .count) (now (right .entry)) (r .count) (combiningFrom _&&_)) (now (words .entry)) b a (now (words .exit)) ⌝ }
 {
-    let n = b.count;
     let i = l.count;
     let j = r.count;
-    match check_all(words.len(), n, left.len(), i, right.len(), j) {
+    match check_all(words.len(), b.count, left.len(), i, right.len(), j) {
         Guard::Stop(e) => return Change::Refused(e, b),
         Guard::Pass => {}
     }
@@ -113,7 +112,7 @@ pub fn and_from(
         return Change::Refused(Refusal::NoSpace, b);
     }
     and_words(words, x, y, m);
-    finish(words, m, n)
+    finish(words, m, b.count)
 }
 
 // The words up to the last one of left & !right that is not zero.
@@ -156,10 +155,9 @@ pub fn andnot_from(
 ) -> Change
     ensures { λ a. ⌜ Changes (besideBoth (now (left .entry)) (l .count) (now (right .entry)) (r .count) (combiningFrom andNot)) (now (words .entry)) b a (now (words .exit)) ⌝ }
 {
-    let n = b.count;
     let i = l.count;
     let j = r.count;
-    match check_all(words.len(), n, left.len(), i, right.len(), j) {
+    match check_all(words.len(), b.count, left.len(), i, right.len(), j) {
         Guard::Stop(e) => return Change::Refused(e, b),
         Guard::Pass => {}
     }
@@ -172,7 +170,7 @@ pub fn andnot_from(
     let both = word::min(j, m);
     andnot_words(words, x, y, both);
     copy_words(words, x, both, m);
-    finish(words, m, n)
+    finish(words, m, b.count)
 }
 
 // Either bit, for the words below e.
@@ -198,10 +196,9 @@ pub fn or_from(
 ) -> Change
     ensures { λ a. ⌜ Changes (besideBoth (now (left .entry)) (l .count) (now (right .entry)) (r .count) unitingFrom) (now (words .entry)) b a (now (words .exit)) ⌝ }
 {
-    let n = b.count;
     let i = l.count;
     let j = r.count;
-    match check_all(words.len(), n, left.len(), i, right.len(), j) {
+    match check_all(words.len(), b.count, left.len(), i, right.len(), j) {
         Guard::Stop(e) => return Change::Refused(e, b),
         Guard::Pass => {}
     }
@@ -213,7 +210,7 @@ pub fn or_from(
     let y = &right[..j];
     or_words(words, x, y, word::min(i, j));
     copy_tail(words, x, y, m);
-    finish(words, m, n)
+    finish(words, m, b.count)
 }
 
 // The words up to the last one of left ^ right that is not zero.
@@ -258,10 +255,9 @@ pub fn xor_from(
 ) -> Change
     ensures { λ a. ⌜ Changes (besideBoth (now (left .entry)) (l .count) (now (right .entry)) (r .count) (combiningFrom xorb)) (now (words .entry)) b a (now (words .exit)) ⌝ }
 {
-    let n = b.count;
     let i = l.count;
     let j = r.count;
-    match check_all(words.len(), n, left.len(), i, right.len(), j) {
+    match check_all(words.len(), b.count, left.len(), i, right.len(), j) {
         Guard::Stop(e) => return Change::Refused(e, b),
         Guard::Pass => {}
     }
@@ -273,7 +269,7 @@ pub fn xor_from(
     }
     xor_words(words, x, y, word::min(word::min(i, j), m));
     copy_tail(words, x, y, m);
-    finish(words, m, n)
+    finish(words, m, b.count)
 }
 
 // The members of both bitmaps, into a store with no earlier count.
