@@ -1,0 +1,186 @@
+-- What a byte, a token's state and a token's end come to, where they are known by equations. Assumes nothing.
+use mathlib.Core.Path.{_≡_, refl, sym, ap, _∙_}
+use mathlib.Core.Bool.{Bool, true, false, _&&_, false≢true}
+use mathlib.Core.List.{List}
+use Prim.Native.Nat.{ℕ, zero, suc, _+_, _-_, _≤_, _<_}
+use native.Mathlib.Omega.{arith}
+use native.Mathlib.Numerals.{add-one}
+use lib.Dec.{leb, ltb, eqb, eqb·suc-zero}
+use lib.ListN.{length, getD, drop, drop-of-length-le}
+use lib.Seq.{drop-cons}
+use borrow.Author.Tests.{lt-ltb, le-ltb, leb-true, ne-eqb, eq-eqb}
+use Rattle.word.specs.Sets.{choose}
+use Rattle.text.specs.Lists.{comma, joiner, zeroDigit, limit, blank, digit, plain}
+use Rattle.text.specs.Readings as read
+use Rattle.text.specs.Readings.{kind, Number, Unread, Open, Closed, value, unread, missing, empty, ranged, token, part, grown, Go, Stop, byDigit, byBlank, byJoiner, step}
+use Rattle.text.specs.Kernels.{numberOf, leftOf, partOf}
+use Rattle.text.specs.declared.Kind.{Kind}
+use Rattle.text.specs.declared.Kind.the-variants.{Digit, Blank, Joiner, Comma, Other}
+use Rattle.text.specs.declared.Value.{Value}
+use Rattle.text.specs.declared.Value.the-variants.{Of, Missing}
+use Rattle.text.specs.declared.Part.{Part}
+use Rattle.text.specs.declared.Token.{Token}
+use Rattle.text.specs.declared.Token.the-variants.{Range as Ranging, Empty, NoRange}
+
+pub step-at : (p : read.Part) {k k' : Kind} {l : Value} {n : Number} → k ≡ k' → p .left ≡ l → p .number ≡ n → step p k ≡ step (record { left = l; number = n }) k'
+step-at p e f g = λ i. step (record { left = f i; number = g i }) (e i)
+
+pub token-at : (p : read.Part) {l v : Value} → empty p ≡ false → p .left ≡ l → value (p .number) ≡ v → token p ≡ ranged l v
+unfolding token
+token-at p h e f = (λ i. choose (h i) Empty (ranged (e i) (f i)))
+
+pub token-empty : (p : read.Part) → empty p ≡ true → token p ≡ Empty
+unfolding token
+token-empty p h = ap (λ (t : Bool). choose t Empty (ranged (p .left) (value (p .number)))) h
+
+pub chosen : {A : Type 0} {t : Bool} (a b : A) → t ≡ true → choose t a b ≡ a
+chosen a b e = ap (λ (x : Bool). choose x a b) e
+
+pub other : {A : Type 0} {t : Bool} (a b : A) → t ≡ false → choose t a b ≡ b
+other a b e = ap (λ (x : Bool). choose x a b) e
+
+-- ---- what a byte is
+pub kind-digit : (c : ℕ) → digit c ≡ true → Digit (c - zeroDigit) ≡ kind c
+unfolding kind
+kind-digit c e = rw e
+
+pub kind-blank : (c : ℕ) → digit c ≡ false → blank c ≡ true → Blank ≡ kind c
+unfolding kind
+kind-blank c e f = rw (e, f)
+
+pub kind-joiner : (c : ℕ) → digit c ≡ false → blank c ≡ false → c ≡ joiner → Joiner ≡ kind c
+unfolding kind
+kind-joiner c e f g = rw (e, f, eq-eqb c joiner g)
+
+pub kind-comma : (c : ℕ) → digit c ≡ false → blank c ≡ false → (c ≡ joiner → ⊥) → c ≡ comma → Comma ≡ kind c
+unfolding kind
+kind-comma c e f g h = rw (e, f, ne-eqb c joiner g, eq-eqb c comma h)
+
+pub kind-other : (c : ℕ) → digit c ≡ false → blank c ≡ false → (c ≡ joiner → ⊥) → (c ≡ comma → ⊥) → Other ≡ kind c
+unfolding kind
+kind-other c e f g h = rw (e, f, ne-eqb c joiner g, ne-eqb c comma h)
+
+pub and-left : (t u : Bool) → t && u ≡ true → t ≡ true
+and-left true u e = refl
+and-left false u e = e
+
+pub and-right : (t u : Bool) → t && u ≡ true → u ≡ true
+and-right true u e = e
+and-right false u e = absurd (false≢true e)
+
+-- ---- bytes below 128, from place i on
+plain-step : (t : List ℕ) (i : ℕ) → i < length t → plain (drop i t) ≡ ltb (getD t i 0) 128 && plain (drop (i + 1) t)
+unfolding plain
+plain-step t i h = rw (add-one, drop-cons t i 0 h)
+
+pub plain-go : (t : List ℕ) (i : ℕ) → i < length t → getD t i 0 < 128 → plain t ≡ plain (drop i t) → plain t ≡ plain (drop (i + 1) t)
+plain-go t i h l e = e ∙ plain-step t i h ∙ ap (λ (x : Bool). x && plain (drop (i + 1) t)) (lt-ltb (getD t i 0) 128 l)
+
+pub plain-no : (t : List ℕ) (i : ℕ) → i < length t → 128 ≤ getD t i 0 → plain t ≡ plain (drop i t) → false ≡ plain t
+plain-no t i h l e = sym (e ∙ plain-step t i h ∙ ap (λ (x : Bool). x && plain (drop (i + 1) t)) (le-ltb (getD t i 0) 128 l))
+
+pub plain-end : (t : List ℕ) (i : ℕ) → length t ≤ i → plain t ≡ plain (drop i t) → true ≡ plain t
+unfolding plain
+plain-end t i h e = sym (e ∙ ap plain (drop-of-length-le t h))
+
+-- ---- a token whose last number is missing
+ranged-missing : (l : Value) → ranged l Missing ≡ NoRange
+ranged-missing Missing = refl
+ranged-missing (Of a) = refl
+
+pub token-missing : (p : read.Part) → empty p ≡ false → value (p .number) ≡ Missing → token p ≡ NoRange
+token-missing p h e = token-at p h refl e ∙ ranged-missing (p .left)
+
+-- no token has a number past the limit
+ranged-limit : (l v : Value) (a b : ℕ) → ranged l v ≡ Ranging a b → v ≡ Of b
+ranged-limit l Missing a b e = let z : _≡_ {A = ℕ} 0 1 = cc in absurd (omega arith)
+ranged-limit Missing (Of y) a b e = cc
+ranged-limit (Of x) (Of y) a b e = go (leb x y) e
+  where
+    go : (t : Bool) → choose t (Ranging x y) NoRange ≡ Ranging a b → Of y ≡ Of b
+    go true h = cc
+    go false h = let z : _≡_ {A = ℕ} 0 1 = cc in absurd (omega arith)
+
+allowed-limit : (v b : ℕ) (t : Bool) → leb v limit ≡ t → choose t (Of v) Missing ≡ Of b → b ≤ limit
+allowed-limit v b true e h = let q : v ≡ b = cc in omega (arith, leb-true v limit e)
+allowed-limit v b false e h = let z : _≡_ {A = ℕ} 0 1 = cc in absurd (omega arith)
+
+value-limit : (n : Number) (b : ℕ) → value n ≡ Of b → b ≤ limit
+unfolding value
+value-limit Unread b e = let z : _≡_ {A = ℕ} 0 1 = cc in absurd (omega arith)
+value-limit (Open v) b e = allowed-limit v b (leb v limit) refl e
+value-limit (Closed v) b e = allowed-limit v b (leb v limit) refl e
+
+pub token-limit : (p : read.Part) (a b : ℕ) → token p ≡ Ranging a b → b ≤ limit
+unfolding token
+token-limit p a b e = go (empty p) e
+  where
+    go : (t : Bool) → choose t Empty (ranged (p .left) (value (p .number))) ≡ Ranging a b → b ≤ limit
+    go true h = let z : _≡_ {A = ℕ} 0 1 = cc in absurd (omega arith)
+    go false h = value-limit (p .number) b (ranged-limit (p .left) (value (p .number)) a b h)
+
+-- ---- the code's numbers as a token's state
+
+pub number-none : (n v : ℕ) → n ≡ 0 → numberOf n v ≡ Unread
+number-none n v e = ap (λ (x : ℕ). numberOf x v) e
+
+pub number-open : (n v : ℕ) → n ≡ 1 → numberOf n v ≡ Open v
+number-open n v e = ap (λ (x : ℕ). numberOf x v) e
+
+pub number-closed : (n v : ℕ) → (n ≡ 0 → ⊥) → (n ≡ 1 → ⊥) → numberOf n v ≡ Closed v
+number-closed zero v e f = absurd (e refl)
+number-closed (suc zero) v e f = absurd (f refl)
+number-closed (suc (suc n)) v e f = refl
+
+pub number-some : (n v : ℕ) → (n ≡ 0 → ⊥) → value (numberOf n v) ≡ choose (leb v limit) (Of v) Missing
+unfolding value
+number-some zero v e = absurd (e refl)
+number-some (suc zero) v e = refl
+number-some (suc (suc n)) v e = refl
+
+pub left-none : (n a : ℕ) → n ≡ 0 → leftOf n a ≡ Missing
+left-none n a e = ap (λ (x : ℕ). leftOf x a) e
+
+pub left-some : (n a : ℕ) → (n ≡ 0 → ⊥) → leftOf n a ≡ Of a
+left-some zero a e = absurd (e refl)
+left-some (suc n) a e = refl
+
+unread-is : (n v : ℕ) → unread (numberOf n v) ≡ eqb n 0
+unread-is zero v = refl
+unread-is (suc zero) v = refl
+unread-is (suc (suc n)) v = sym (eqb·suc-zero (suc n))
+
+pub empty-none : (p : Part) → p .split ≡ 0 → eqb (p .phase) 0 ≡ empty (partOf p)
+unfolding empty
+empty-none p e = sym (ap (λ (x : ℕ). missing (leftOf x (p .left)) && unread (numberOf (p .phase) (p .value))) e ∙ unread-is (p .phase) (p .value))
+
+pub empty-some : (p : Part) → (p .split ≡ 0 → ⊥) → false ≡ empty (partOf p)
+unfolding empty
+empty-some p e = sym (ap (λ (x : Value). missing x && unread (numberOf (p .phase) (p .value))) (left-some (p .split) (p .left) e))
+
+-- ---- the code's steps
+
+pub by-digit-none : (l : Value) (n v d : ℕ) → n ≡ 0 → Go (part l (Open d)) ≡ byDigit l (numberOf n v) d
+by-digit-none l n v d e = sym (ap (λ (x : Number). byDigit l x d) (number-none n v e))
+
+pub by-digit-open : (l : Value) (n v d x : ℕ) → n ≡ 1 → x ≡ grown v d → Go (part l (Open x)) ≡ byDigit l (numberOf n v) d
+by-digit-open l n v d x e f = ap (λ (y : ℕ). Go (part l (Open y))) f ∙ sym (ap (λ (y : Number). byDigit l y d) (number-open n v e))
+
+pub by-digit-closed : (l : Value) (n v d : ℕ) → (n ≡ 0 → ⊥) → (n ≡ 1 → ⊥) → Stop ≡ byDigit l (numberOf n v) d
+by-digit-closed l n v d e f = sym (ap (λ (x : Number). byDigit l x d) (number-closed n v e f))
+
+pub by-joiner-twice : (n a : ℕ) (v : Value) → (n ≡ 0 → ⊥) → Stop ≡ byJoiner (leftOf n a) v
+by-joiner-twice n a v e = sym (ap (λ (x : Value). byJoiner x v) (left-some n a e))
+
+pub by-joiner-is : (n a : ℕ) (u v : Value) → n ≡ 0 → v ≡ u → byJoiner Missing u ≡ byJoiner (leftOf n a) v
+by-joiner-is n a u v e f = sym (λ i. byJoiner (left-none n a e i) (f i))
+
+-- a blank after no digit, or after another blank
+pub blank-keeps : (p : Part) {k : Kind} → k ≡ Blank → (p .phase ≡ 1 → ⊥) → read.Go (partOf p) ≡ step (partOf p) k
+unfolding step
+blank-keeps p e f = go (p .phase) f ∙ ap (step (partOf p)) (sym e)
+  where
+    go : (n : ℕ) → (n ≡ 1 → ⊥) → read.Go (record { left = leftOf (p .split) (p .left); number = numberOf n (p .value) }) ≡ byBlank (leftOf (p .split) (p .left)) (numberOf n (p .value))
+    go zero h = refl
+    go (suc zero) h = absurd (h refl)
+    go (suc (suc n)) h = refl

@@ -1,0 +1,136 @@
+-- What `from_list` answers and leaves. Assumes nothing.
+use mathlib.Core.Path.{_≡_, refl, sym, ap, _∙_, subst}
+use mathlib.Core.Bool.{Bool, true, false, _||_}
+use mathlib.Core.List.{List, [], _++_}
+use mathlib.Core.Logic.{inr}
+use Prim.Native.Nat.{ℕ, _+_, _*_, _/_, _%_, _≤_, _<_, max}
+use native.Mathlib.Omega.{arith}
+use lib.ListN.{length, getD, take, drop}
+use lib.Seq.{length-take-le, getD-take}
+use Rattle.word.specs.Sets.{choose}
+use Rattle.word.specs.Bits.{bit, member, wordsOf}
+use Rattle.word.proofs.Bits.{bit-zero}
+use Rattle.word.proofs.Lists.{member-at, at-place}
+use Rattle.storage.specs.Stores.{Bits, refused, view, within, zeroed, Changes}
+use Rattle.storage.specs.declared.Bitmap.{Bitmap}
+use Rattle.storage.specs.declared.Change.the-variants.{Done, Refused}
+use Rattle.storage.specs.declared.Refusal.{Refusal}
+use Rattle.storage.specs.declared.Refusal.the-variants.{NoSpace, NotList, NotAscii}
+use Rattle.storage.proofs.Checks.{Passed, within-ok, within-no}
+use Rattle.storage.proofs.Stores.{Stored, changes-done, changes-refused, part-stored, length-zeroed, zeroed-in, zeroed-out}
+use Rattle.text.specs.Lists.{plain, Range, covers, highest}
+use Rattle.text.specs.Readings.{Parsed, notList, ranges, parse, union, taken, readingList}
+use Rattle.text.specs.Kernels.{topOf, marked, Walked}
+use Rattle.text.specs.declared.Measured.{Measured}
+use Rattle.text.specs.declared.Measured.the-variants.{Top, NotList as NoList}
+
+-- ---- the operation's cases
+
+pub list-not-plain : (t : List ℕ) (c : ℕ) (b : Bits) → plain t ≡ false → readingList t c b ≡ refused NotAscii
+unfolding readingList
+list-not-plain t c b e = ap (λ (x : Bool). choose x (taken c (parse t)) (refused NotAscii)) e
+
+pub list-is : (t : List ℕ) (c : ℕ) (b : Bits) (p : Parsed) → plain t ≡ true → parse t ≡ p → readingList t c b ≡ taken c p
+unfolding readingList
+list-is t c b p e f = ap (λ (x : Bool). choose x (taken c (parse t)) (refused NotAscii)) e ∙ ap (taken c) f
+
+-- ---- what a measurement says of the text
+
+measured-top : (p : Parsed) (x : ℕ) → topOf p ≡ Top x → (rs : List Range) × (p ≡ ranges rs) × (x ≡ highest rs)
+measured-top notList x e = let z : _≡_ {A = ℕ} 0 1 = cc in absurd (omega arith)
+measured-top (ranges rs) x e = (rs, refl, top-same e)
+  where
+    top-same : Top (highest rs) ≡ Top x → x ≡ highest rs
+    top-same f = cc
+
+measured-none : (p : Parsed) → topOf p ≡ NoList → p ≡ notList
+measured-none notList e = refl
+measured-none (ranges rs) e = let z : _≡_ {A = ℕ} 0 1 = cc in absurd (omega arith)
+
+-- no word is lent, none is marked
+none-marked : (rs : List Range) → marked rs [] ≡ []
+unfolding marked wordsOf
+none-marked rs = refl
+
+-- ---- the call
+
+module _ (t ws : List ℕ) (b : Bitmap) (p : Passed (length ws) (b .count)) where
+  pub list-refused-8 : plain t ≡ false → Changes (readingList t) ws b (Refused NotAscii b) ws
+  list-refused-8 e = changes-refused (readingList t) ws b NotAscii p (list-not-plain t (length ws) (view ws (b .count)) e)
+
+  module _ (e : plain t ≡ true) (m : Measured) (part : List ℕ) (w : Walked t m [] part) where
+    pub untouched : part ++ ws ≡ ws
+    untouched = ap (λ (y : List ℕ). y ++ ws) (w .marks ∙ none-marked (w .passed))
+
+    back : (r : Refusal) → readingList t (length ws) (view ws (b .count)) ≡ refused r → Changes (readingList t) ws b (Refused r b) (part ++ ws)
+    back r q = subst (λ (y : List ℕ). Changes (readingList t) ws b (Refused r b) y) (sym untouched) (changes-refused (readingList t) ws b r p q)
+
+    pub list-refused-7 : m ≡ NoList → Changes (readingList t) ws b (Refused NotList b) (part ++ ws)
+    list-refused-7 f = back NotList (list-is t (length ws) (view ws (b .count)) notList e (measured-none (parse t) (sym (w .measures) ∙ f)))
+
+    module _ (top : ℕ) (f : m ≡ Top top) where
+      found : (rs : List Range) × (parse t ≡ ranges rs) × (top ≡ highest rs)
+      found = measured-top (parse t) top (sym (w .measures) ∙ f)
+
+      abbrev rs : List Range
+      rs = found .0
+
+      count-is : union rs .count ≡ top / 64 + 1
+      count-is = ap (λ (x : ℕ). x / 64 + 1) (sym (found .2))
+
+      read : readingList t (length ws) (view ws (b .count)) ≡ within (length ws) (union rs)
+      read = list-is t (length ws) (view ws (b .count)) (ranges rs) e (found .1)
+
+      pub list-refused-6 : length (part ++ ws) < top / 64 + 1 → Changes (readingList t) ws b (Refused NoSpace b) (part ++ ws)
+      list-refused-6 h = back NoSpace (read ∙ within-no (length ws) (union rs) (omega (arith, count-is, ap length untouched)))
+
+      -- zeroed, then walked again
+      module _ (h : top / 64 + 1 ≤ length (part ++ ws)) (u : ℕ) (eu : u ≡ max (b .count) (top / 64 + 1)) (z : List ℕ) (ez : z ≡ zeroed 0 u (part ++ ws))
+          (m' : Measured) (us : List ℕ) (v : Walked t m' (take (top / 64 + 1) z) us) where
+        abbrev c : ℕ
+        c = top / 64 + 1
+
+        z-is : z ≡ zeroed 0 u ws
+        z-is = ez ∙ ap (zeroed 0 u) untouched
+
+        long : length z ≡ length ws
+        long = ap length z-is ∙ length-zeroed 0 u ws
+
+        pub list-room : c ≤ length z
+        list-room = omega (arith, long, ap length untouched)
+
+        zero : (k : ℕ) → k < u → getD z k 0 ≡ 0
+        zero k l = ap (λ (y : List ℕ). getD y k 0) z-is ∙ zeroed-in 0 u ws k (omega arith) l
+
+        old : (k : ℕ) → u ≤ k → getD z k 0 ≡ getD ws k 0
+        old k l = ap (λ (y : List ℕ). getD y k 0) z-is ∙ zeroed-out 0 u ws k (inr l)
+
+        none : (i : ℕ) → i < 64 * c → member (take c z) i ≡ false
+        none i l =
+            ap (member (take c z)) (sym (at-place i)) ∙ member-at (take c z) (i / 64) (i % 64) (omega arith)
+            ∙ ap (λ (x : ℕ). bit x (i % 64)) (getD-take c z (i / 64) 0 (omega arith) ∙ zero (i / 64) (omega arith)) ∙ bit-zero (i % 64)
+
+        set : us ++ drop c z ≡ wordsOf (λ i. member (take c z) i || covers rs i) c ++ drop c z
+        unfolding marked
+        set =
+            ap (λ (y : List ℕ). y ++ drop c z)
+            (v .marks ∙ ap (λ (qs : List Range). marked qs (take c z)) (v .whole rs (found .1))
+            ∙ ap (wordsOf (λ i. member (take c z) i || covers rs i)) (length-take-le c z list-room))
+
+        stored : Stored z c (union rs) (us ++ drop c z)
+        stored =
+            part-stored z (us ++ drop c z) c (λ i. member (take c z) i || covers rs i) (union rs) list-room set count-is
+            (λ i l. ap (λ (x : Bool). x || covers rs i) (none i l))
+
+        pub list-done : Changes (readingList t) ws b (Done (record { count = c })) (us ++ drop c z)
+        list-done =
+            changes-done (readingList t) ws b (us ++ drop c z) (union rs) c p
+            (read ∙ within-ok (length ws) (union rs) (omega (arith, count-is, ap length untouched)))
+            (record {
+              long = stored .long ∙ long;
+              fits = stored .fits;
+              used = stored .used;
+              dropped = λ k l q. stored .kept k l (omega (arith, count-is)) ∙ zero k (omega arith);
+              kept = λ k l q. stored .kept k l (omega (arith, count-is)) ∙ old k (omega (arith, count-is));
+            })
+            (sym count-is)

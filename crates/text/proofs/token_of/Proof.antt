@@ -1,0 +1,51 @@
+use mathlib.Core.Path.{sym, _∙_}
+use borrow.Author.Tests.{le-leb, lt-leb}
+use Rattle.text.proofs.Steps.{token-at, token-missing, token-empty, chosen, other}
+use Rattle.text.proofs.Steps.{left-none, left-some}
+use Rattle.text.specs.Readings as read
+use Rattle.text.specs.Readings.{empty}
+use Rattle.text.specs.Kernels.{partOf}
+use borrow.Author.Needs.{needs}
+use Rattle.text.proofs.token_of.Statement.{statement}
+use Rattle.text.proofs.token_of.Tie as tie
+
+empty-requires : tie.Need-empty-requires
+empty-requires c κs = search needs
+
+returns : tie.Need-returns
+returns c = sym (token-empty (partOf (c .before .before .args .p)) (sym (c .before .empty .ensures) ∙ c .if1 .taken))
+
+value-of-requires : tie.Need-value-of-requires
+value-of-requires c κs = search needs
+
+enum-told : tie.Need-enum-told
+enum-told c = search needs
+
+enum-known-v : tie.Need-enum-known-v
+enum-known-v c = search needs
+
+returns-2 : tie.Need-returns-2
+returns-2 c = sym (token-at (partOf (c .before .before .before .before .before .before .before .before .args .p)) (sym (c .before .before .before .before .before .before .before .empty .ensures) ∙ c .before .before .before .before .before .before .if1 .left) (left-none _ _ (c .if2 .taken)) (sym (c .before .before .before .before .before .value-of .ensures) ∙ c .before .before .before .v .given .1))
+
+returns-3 : tie.Need-returns-3
+returns-3 c = sym (token-missing (partOf (c .before .before .before .before .before .args .p)) (sym (c .before .before .before .before .empty .ensures) ∙ c .before .before .before .if1 .left) (sym (c .before .before .value-of .ensures) ∙ c .enum-told .given .1))
+
+returns-4 : tie.Need-returns-4
+returns-4 c = sym (token-at (partOf (c .before .before .before .before .before .before .before .before .before .args .p)) (sym (c .before .before .before .before .before .before .before .before .empty .ensures) ∙ c .before .before .before .before .before .before .before .if1 .left) (left-some _ _ (c .before .if2 .left)) (sym (c .before .before .before .before .before .before .value-of .ensures) ∙ c .before .before .before .before .v .given .1) ∙ chosen _ _ (le-leb _ _ (c .if3 .taken)))
+
+returns-5 : tie.Need-returns-5
+returns-5 c = sym (token-at (partOf (c .before .before .before .before .before .before .before .before .before .args .p)) (sym (c .before .before .before .before .before .before .before .before .empty .ensures) ∙ c .before .before .before .before .before .before .before .if1 .left) (left-some _ _ (c .before .if2 .left)) (sym (c .before .before .before .before .before .before .value-of .ensures) ∙ c .before .before .before .before .v .given .1) ∙ other _ _ (lt-leb _ _ (c .if3 .left)))
+
+pub token-of-spec : {M : Type 1} → statement M
+token-of-spec =
+    tie.close
+    (tie.spec
+    empty-requires
+    returns
+    value-of-requires
+    enum-told
+    enum-known-v
+    returns-2
+    returns-3
+    returns-4
+    returns-5)

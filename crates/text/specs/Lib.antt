@@ -1,0 +1,5 @@
+pub mod Lists
+pub mod Readings
+pub mod Texts
+pub mod Kernels
+pub mod Promises
