@@ -94,16 +94,18 @@ module _ (at x : ℕ) (out : List ℕ) (h : at + length (decimal x) ≤ length o
     pub putting-long : length out' ≡ length out
     putting-long = ap length (g .leaves) ∙ length-put p s out (omega (arith, putting-place))
 
-    pub putting-more : at < p → Putting at x out (set out' (p - 1) (zeroDigit + y % 10)) (p - 1) (y / 10) ((zeroDigit + y % 10) ∷ s)
-    putting-more l = record {
+    -- the digit before those
+    pub putting-more : (p' y' c : ℕ) → at < p → p ≡ suc p' → y' ≡ y / 10 → c ≡ zeroDigit + y % 10 → Putting at x out (set out' p' c) p' y' (c ∷ s)
+    putting-more p' y' c l ep ey ec = record {
       low = omega arith;
       digits =
-          sym (append-assoc (lastDigits (p - 1 - at) (y / 10)) ((zeroDigit + y % 10) ∷ []) s)
-          ∙ ap (λ (z : List ℕ). z ++ s) (sym (last-more (p - 1 - at) y))
+          ap₂ (λ (z d : ℕ). lastDigits (p' - at) z ++ d ∷ s) ey ec
+          ∙ sym (append-assoc (lastDigits (p' - at) (y / 10)) ((zeroDigit + y % 10) ∷ []) s)
+          ∙ ap (λ (z : List ℕ). z ++ s) (sym (last-more (p' - at) y))
           ∙ ap (λ (k : ℕ). lastDigits k y ++ s) (omega arith) ∙ g .digits;
       leaves =
-          ap (λ (o : List ℕ). set o (p - 1) (zeroDigit + y % 10)) (g .leaves ∙ ap (λ (k : ℕ). putAt k s out) (omega arith))
-          ∙ put-before (p - 1) (zeroDigit + y % 10) s out (omega (arith, putting-place));
+          ap (λ (o : List ℕ). set o p' c) (g .leaves ∙ ap (λ (k : ℕ). putAt k s out) ep)
+          ∙ put-before p' c s out (omega (arith, putting-place));
     }
 
     pub putting-end : (d : ℕ) → d ≡ length (decimal x) → p ≤ at → Puts at (decimal x) (at + d) out out'
@@ -114,3 +116,19 @@ module _ (at x : ℕ) (out : List ℕ) (h : at + length (decimal x) ≤ length o
           ∙ ap₂ (λ (k : ℕ) (t : List ℕ). putAt k t out) (omega (arith, g .low))
           (sym (ap (λ (z : List ℕ). z ++ s) (ap (λ (k : ℕ). lastDigits k y) (omega arith) ∙ last-none y)) ∙ g .digits);
     }
+
+  -- two at once
+  pub putting-two : (out' : List ℕ) (p y : ℕ) (s : List ℕ) → Putting at x out out' p y s → at + 2 ≤ p
+      → Putting at x out (set (set out' (p - 1) (zeroDigit + y % 100 % 10)) (p - 2) (zeroDigit + y % 100 / 10)) (p - 2) (y / 100)
+      ((zeroDigit + y % 100 / 10) ∷ (zeroDigit + y % 100 % 10) ∷ s)
+  putting-two out' p y s g l =
+      putting-more (set out' (p - 1) (zeroDigit + y % 100 % 10)) (p - 1) (y / 10) ((zeroDigit + y % 100 % 10) ∷ s)
+      (putting-more out' p y s g (p - 1) (y / 10) (zeroDigit + y % 100 % 10) (omega arith) (omega arith) refl (omega arith))
+      (p - 2) (y / 100) (zeroDigit + y % 100 / 10) (omega arith) (omega arith) (omega arith) (omega arith)
+
+  -- the last one
+  pub putting-last : (out' : List ℕ) (p y : ℕ) (s : List ℕ) → Putting at x out out' p y s → at < p → p < at + 2 → (d : ℕ) → d ≡ length (decimal x)
+      → Puts at (decimal x) (at + d) out (set out' at (zeroDigit + y % 10))
+  putting-last out' p y s g l h d e =
+      putting-end (set out' at (zeroDigit + y % 10)) at (y / 10) ((zeroDigit + y % 10) ∷ s)
+      (putting-more out' p y s g at (y / 10) (zeroDigit + y % 10) l (omega arith) refl refl) d e (omega arith)

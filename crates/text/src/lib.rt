@@ -406,7 +406,7 @@ fn text_len(words: &[u64], b: Bitmap) -> usize
     at
 }
 
-// Puts the digits of x, the last first; the place after them.
+// Puts the digits of x, the last two first; the place after them.
 fn put_number(out: &mut [u8], at: usize, x: usize) -> usize
     requires { ⌜ (x ≤ limit) × (at + length (decimal x) ≤ length (now out)) ⌝ }
     ensures { λ r. ⌜ Puts at (decimal x) r (now (out .entry)) (now (out .exit)) ⌝ }
@@ -414,10 +414,15 @@ fn put_number(out: &mut [u8], at: usize, x: usize) -> usize
     let end = at + digits(x);
     let mut p = end;
     let mut y = x;
-    while p > at {
-        p -= 1;
-        out[p] = ZERO + (y % 10) as u8;
-        y = y / 10;
+    while p - at >= 2 {
+        let two = y % 100;
+        out[p - 1] = ZERO + (two % 10) as u8;
+        out[p - 2] = ZERO + (two / 10) as u8;
+        y = y / 100;
+        p -= 2;
+    }
+    if p > at {
+        out[at] = ZERO + (y % 10) as u8;
     }
     end
 }
