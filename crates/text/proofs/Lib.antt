@@ -6,3 +6,5 @@ pub mod Decimals
 pub mod Buffer
 pub mod Runs
 pub mod Printing
+pub mod Accepts
+pub mod Grammar

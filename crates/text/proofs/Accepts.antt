@@ -1,0 +1,180 @@
+-- Every text of the grammar is read, with its ranges. Assumes nothing.
+use mathlib.Core.Path.{_≡_, refl, sym, ap, _∙_}
+use mathlib.Core.Logic.{⊎-elim, _⊎_, inl, inr}
+use mathlib.Core.Bool.{Bool, true, false, _&&_, _||_}
+use mathlib.Core.List.{List, [], _∷_, _++_, append-assoc}
+use Prim.Native.Nat.{ℕ, _+_, _-_, _*_, _≤_, _<_, min}
+use native.Mathlib.Omega.{arith}
+use lib.Dec.{leb, eqb}
+use borrow.Author.Tests.{le-leb, lt-leb, leb-true, eqb-true}
+use Rattle.text.specs.Lists as g
+use Rattle.text.specs.Lists.{comma, joiner, limit, blank, digit, Range}
+use Rattle.text.specs.Readings.{kind, Number, Unread, Open, Closed, Part, part, fresh, value, unread, empty, ranged, token, byJoiner, step, Reading, reading, tokenEnds, after, next, reads, ranges, textEnds, parsed, parse}
+use Rattle.text.specs.declared.Kind.{Kind}
+use Rattle.text.specs.declared.Value.{Value}
+use Rattle.text.specs.declared.Value.the-variants.{Of, Missing}
+use Rattle.text.specs.declared.Token.the-variants.{Range as Ranging, NoRange}
+use Rattle.text.proofs.Steps.{and-left, and-right, kind-digit, kind-blank, kind-joiner, kind-comma, chosen, token-at}
+
+-- ---- what a byte is
+
+or-cases : (a b : Bool) → a || b ≡ true → (a ≡ true) ⊎ (b ≡ true)
+or-cases true b e = inl refl
+or-cases false b e = inr e
+
+pub digit-low : (c : ℕ) → digit c ≡ true → (48 ≤ c) × (c ≤ 57)
+digit-low c e = (leb-true 48 c (and-left (leb 48 c) (leb c 57) e), leb-true c 57 (and-right (leb 48 c) (leb c 57) e))
+
+pub blank-low : (c : ℕ) → blank c ≡ true → c ≤ 32
+blank-low c e =
+    ⊎-elim
+    (λ x. let h : c ≡ 32 = eqb-true c 32 x in omega arith)
+    (λ x. let h : c ≤ 13 = leb-true c 13 (and-right (leb 9 c) (leb c 13) x) in omega arith)
+    (or-cases (eqb c 32) (leb 9 c && leb c 13) e)
+
+no-digit : (c : ℕ) → c < 48 → digit c ≡ false
+no-digit c h = ap (λ (t : Bool). t && leb c 57) (lt-leb 48 c h)
+
+-- ---- reading on
+
+pub reads-append : (x : Reading) (a b : List ℕ) → reads x (a ++ b) ≡ reads (reads x a) b
+unfolding reads
+reads-append x [] b = refl
+reads-append x (c ∷ a) b = reads-append (next x c) a b
+
+reads-one : (x : Reading) (c : ℕ) → reads x (c ∷ []) ≡ next x c
+unfolding reads
+reads-one x c = refl
+
+reads-cons : (x : Reading) (c : ℕ) (t : List ℕ) → reads x (c ∷ t) ≡ reads (next x c) t
+unfolding reads
+reads-cons x c t = refl
+
+pub next-at : (rs : List Range) (p : Part) (c : ℕ) {k : Kind} → k ≡ kind c → next (reading rs p) c ≡ after rs p (step p k)
+unfolding next
+next-at rs p c e = ap (λ (x : Kind). after rs p (step p x)) (sym e)
+
+-- ---- every text of the grammar is read
+
+blanks-none : (rs : List Range) (l : Value) {t : List ℕ} → g.Blanks t → reads (reading rs (part l Unread)) t ≡ reading rs (part l Unread)
+unfolding reads step
+blanks-none rs l g.nil = refl
+blanks-none rs l (g.cons {c = c} {t = t} e b) =
+    ap (λ (x : Reading). reads x t) (next-at rs (part l Unread) c (kind-blank c (no-digit c (omega (arith, blank-low c e))) e)) ∙ blanks-none rs l b
+
+blanks-closed : (rs : List Range) (l : Value) (v : ℕ) {t : List ℕ} → g.Blanks t → reads (reading rs (part l (Closed v))) t ≡ reading rs (part l (Closed v))
+unfolding reads step
+blanks-closed rs l v g.nil = refl
+blanks-closed rs l v (g.cons {c = c} {t = t} e b) =
+    ap (λ (x : Reading). reads x t) (next-at rs (part l (Closed v)) c (kind-blank c (no-digit c (omega (arith, blank-low c e))) e)) ∙ blanks-closed rs l v b
+
+digits-read : (rs : List Range) (l : Value) {t : List ℕ} {v : ℕ} → g.Digits t v → reads (reading rs (part l Unread)) t ≡ reading rs (part l (Open (min (limit + 1) v)))
+unfolding step
+digits-read rs l (g.one {c = c} e) =
+    let h = digit-low c e in
+    reads-one (reading rs (part l Unread)) c ∙ next-at rs (part l Unread) c (kind-digit c e)
+    ∙ ap (λ (x : ℕ). reading rs (part l (Open x))) (omega arith)
+digits-read rs l (g.more {t = t} {v = v} c d e) =
+    reads-append (reading rs (part l Unread)) t (c ∷ [])
+    ∙ ap (λ (x : Reading). reads x (c ∷ [])) (digits-read rs l d)
+    ∙ reads-one (reading rs (part l (Open (min (limit + 1) v)))) c
+    ∙ next-at rs (part l (Open (min (limit + 1) v))) c (kind-digit c e)
+    ∙ ap (λ (x : ℕ). reading rs (part l (Open x))) (omega arith)
+
+-- a number that was read: n is what is kept of it
+record Kept (rs : List Range) (l : Value) (t : List ℕ) (v : ℕ) : Type 0 where
+  n : Number
+  read : reads (reading rs (part l Unread)) t ≡ reading rs (part l n)
+  is : value n ≡ Of v
+  full : unread n ≡ false
+
+value-open : (v : ℕ) → v ≤ limit → value (Open (min (limit + 1) v)) ≡ Of v
+unfolding value
+value-open v h = chosen (Of (min (limit + 1) v)) Missing (le-leb (min (limit + 1) v) limit (omega arith)) ∙ ap Of (omega arith)
+
+value-closed : (v : ℕ) → v ≤ limit → value (Closed (min (limit + 1) v)) ≡ Of v
+unfolding value
+value-closed v h = chosen (Of (min (limit + 1) v)) Missing (le-leb (min (limit + 1) v) limit (omega arith)) ∙ ap Of (omega arith)
+
+-- blanks after the digits
+tail-read : (rs : List Range) (l : Value) (v : ℕ) → v ≤ limit → {w : List ℕ} → g.Blanks w
+    → (n : Number) × (reads (reading rs (part l (Open (min (limit + 1) v)))) w ≡ reading rs (part l n)) × (value n ≡ Of v) × (unread n ≡ false)
+unfolding reads step
+tail-read rs l v h g.nil = (Open (min (limit + 1) v), refl, value-open v h, refl)
+tail-read rs l v h (g.cons {c = c} {t = t} e b) = (
+  Closed (min (limit + 1) v),
+  ap (λ (x : Reading). reads x t) (next-at rs (part l (Open (min (limit + 1) v))) c (kind-blank c (no-digit c (omega (arith, blank-low c e))) e))
+      ∙ blanks-closed rs l (min (limit + 1) v) b,
+  value-closed v h,
+  refl,
+)
+
+number-read : (rs : List Range) (l : Value) {t : List ℕ} {v : ℕ} → g.Number t v → Kept rs l t v
+number-read rs l (g.number {u = u} {d = d} {w = w} {v = v} b x y h) =
+    let q = tail-read rs l v h y in
+    record {
+      n = q .0;
+      read =
+          reads-append (reading rs (part l Unread)) (u ++ d) w
+          ∙ ap (λ (z : Reading). reads z w) (reads-append (reading rs (part l Unread)) u d ∙ ap (λ (z : Reading). reads z d) (blanks-none rs l b) ∙ digits-read rs l x)
+          ∙ q .1;
+      is = q .2;
+      full = q .3;
+    }
+
+-- a token
+part-token : (l : Value) (n : Number) {v : ℕ} → value n ≡ Of v → unread n ≡ false → token (part l n) ≡ ranged l (Of v)
+unfolding empty
+part-token Missing n e f = token-at (part Missing n) f refl e
+part-token (Of a) n e f = token-at (part (Of a) n) refl refl e
+
+joiner-read : (rs : List Range) (n : Number) {a : ℕ} → value n ≡ Of a → next (reading rs (part Missing n)) joiner ≡ reading rs (part (Of a) Unread)
+unfolding step
+joiner-read rs n e =
+    next-at rs (part Missing n) joiner (kind-joiner joiner refl refl refl) ∙ ap (λ (x : Value). after rs (part Missing n) (byJoiner Missing x)) e
+
+comma-read : (rs : List Range) (p : Part) → next (reading rs p) comma ≡ tokenEnds rs (token p)
+unfolding step
+comma-read rs p = next-at rs p comma (kind-comma comma refl refl (omega arith) refl)
+
+token-read : (rs : List Range) {t : List ℕ} {r : Range} → g.Token t r
+    → (p : Part) × (reads (reading rs fresh) t ≡ reading rs p) × (token p ≡ Ranging (r .low) (r .high))
+token-read rs (g.single {t = t} {a = a} x) =
+    let q = number-read rs Missing x in
+    (part Missing (q .n), q .read, part-token Missing (q .n) (q .is) (q .full))
+token-read rs (g.pair {t = t} {u = u} {a = a} {b = b} x y h) =
+    let q = number-read rs Missing x in
+    let s = number-read rs (Of a) y in (
+      part (Of a) (s .n),
+      reads-append (reading rs fresh) t (joiner ∷ u)
+          ∙ ap (λ (z : Reading). reads z (joiner ∷ u)) (q .read)
+          ∙ reads-cons (reading rs (part Missing (q .n))) joiner u
+          ∙ ap (λ (z : Reading). reads z u) (joiner-read rs (q .n) (q .is))
+          ∙ s .read,
+      part-token (Of a) (s .n) (s .is) (s .full) ∙ chosen (Ranging a b) NoRange (le-leb a b h),
+    )
+
+-- up to a comma
+upto-comma : (rs : List Range) {t : List ℕ} {r : Range} → g.Token t r → (u : List ℕ) → reads (reading rs fresh) (t ++ comma ∷ u) ≡ reads (reading (rs ++ r ∷ []) fresh) u
+upto-comma rs {t} x u =
+    let q = token-read rs x in
+    reads-append (reading rs fresh) t (comma ∷ u)
+    ∙ ap (λ (z : Reading). reads z (comma ∷ u)) (q .1)
+    ∙ reads-cons (reading rs (q .0)) comma u
+    ∙ ap (λ (z : Reading). reads z u) (comma-read rs (q .0) ∙ ap (tokenEnds rs) (q .2))
+
+ended-parsed : (rs : List Range) (r : Range) → parsed (reading (rs ++ r ∷ []) fresh) ≡ ranges (rs ++ r ∷ [])
+unfolding parsed token empty
+ended-parsed [] r = refl
+ended-parsed (q ∷ rs) r = refl
+
+list-read : (rs : List Range) {t : List ℕ} {qs : List Range} → g.Listed t qs → parsed (reads (reading rs fresh) t) ≡ ranges (rs ++ qs)
+unfolding parsed
+list-read rs (g.last x) = let q = token-read rs x in ap parsed (q .1) ∙ ap (textEnds rs) (q .2)
+list-read rs (g.ended {u = u} {r = r} x b) = ap parsed (upto-comma rs x u ∙ blanks-none (rs ++ r ∷ []) Missing b) ∙ ended-parsed rs r
+list-read rs (g.more {u = u} {r = r} {rs = qs} x y) =
+    ap parsed (upto-comma rs x u) ∙ list-read (rs ++ r ∷ []) y ∙ ap ranges (append-assoc rs (r ∷ []) qs)
+
+pub complete : {t : List ℕ} {rs : List Range} → g.Listed t rs → parse t ≡ ranges rs
+unfolding parse
+complete x = list-read [] x
