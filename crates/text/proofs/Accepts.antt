@@ -3,10 +3,11 @@ use mathlib.Core.Path.{_≡_, refl, sym, ap, _∙_}
 use mathlib.Core.Logic.{⊎-elim, _⊎_, inl, inr}
 use mathlib.Core.Bool.{Bool, true, false, _&&_, _||_}
 use mathlib.Core.List.{List, [], _∷_, _++_, append-assoc}
-use Prim.Native.Nat.{ℕ, _+_, _-_, _*_, _≤_, _<_, min}
+use Prim.Native.Nat.{ℕ, _+_, _≤_, _<_, min}
 use native.Mathlib.Omega.{arith}
 use lib.Dec.{leb, eqb}
 use borrow.Author.Tests.{le-leb, lt-leb, leb-true, eqb-true}
+use Rattle.word.proofs.Cases.{and-true}
 use Rattle.text.specs.Lists as g
 use Rattle.text.specs.Lists.{comma, joiner, limit, blank, digit, Range}
 use Rattle.text.specs.Readings.{kind, Number, Unread, Open, Closed, Part, part, fresh, value, unread, empty, ranged, token, byJoiner, step, Reading, reading, tokenEnds, after, next, reads, ranges, textEnds, parsed, parse}
@@ -14,7 +15,7 @@ use Rattle.text.specs.declared.Kind.{Kind}
 use Rattle.text.specs.declared.Value.{Value}
 use Rattle.text.specs.declared.Value.the-variants.{Of, Missing}
 use Rattle.text.specs.declared.Token.the-variants.{Range as Ranging, NoRange}
-use Rattle.text.proofs.Steps.{and-left, and-right, kind-digit, kind-blank, kind-joiner, kind-comma, chosen, token-at}
+use Rattle.text.proofs.Steps.{kind-digit, kind-blank, kind-joiner, kind-comma, chosen, token-at}
 
 -- ---- what a byte is
 
@@ -23,13 +24,13 @@ or-cases true b e = inl refl
 or-cases false b e = inr e
 
 pub digit-low : (c : ℕ) → digit c ≡ true → (48 ≤ c) × (c ≤ 57)
-digit-low c e = (leb-true 48 c (and-left (leb 48 c) (leb c 57) e), leb-true c 57 (and-right (leb 48 c) (leb c 57) e))
+digit-low c e = (leb-true 48 c (and-true (leb 48 c) (leb c 57) e .0), leb-true c 57 (and-true (leb 48 c) (leb c 57) e .1))
 
 pub blank-low : (c : ℕ) → blank c ≡ true → c ≤ 32
 blank-low c e =
     ⊎-elim
     (λ x. let h : c ≡ 32 = eqb-true c 32 x in omega arith)
-    (λ x. let h : c ≤ 13 = leb-true c 13 (and-right (leb 9 c) (leb c 13) x) in omega arith)
+    (λ x. let h : c ≤ 13 = leb-true c 13 (and-true (leb 9 c) (leb c 13) x .1) in omega arith)
     (or-cases (eqb c 32) (leb 9 c && leb c 13) e)
 
 no-digit : (c : ℕ) → c < 48 → digit c ≡ false

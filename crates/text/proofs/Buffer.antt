@@ -4,9 +4,9 @@ use mathlib.Core.List.{List, [], _∷_, _++_, append-assoc, append-nil}
 use Prim.Native.Nat.{ℕ, zero, suc, _+_, _-_, _/_, _%_, _≤_, _<_}
 use native.Mathlib.Omega.{arith}
 use lib.ListN.{length, set, drop, length-append, length-drop}
-use Rattle.text.specs.Lists.{comma, joiner, space, zeroDigit, Range, range}
-use Rattle.text.specs.Texts.{decimal, printed}
-use Rattle.text.specs.Kernels.{gap, putAt, Puts}
+use Rattle.text.specs.Lists.{zeroDigit}
+use Rattle.text.specs.Texts.{decimal}
+use Rattle.text.specs.Kernels.{putAt, Puts}
 use Rattle.text.proofs.Decimals.{lastDigits, last-all, last-none, last-more, length-last}
 
 pub length-put : (at : ℕ) (t out : List ℕ) → at + length t ≤ length out → length (putAt at t out) ≡ length out

@@ -306,5 +306,5 @@ unfolding parse
 sound t rs e = list-sound t [] [] [] Missing Unread front-none (first (blanks g.nil)) rs e
 
 -- the parser takes exactly the grammar's texts, each with its ranges
-pub reads-grammar : (t : List ℕ) (rs : List Range) → g.Listed t rs ↔ (parse t ≡ ranges rs)
-reads-grammar t rs = (λ x. complete x, λ e. sound t rs e)
+pub reads-exactly : (t : List ℕ) (rs : List Range) → g.Listed t rs ↔ (parse t ≡ ranges rs)
+reads-exactly t rs = (λ x. complete x, λ e. sound t rs e)

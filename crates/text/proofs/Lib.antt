@@ -8,3 +8,5 @@ pub mod Runs
 pub mod Printing
 pub mod Accepts
 pub mod Grammar
+pub mod ReadBack
+pub mod Promises

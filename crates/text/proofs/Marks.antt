@@ -2,13 +2,13 @@
 use mathlib.Core.Path.{_≡_, refl, sym, ap, ap₂, _∙_}
 use mathlib.Core.Bool.{Bool, true, false, _&&_, _||_, or-assoc}
 use mathlib.Core.List.{List, [], _∷_, _++_}
-use Prim.Native.Nat.{ℕ, _+_, _*_, _≤_, _<_}
+use Prim.Native.Nat.{ℕ, _+_, _*_, _<_}
 use native.Mathlib.Omega.{arith}
 use lib.Dec.{ltb, leb}
 use lib.ListN.{length}
 use borrow.Author.Tests.{lt-ltb, le-ltb, le-leb, lt-leb}
 use Rattle.word.specs.Sets.{choose}
-use Rattle.word.specs.Bits.{member, wordsOf}
+use Rattle.word.specs.Bits.{member}
 use Rattle.word.proofs.Cases.{by-lt, or-false, or-true}
 use Rattle.word.proofs.Lists.{Fit, member-at, length-words, words-fit, words-is, member-words}
 use Rattle.arch.specs.Scans.{filled}

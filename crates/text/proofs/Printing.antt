@@ -2,9 +2,9 @@
 use mathlib.Core.Path.{_≡_, refl, sym, ap, ap₂, _∙_, subst}
 use mathlib.Core.Bool.{Bool, true, false, false≢true}
 use mathlib.Core.List.{List, [], _∷_, _++_, append-assoc, append-nil}
-use Prim.Native.Nat.{ℕ, zero, suc, _+_, _-_, _*_, _^_, _≤_, _<_}
+use Prim.Native.Nat.{ℕ, zero, suc, _+_, _-_, _*_, _≤_, _<_}
 use native.Mathlib.Omega.{arith}
-use lib.Dec.{eqb, leb}
+use lib.Dec.{leb}
 use lib.ListN.{length, set, drop, length-append, length-set}
 use borrow.Author.Tests.{le-leb, lt-leb, eq-eqb, ne-eqb}
 use Rattle.word.specs.Sets.{choose}
@@ -168,7 +168,7 @@ module _ (at a b : ℕ) (out : List ℕ) (h : at + (length (gap at) + length (pr
         subst (λ (t : List ℕ). Puts at (gap at ++ t) next out o₂) (sym (printed-one a b e))
         (puts-then at start next (gap at) (decimal a) out o₁ o₂ (omega (arith, first-length)) p q)
 
-    pub long₂ : length o₂ ≡ length out
+    long₂ : length o₂ ≡ length out
     long₂ = puts-long start next (decimal a) o₁ o₂ first-room q ∙ long₁
 
     module _ (e : a ≡ b → ⊥) where

@@ -2,14 +2,14 @@
 use mathlib.Core.Path.{_≡_, refl, sym, ap, _∙_, subst}
 use mathlib.Core.Bool.{Bool, true, false, _&&_, _||_, false≢true}
 use mathlib.Core.List.{List, [], _∷_}
-use Prim.Native.Nat.{ℕ, zero, suc, _+_, _-_, _*_, _≤_, _<_, max}
+use Prim.Native.Nat.{ℕ, zero, suc, _+_, _-_, _*_, _≤_, _<_}
 use native.Mathlib.Omega.{arith}
 use lib.Dec.{leb}
 use borrow.Author.Tests.{le-leb, lt-leb}
 use Rattle.word.specs.Sets.{choose}
 use Rattle.word.proofs.Cases.{by-lt, by-eq, and-false}
 use Rattle.storage.specs.Stores.{Bits, Bounded}
-use Rattle.text.specs.Lists.{Range, range, covers, highest}
+use Rattle.text.specs.Lists.{Range, range, covers}
 use Rattle.text.specs.Texts.{runsFrom, runs}
 use Rattle.text.specs.Kernels.{NextRun}
 use Rattle.text.specs.Promises.{Runs, none, more}

@@ -1,6 +1,6 @@
 -- What a byte, a token's state and a token's end come to, where they are known by equations. Assumes nothing.
 use mathlib.Core.Path.{_≡_, refl, sym, ap, _∙_}
-use mathlib.Core.Bool.{Bool, true, false, _&&_, false≢true}
+use mathlib.Core.Bool.{Bool, true, false, _&&_}
 use mathlib.Core.List.{List}
 use Prim.Native.Nat.{ℕ, zero, suc, _+_, _-_, _≤_, _<_}
 use native.Mathlib.Omega.{arith}
@@ -19,7 +19,6 @@ use Rattle.text.specs.declared.Kind.the-variants.{Digit, Blank, Joiner, 
 use Rattle.text.specs.declared.Value.{Value}
 use Rattle.text.specs.declared.Value.the-variants.{Of, Missing}
 use Rattle.text.specs.declared.Part.{Part}
-use Rattle.text.specs.declared.Token.{Token}
 use Rattle.text.specs.declared.Token.the-variants.{Range as Ranging, Empty, NoRange}
 
 pub step-at : (p : read.Part) {k k' : Kind} {l : Value} {n : Number} → k ≡ k' → p .left ≡ l → p .number ≡ n → step p k ≡ step (record { left = l; number = n }) k'
@@ -59,14 +58,6 @@ kind-comma c e f g h = rw (e, f, ne-eqb c joiner g, eq-eqb c comma h)
 pub kind-other : (c : ℕ) → digit c ≡ false → blank c ≡ false → (c ≡ joiner → ⊥) → (c ≡ comma → ⊥) → Other ≡ kind c
 unfolding kind
 kind-other c e f g h = rw (e, f, ne-eqb c joiner g, ne-eqb c comma h)
-
-pub and-left : (t u : Bool) → t && u ≡ true → t ≡ true
-and-left true u e = refl
-and-left false u e = e
-
-pub and-right : (t u : Bool) → t && u ≡ true → u ≡ true
-and-right true u e = e
-and-right false u e = absurd (false≢true e)
 
 -- ---- bytes below 128, from place i on
 plain-step : (t : List ℕ) (i : ℕ) → i < length t → plain (drop i t) ≡ ltb (getD t i 0) 128 && plain (drop (i + 1) t)

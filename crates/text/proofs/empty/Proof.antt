@@ -1,5 +1,4 @@
 use Rattle.text.proofs.Steps.{empty-none, empty-some}
-use Rattle.text.specs.Readings as read
 use Rattle.text.proofs.empty.Statement.{statement}
 use Rattle.text.proofs.empty.Tie as tie
 

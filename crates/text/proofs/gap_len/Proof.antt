@@ -1,4 +1,3 @@
-use borrow.Author.Needs.{needs}
 use Rattle.text.proofs.Printing.{gap-none, gap-two}
 use Rattle.text.proofs.gap_len.Statement.{statement}
 use Rattle.text.proofs.gap_len.Tie as tie

@@ -1,7 +1,7 @@
 use mathlib.Core.Path.{sym, _∙_}
 use borrow.Author.Tests.{leb-true}
+use Rattle.word.proofs.Cases.{and-true}
 use Rattle.text.proofs.Steps.{kind-digit, kind-blank, kind-joiner, kind-comma, kind-other}
-use Rattle.text.proofs.Steps.{and-left}
 use borrow.Author.Needs.{needs}
 use Rattle.text.proofs.kind_of.Statement.{statement}
 use Rattle.text.proofs.kind_of.Tie as tie
@@ -10,7 +10,7 @@ is-digit-requires : tie.Need-is-digit-requires
 is-digit-requires c κs = search needs
 
 sub-t3 : tie.Need-sub-t3
-sub-t3 c = leb-true 48 _ (and-left _ _ (sym (c .before .is-digit .ensures) ∙ c .if1 .taken))
+sub-t3 c = leb-true 48 _ (and-true _ _ (sym (c .before .is-digit .ensures) ∙ c .if1 .taken) .0)
 
 returns : tie.Need-returns
 returns c = kind-digit _ (sym (c .before .is-digit .ensures) ∙ c .if1 .taken)

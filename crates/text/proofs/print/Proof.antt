@@ -1,6 +1,5 @@
 use native.Mathlib.Omega.{arith}
 use Prim.Native.Nat.{_-_, _*_}
-use borrow.Author.Needs.{needs}
 use Rattle.storage.specs.Stores.{view}
 use Rattle.storage.proofs.Views.{bounded-view, view-out}
 use Rattle.text.proofs.Printing.{low-limit, high-limit, end-within, Shown, shown-start, shown-room, shown-more, shown-end, end-long}

@@ -2,7 +2,6 @@ use mathlib.Core.Path.{sym, _∙_}
 use borrow.Author.Tests.{le-leb, lt-leb}
 use Rattle.text.proofs.Steps.{token-at, token-missing, token-empty, chosen, other}
 use Rattle.text.proofs.Steps.{left-none, left-some}
-use Rattle.text.specs.Readings as read
 use Rattle.text.specs.Readings.{empty}
 use Rattle.text.specs.Kernels.{partOf}
 use borrow.Author.Needs.{needs}

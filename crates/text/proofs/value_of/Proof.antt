@@ -2,7 +2,6 @@ use mathlib.Core.Path.{sym, ap, _∙_}
 use borrow.Author.Tests.{le-leb, lt-leb}
 use Rattle.text.proofs.Steps.{chosen, other}
 use Rattle.text.proofs.Steps.{number-none, number-some}
-use Rattle.text.specs.Readings as read
 use Rattle.text.specs.Readings.{value}
 use Rattle.text.proofs.value_of.Statement.{statement}
 use Rattle.text.proofs.value_of.Tie as tie
