@@ -12,9 +12,9 @@ use lib.Seq.{take-at, drop-at}
 use borrow.Author.Tests.{ltb-true, ltb-false, le-leb, lt-leb, leb-true}
 use Rattle.word.specs.Sets.{choose}
 use Rattle.word.proofs.Cases.{by-lt, by-test, and-true, or-true}
-use Rattle.storage.specs.Refusals.{numberNumber, numberValue}
+use Rattle.storage.specs.Refusals.{numberOf, numberNumber, numberValue}
 use Rattle.storage.specs.Stores.{Bits, Bounded, Outcome, refused, done, limit, view, reading, trimmedCount, trimmed, outcome, answer, store}
-use Rattle.storage.specs.Promises.{Sound}
+use Rattle.storage.specs.Promises.{Sound, Meets}
 use Rattle.storage.specs.declared.Refusal.the-variants.{NoSpace, NotList}
 use Rattle.storage.specs.declared.Number.{Number}
 use Rattle.storage.specs.declared.Number.the-variants.{Is}
@@ -27,7 +27,7 @@ use Rattle.text.specs.Lists as g
 use Rattle.text.specs.Lists.{plain, Range, covers, highest}
 use Rattle.text.specs.Readings.{empty, token, reads, Parsed, notList, ranges, parsed, parse, union, readingList}
 use Rattle.text.specs.Texts.{runs, decimal, textOf, fitted, replaced, Prints}
-use Rattle.text.specs.Promises.{ReadsGrammar, Within, Union, High, ReadsList, Shortest, Runs, none, more, PrintsRuns, PrintsText, TextOf, ReadsBack}
+use Rattle.text.specs.Promises.{ReadsGrammar, Within, Union, High, ListRead, ListRefused, Shortest, Runs, none, more, PrintsRuns, PrintsText, TextOf, ReadsBack}
 use Rattle.text.proofs.Accepts.{digit-low, complete}
 use Rattle.text.proofs.Grammar.{sound, reads-exactly}
 use Rattle.text.proofs.Marks.{between}
@@ -120,31 +120,43 @@ plain-low [] e (k, l, h) = omega arith
 plain-low (c ∷ t) e (zero, l, h) = omega (arith, ltb-true c 128 (and-true (ltb c 128) (plain t) e .0))
 plain-low (c ∷ t) e (suc k, l, h) = plain-low t (and-true (ltb c 128) (plain t) e .1) (k, omega arith, h)
 
-pub reads-list : (t : List ℕ) (c : ℕ) (b : Bits) → ReadsList t c (readingList t c b)
-reads-list t c b =
+-- what becomes of a text
+abbrev Fate : List ℕ → ℕ → Outcome → Type 0
+Fate t c (done s) = ListRead t c s s × (s .count ≤ c)
+Fate t c (refused e) = ListRefused t c (union []) (numberOf e)
+
+fate : (t : List ℕ) (c : ℕ) (b : Bits) → Fate t c (readingList t c b)
+fate t c b =
     by-test (plain t)
     (λ e. low e (plain-low t e) (parse t) refl)
-    (λ e. subst (ReadsList t c) (sym (list-not-plain t c b e)) (inl (refl, plain-high t e)))
+    (λ e. subst (Fate t c) (sym (list-not-plain t c b e)) (inl (refl, plain-high t e)))
   where
-    low : plain t ≡ true → (High t → ⊥) → (p : Parsed) → parse t ≡ p → ReadsList t c (readingList t c b)
-    low e h notList f = subst (ReadsList t c) (sym (list-is t c b notList e f)) (inr (inl (refl, h, reads-grammar t .refused .1 f)))
+    low : plain t ≡ true → (High t → ⊥) → (p : Parsed) → parse t ≡ p → Fate t c (readingList t c b)
+    low e h notList f = subst (Fate t c) (sym (list-is t c b notList e f)) (inr (inl (refl, h, reads-grammar t .refused .1 f)))
     low e h (ranges rs) f =
         let x : g.Listed t rs = sound t rs f in
         by-lt c (union rs .count)
-        (λ l. subst (ReadsList t c) (sym (list-is t c b (ranges rs) e f ∙ within-no c (union rs) l))
+        (λ l. subst (Fate t c) (sym (list-is t c b (ranges rs) e f ∙ within-no c (union rs) l))
         (inr (inr (refl, h, (rs, x, (highest rs, highest-within rs (listed-good x), omega arith))))))
-        (λ l. subst (ReadsList t c) (sym (list-is t c b (ranges rs) e f ∙ within-ok c (union rs) l))
-        (h, (rs, x, union-is rs (listed-good x)), l))
+        (λ l. subst (Fate t c) (sym (list-is t c b (ranges rs) e f ∙ within-ok c (union rs) l))
+        ((h, (rs, x, union-is rs (listed-good x))), l))
 
 pub sound-list : (t : List ℕ) → Sound (readingList t)
 sound-list t = record {
-  space = λ c b s h l e. is c s (subst (ReadsList t c) e (reads-list t c b)) .0;
-  bound = λ c b s h l e. is c s (subst (ReadsList t c) e (reads-list t c b)) .1;
+  space = λ c b s h l e. subst (Fate t c) e (fate t c b) .1;
+  bound = λ c b s h l e. bounded (subst (Fate t c) e (fate t c b) .0 .1 .0) s (subst (Fate t c) e (fate t c b) .0 .1 .2);
 }
   where
-    is : (c : ℕ) (s : Bits) → ReadsList t c (done s) → (s .count ≤ c) × Bounded s
-    is c s (h, (rs, x, u), l) =
-        (l, record { past = λ i k. by-test (s .members i) (λ e. absurd (omega (arith, u .holds i (u .members i .1 e)))) (λ e. e) })
+    bounded : (rs : List Range) (s : Bits) → Union rs s → Bounded s
+    bounded rs s u =
+        record { past = λ i k. by-test (s .members i) (λ e. absurd (omega (arith, u .holds i (u .members i .1 e)))) (λ e. e) }
+
+pub reads-list : (t : List ℕ) → Meets (readingList t) (ListRead t) (ListRefused t)
+reads-list t = record {
+  made = λ c b s e. subst (Fate t c) e (fate t c b) .0;
+  sound = sound-list t;
+  why = λ c b d e. subst (Fate t c) e (fate t c b);
+}
 
 -- ---- numbers
 

@@ -44,11 +44,13 @@ NoList t = (rs : List Range) → Listed t rs → ⊥
 abbrev pub Past : List ℕ → ℕ → Type 0
 Past t c = (rs : List Range) × Listed t rs × ((i : ℕ) × Within rs i × (c ≤ i / 64))
 
--- 8, then 7, then 6, each exactly where its condition holds; what is done is the union, and it has space
-abbrev pub ReadsList : List ℕ → ℕ → Outcome → Type 0
-ReadsList t c (done s) = (High t → ⊥) × ((rs : List Range) × Listed t rs × Union rs s) × (s .count ≤ c)
-ReadsList t c (refused e) =
-    ((numberOf e ≡ 8) × High t) ⊎ (((numberOf e ≡ 7) × (High t → ⊥) × NoList t) ⊎ ((numberOf e ≡ 6) × (High t → ⊥) × Past t c))
+-- what is done: every byte is below 128, the text is a list, and the set is its
+abbrev pub ListRead : List ℕ → ℕ → Bits → Bits → Type 0
+ListRead t c b s = (High t → ⊥) × ((rs : List Range) × Listed t rs × Union rs s)
+
+-- 8, then 7, then 6, each exactly where its condition holds
+abbrev pub ListRefused : List ℕ → ℕ → Bits → ℕ → Type 0
+ListRefused t c b k = ((k ≡ 8) × High t) ⊎ (((k ≡ 7) × (High t → ⊥) × NoList t) ⊎ ((k ≡ 6) × (High t → ⊥) × Past t c))
 
 -- a number is printed with the fewest digits that mean it
 pub record Shortest (n : ℕ) (t : List ℕ) : Type 0 where

@@ -1,10 +1,10 @@
 -- `from_list`, byte by byte. proofs/Grammar: what is read is exactly what the grammar of Lists says.
-use Prim.Native.Nat.{ℕ, _+_, _-_, _/_, min}
+use Prim.Native.Nat.{ℕ, _+_, _-_, min}
 use mathlib.Core.Bool.{Bool, true, false, _&&_}
 use mathlib.Core.List.{List, [], _∷_, _++_}
 use lib.Dec.{leb, eqb}
 use Rattle.word.specs.Sets.{choose}
-use Rattle.storage.specs.Stores.{Bits, Outcome, refused, Op, within}
+use Rattle.storage.specs.Stores.{Bits, Outcome, refused, Op, within, upTo}
 use Rattle.storage.specs.declared.Refusal.the-variants.{NotList, NotAscii}
 use Rattle.text.specs.Lists.{comma, joiner, zeroDigit, limit, blank, digit, withDigit, plain, Range, range, covers, highest}
 use Rattle.text.specs.declared.Kind.{Kind}
@@ -144,7 +144,7 @@ parse t = parsed (reads (reading [] fresh) t)
 
 -- the union of the ranges, in the words up to the largest number's
 abbrev pub union : List Range → Bits
-union rs = record { members = covers rs; count = highest rs / 64 + 1 }
+union rs = record { members = covers rs; count = upTo (highest rs) }
 
 abbrev pub taken : ℕ → Parsed → Outcome
 taken c notList = refused NotList
