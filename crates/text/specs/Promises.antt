@@ -6,7 +6,7 @@ use mathlib.Core.List.{List, [], _∷_}
 use mathlib.Core.Logic.{_⊎_, _↔_}
 use lib.ListN.{length, getD, take, drop}
 use Rattle.storage.specs.Refusals.{numberOf, numberNumber, numberValue}
-use Rattle.storage.specs.Stores.{Bits, Outcome, refused, done, limit, view, trimmedCount, Changes}
+use Rattle.storage.specs.Stores.{Bits, refused, done, limit, view, trimmedCount, Changes}
 use Rattle.storage.specs.declared.Bitmap.{Bitmap}
 use Rattle.storage.specs.declared.Refusal.{Refusal}
 use Rattle.storage.specs.declared.Change.{Change}

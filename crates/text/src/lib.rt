@@ -327,27 +327,19 @@ fn next_run(words: &[u64], b: Bitmap, i: usize) -> Run
     requires { ⌜ (length (now words) ≤ stores.limit) × (b .count ≤ length (now words)) × (i ≤ 64 * b .count) ⌝ }
     ensures { λ r. ⌜ NextRun (view (now (words .entry)) (b .count) .members) (64 * b .count) i r ⌝ }
 {
-    let n = b.count;
+    let end = 64 * b.count;
+    let none = Run { low: end, end: end };
     let f = slice::next_set(words, b, i);
     match f {
         Found::At(a) => {
-            let e = slice::next_clear(words, b, a + 1);
-            match e {
-                Number::Is(end) => Run { low: a, end: end },
-                Number::Refused(_) => Run {
-                    low: 64 * n,
-                    end: 64 * n,
-                },
+            let c = slice::next_clear(words, b, a + 1);
+            match c {
+                Number::Is(e) => Run { low: a, end: e },
+                Number::Refused(_) => none,
             }
         }
-        Found::Nothing => Run {
-            low: 64 * n,
-            end: 64 * n,
-        },
-        Found::Refused(_) => Run {
-            low: 64 * n,
-            end: 64 * n,
-        },
+        Found::Nothing => none,
+        Found::Refused(_) => none,
     }
 }
 
