@@ -1,21 +1,24 @@
 -- Every text of the grammar is read, with its ranges. Assumes nothing.
-use mathlib.Core.Path.{_≡_, refl, sym, ap, _∙_}
+use mathlib.Core.Path.{_≡_, refl, sym, ap, _∙_, subst}
 use mathlib.Core.Logic.{⊎-elim, _⊎_, inl, inr}
 use mathlib.Core.Bool.{Bool, true, false, _&&_, _||_}
 use mathlib.Core.List.{List, [], _∷_, _++_, append-assoc}
-use Prim.Native.Nat.{ℕ, _+_, _≤_, _<_, min}
+use Prim.Native.Nat.{ℕ, _+_, _≤_, _<_, min, _-_}
 use native.Mathlib.Omega.{arith}
 use lib.Dec.{leb, eqb}
-use borrow.Author.Tests.{le-leb, lt-leb, leb-true, eqb-true}
+use borrow.Author.Tests.{le-leb, lt-leb, leb-true, eqb-true, eqb-false}
 use Rattle.word.proofs.Cases.{and-true}
 use Rattle.text.specs.Lists as g
-use Rattle.text.specs.Lists.{comma, joiner, limit, blank, digit, Range}
+use Rattle.text.specs.Lists.{comma, joiner, limit, blank, digit, Range, zeroDigit}
 use Rattle.text.specs.Readings.{kind, Number, Unread, Open, Closed, Part, part, fresh, value, unread, empty, ranged, token, byJoiner, step, Reading, reading, tokenEnds, after, next, reads, ranges, textEnds, parsed, parse}
 use Rattle.text.specs.declared.Kind.{Kind}
 use Rattle.text.specs.declared.Value.{Value}
 use Rattle.text.specs.declared.Value.the-variants.{Of, Missing}
 use Rattle.text.specs.declared.Token.the-variants.{Range as Ranging, NoRange}
-use Rattle.text.proofs.Steps.{kind-digit, kind-blank, kind-joiner, kind-comma, chosen, token-at}
+use Rattle.text.proofs.Steps.{kind-digit, kind-blank, kind-joiner, kind-comma, chosen, token-at, kind-other}
+use Rattle.text.specs.Lists as g
+use Rattle.text.specs.declared.Kind.the-variants.{Digit, Blank, Joiner, Comma, Other}
+use Rattle.text.specs.declared.Token.{Token}
 
 -- ---- what a byte is
 
@@ -35,6 +38,24 @@ blank-low c e =
 
 no-digit : (c : ℕ) → c < 48 → digit c ≡ false
 no-digit c h = ap (λ (t : Bool). t && leb c 57) (lt-leb 48 c h)
+
+-- the kinds, with what they say of the byte
+pub data Is (c : ℕ) : Kind → Type 0 where
+  isDigit : digit c ≡ true → Is c (Digit (c - zeroDigit))
+  isBlank : blank c ≡ true → Is c Blank
+  isJoiner : c ≡ joiner → Is c Joiner
+  isComma : c ≡ comma → Is c Comma
+  isOther : Is c Other
+
+pub kind-is : (c : ℕ) → Is c (kind c)
+kind-is c = go (digit c) refl (blank c) refl (eqb c joiner) refl (eqb c comma) refl
+  where
+    go : (a : Bool) → digit c ≡ a → (b : Bool) → blank c ≡ b → (j : Bool) → eqb c joiner ≡ j → (m : Bool) → eqb c comma ≡ m → Is c (kind c)
+    go true e b f j h m i = subst (Is c) (kind-digit c e) (isDigit e)
+    go false e true f j h m i = subst (Is c) (kind-blank c e f) (isBlank f)
+    go false e false f true h m i = subst (Is c) (kind-joiner c e f (eqb-true c joiner h)) (isJoiner (eqb-true c joiner h))
+    go false e false f false h true i = subst (Is c) (kind-comma c e f (eqb-false c joiner h) (eqb-true c comma i)) (isComma (eqb-true c comma i))
+    go false e false f false h false i = subst (Is c) (kind-other c e f (eqb-false c joiner h) (eqb-false c comma i)) isOther
 
 -- ---- reading on
 

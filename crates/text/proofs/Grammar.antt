@@ -5,41 +5,19 @@ use mathlib.Core.Bool.{Bool, true, false, false≢true, true≢false}
 use mathlib.Core.List.{List, [], _∷_, _++_, append-assoc, append-nil}
 use Prim.Native.Nat.{ℕ, _+_, _-_, _*_, _≤_, min}
 use native.Mathlib.Omega.{arith}
-use lib.Dec.{leb, eqb}
-use borrow.Author.Tests.{leb-true, eqb-true, eqb-false}
+use lib.Dec.{leb}
+use borrow.Author.Tests.{leb-true}
 use Rattle.word.specs.Sets.{choose}
 use Rattle.text.specs.Lists as g
 use Rattle.text.specs.Lists.{comma, joiner, zeroDigit, limit, blank, digit, Range, range}
 use Rattle.text.specs.Readings.{kind, grown, Number, Unread, Open, Closed, Part, part, fresh, value, unread, empty, ranged, token, Step, Go, Ends, Stop, byDigit, byBlank, byJoiner, step, Reading, bad, reading, tokenEnds, after, reads, notList, ranges, textEnds, parsed, parse}
 use Rattle.text.specs.declared.Kind.{Kind}
-use Rattle.text.specs.declared.Kind.the-variants.{Digit, Blank, Joiner, Comma, Other}
 use Rattle.text.specs.declared.Value.{Value}
 use Rattle.text.specs.declared.Value.the-variants.{Of, Missing}
 use Rattle.text.specs.declared.Token.{Token}
 use Rattle.text.specs.declared.Token.the-variants.{Range as Ranging, Empty, NoRange}
-use Rattle.text.proofs.Steps.{kind-digit, kind-blank, kind-joiner, kind-comma, kind-other}
 use Rattle.text.proofs.Tokens.{reads-bad, some}
-use Rattle.text.proofs.Accepts.{digit-low, next-at, complete}
-
--- ---- what a byte is
-
--- the kinds, with what they say of the byte
-data Is (c : ℕ) : Kind → Type 0 where
-  isDigit : digit c ≡ true → Is c (Digit (c - zeroDigit))
-  isBlank : blank c ≡ true → Is c Blank
-  isJoiner : c ≡ joiner → Is c Joiner
-  isComma : c ≡ comma → Is c Comma
-  isOther : Is c Other
-
-kind-is : (c : ℕ) → Is c (kind c)
-kind-is c = go (digit c) refl (blank c) refl (eqb c joiner) refl (eqb c comma) refl
-  where
-    go : (a : Bool) → digit c ≡ a → (b : Bool) → blank c ≡ b → (j : Bool) → eqb c joiner ≡ j → (m : Bool) → eqb c comma ≡ m → Is c (kind c)
-    go true e b f j h m i = subst (Is c) (kind-digit c e) (isDigit e)
-    go false e true f j h m i = subst (Is c) (kind-blank c e f) (isBlank f)
-    go false e false f true h m i = subst (Is c) (kind-joiner c e f (eqb-true c joiner h)) (isJoiner (eqb-true c joiner h))
-    go false e false f false h true i = subst (Is c) (kind-comma c e f (eqb-false c joiner h) (eqb-true c comma i)) (isComma (eqb-true c comma i))
-    go false e false f false h false i = subst (Is c) (kind-other c e f (eqb-false c joiner h) (eqb-false c comma i)) isOther
+use Rattle.text.proofs.Accepts.{digit-low, Is, isDigit, isBlank, isJoiner, isComma, isOther, kind-is, next-at, complete}
 
 -- ---- what is read
 

@@ -5,6 +5,7 @@ pub mod Taken
 pub mod Decimals
 pub mod Buffer
 pub mod Runs
+pub mod Pieces
 pub mod Printing
 pub mod Accepts
 pub mod Grammar

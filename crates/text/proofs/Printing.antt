@@ -1,194 +1,28 @@
 -- Measuring and printing a bitmap, run by run. Assumes nothing.
-use mathlib.Core.Path.{_≡_, refl, sym, ap, ap₂, _∙_, subst}
-use mathlib.Core.Bool.{Bool, true, false, false≢true}
+use mathlib.Core.Path.{_≡_, refl, sym, ap, ap₂, _∙_}
+use mathlib.Core.Bool.{Bool, true, false}
 use mathlib.Core.List.{List, [], _∷_, _++_, append-assoc, append-nil}
 use Prim.Native.Nat.{ℕ, zero, suc, _+_, _-_, _*_, _≤_, _<_}
 use native.Mathlib.Omega.{arith}
 use lib.Dec.{leb}
-use lib.ListN.{length, set, drop, length-append, length-set}
-use borrow.Author.Tests.{le-leb, lt-leb, eq-eqb, ne-eqb}
+use lib.ListN.{length, drop, length-append}
+use borrow.Author.Tests.{le-leb, lt-leb}
 use Rattle.word.specs.Sets.{choose}
-use Rattle.word.proofs.Cases.{by-lt, by-eq}
-use Rattle.storage.specs.Stores.{Bits, Bounded, checked, view, reading, nextFrom}
-use Rattle.storage.specs.Promises.{NextMember}
+use Rattle.storage.specs.Stores.{Bits, Bounded, checked, view}
 use Rattle.storage.specs.declared.Refusal.{Refusal}
 use Rattle.storage.specs.declared.Refusal.the-variants.{NoSpace}
 use Rattle.storage.specs.declared.Guard.the-variants.{Pass, Stop}
-use Rattle.storage.specs.declared.Found.{Found}
-use Rattle.storage.specs.declared.Found.the-variants.{At, Nothing}
 use Rattle.storage.specs.declared.Number.{Number}
 use Rattle.storage.specs.declared.Number.the-variants.{Is}
 use Rattle.storage.proofs.Checks.{Passed, reading-ok, reading-stopped}
-use Rattle.storage.proofs.Views.{view-count, bounded-view}
-use Rattle.storage.proofs.Promises.{next-member}
-use Rattle.slice.specs.Slices.{nextClear}
-use Rattle.slice.specs.Promises.{NextOther}
-use Rattle.slice.proofs.Promises.{next-other}
-use Rattle.text.specs.Lists.{comma, joiner, space, limit, Range, range}
-use Rattle.text.specs.Texts.{runs, decimal, printed, others, text, textOf, fitted, replaced, Prints}
+use Rattle.text.specs.Lists.{limit, Range, range}
+use Rattle.text.specs.Texts.{runs, printed, others, text, textOf, fitted, replaced, Prints}
 use Rattle.text.specs.Kernels.{NextRun, gap, putAt, Puts}
 use Rattle.text.specs.Promises.{Runs}
 use Rattle.text.specs.declared.Run.{Run}
-use Rattle.text.proofs.Decimals.{digits-most, digits-some}
-use Rattle.text.proofs.Buffer.{length-put, put-then, puts-none, puts-one, puts-then, puts-is, puts-long}
+use Rattle.text.proofs.Buffer.{length-put, put-then, puts-none}
 use Rattle.text.proofs.Runs.{runs-are, next-none, next-some}
-
--- ---- the next run, by two scans
-
-module _ (ws : List ℕ) (n i : ℕ) (p : Passed (length ws) n) where
-  abbrev b : Bits
-  b = view ws n
-
-  bound : Bounded b
-  bound = bounded-view ws n
-
-  -- the length is past every member
-  below : (j : ℕ) → b .members j ≡ true → j < 64 * n
-  below j e = by-lt j (64 * n) (λ h. h) (λ h. absurd (false≢true (sym (bound .past j (omega (arith, view-count ws n))) ∙ e)))
-
-  module _ (f : Found) (ef : f ≡ reading ws n Found.Refused (λ s. nextFrom s i)) where
-    member : NextMember (b .members) i f
-    member = subst (NextMember (b .members) i) (sym (ef ∙ reading-ok ws n Found.Refused (λ s. nextFrom s i) p)) (next-member b bound i)
-
-    at : (x : ℕ) → f ≡ At x → NextMember (b .members) i (At x)
-    at x e = subst (NextMember (b .members) i) e member
-
-    pub start-below : (x : ℕ) → f ≡ At x → x < 64 * n
-    start-below x e = below x (at x e .1)
-
-    pub run-none : i ≤ 64 * n → f ≡ Nothing → NextRun (b .members) (64 * n) i (record { low = 64 * n; end = 64 * n })
-    run-none h e =
-        let q : NextMember (b .members) i Nothing = subst (NextMember (b .members) i) e member in
-        record {
-          from = h;
-          order = omega arith;
-          within = omega arith;
-          before = λ j l k. q j l;
-          all = λ j l k. absurd (omega arith);
-          stops = λ l. absurd (omega arith);
-          none = λ e. refl;
-        }
-
-    pub found-never : (e : Refusal) → f ≡ Found.Refused e → ⊥
-    found-never e q = subst (NextMember (b .members) i) q member
-
-    module _ (x : ℕ) (ex : f ≡ At x) (m : Number) (em : m ≡ reading ws n Number.Refused (λ s. Number.Is (nextClear s (x + 1)))) where
-      clear : m ≡ Number.Is (nextClear b (x + 1))
-      clear = em ∙ reading-ok ws n Number.Refused (λ s. Number.Is (nextClear s (x + 1))) p
-
-      pub clear-never : (e : Refusal) → m ≡ Number.Refused e → ⊥
-      clear-never e q = let z : Number.Refused e ≡ Number.Is (nextClear b (x + 1)) = sym q ∙ clear in let y : _≡_ {A = ℕ} 0 1 = cc in omega arith
-
-      pub run-found : (end : ℕ) → m ≡ Number.Is end → NextRun (b .members) (64 * n) i (record { low = x; end = end })
-      run-found end q = record {
-        from = at x ex .0;
-        order = omega (arith, o .from);
-        within = by-lt (64 * n) end (λ l. absurd (omega (arith, below (end - 1) (all (end - 1) (omega (arith, o .from)) (omega (arith, o .from)))))) (λ l. l);
-        before = λ j l k. at x ex .2 j l k;
-        all = all;
-        stops = λ l. o .other;
-        none = λ e. absurd (omega (arith, o .from));
-      }
-        where
-          same : nextClear b (x + 1) ≡ end
-          same = let z : Number.Is (nextClear b (x + 1)) ≡ Number.Is end = sym clear ∙ q in cc
-
-          o : NextOther b (x + 1) end
-          o = subst (NextOther b (x + 1)) same (next-other b bound (x + 1))
-
-          all : (j : ℕ) → x ≤ j → j < end → b .members j ≡ true
-          all j l k = by-eq j x (λ e. ap (b .members) e ∙ at x ex .1) (λ e. o .between j (omega arith) k)
-
--- ---- the lengths
-
-pub gap-length : (at : ℕ) → length (gap at) ≤ 2
-gap-length zero = omega arith
-gap-length (suc at) = omega arith
-
-pub gap-none : (at : ℕ) → at ≡ 0 → 0 ≡ length (gap at)
-gap-none zero e = refl
-gap-none (suc at) e = absurd (omega arith)
-
-pub gap-two : (at : ℕ) → (at ≡ 0 → ⊥) → 2 ≡ length (gap at)
-gap-two zero e = absurd (e refl)
-gap-two (suc at) e = refl
-
-gap-full : (at : ℕ) → (at ≡ 0 → ⊥) → comma ∷ space ∷ [] ≡ gap at
-gap-full zero e = absurd (e refl)
-gap-full (suc at) e = refl
-
-pub puts-gap-none : (at : ℕ) (out : List ℕ) → at ≡ 0 → Puts at (gap at) 0 out out
-puts-gap-none zero out e = puts-none 0 out
-puts-gap-none (suc at) out e = absurd (omega arith)
-
-pub puts-gap-two : (at : ℕ) (out : List ℕ) → (at ≡ 0 → ⊥) → at + length (gap at) ≤ length out → Puts at (gap at) (at + 2) out (set (set out at comma) (at + 1) space)
-puts-gap-two at out e h =
-    let l : at + 2 ≤ length out = omega (arith, gap-two at e) in
-    puts-is at (at + 2) (comma ∷ space ∷ []) (gap at) out (set (set out at comma) (at + 1) space) (gap-full at e)
-    (puts-then at (at + 1) (at + 2) (comma ∷ []) (space ∷ []) out (set out at comma) (set (set out at comma) (at + 1) space) (omega arith)
-    (puts-one at comma out (omega arith))
-    (subst (λ (r : ℕ). Puts (at + 1) (space ∷ []) r (set out at comma) (set (set out at comma) (at + 1) space)) (omega arith)
-    (puts-one (at + 1) space (set out at comma) (omega (arith, length-set out at comma)))))
-
-pub printed-one : (a b : ℕ) → a ≡ b → printed (range a b) ≡ decimal a
-unfolding printed
-printed-one a b e = ap (λ (t : Bool). choose t (decimal a) (decimal a ++ joiner ∷ decimal b)) (eq-eqb a b e)
-
-pub printed-two : (a b : ℕ) → (a ≡ b → ⊥) → printed (range a b) ≡ decimal a ++ joiner ∷ decimal b
-unfolding printed
-printed-two a b e = ap (λ (t : Bool). choose t (decimal a) (decimal a ++ joiner ∷ decimal b)) (ne-eqb a b e)
-
-pub two-length : (a b : ℕ) → (a ≡ b → ⊥) → length (printed (range a b)) ≡ length (decimal a) + 1 + length (decimal b)
-two-length a b e = ap length (printed-two a b e) ∙ length-append (decimal a) (joiner ∷ decimal b) ∙ omega arith
-
-pub ten-digits : (a : ℕ) → a ≤ limit → length (decimal a) ≤ 10
-ten-digits a h = digits-most 9 a (omega arith)
-
-pub printed-length : (a b : ℕ) → a ≤ limit → b ≤ limit → (0 < length (printed (range a b))) × (length (printed (range a b)) ≤ 21)
-printed-length a b h l =
-    by-eq a b
-    (λ e. let q = ap length (printed-one a b e) in (omega (arith, q, digits-some a), omega (arith, q, ten-digits a h)))
-    (λ e. let q = two-length a b e in (omega (arith, q), omega (arith, q, ten-digits a h, ten-digits b l)))
-
--- ---- a run after what stands before it
-
-module _ (at a b : ℕ) (out : List ℕ) (h : at + (length (gap at) + length (printed (range a b))) ≤ length out) (start : ℕ) (o₁ : List ℕ) (p : Puts at (gap at) start out o₁) where
-  long₁ : length o₁ ≡ length out
-  long₁ = puts-long at start (gap at) out o₁ (omega arith) p
-
-  first-length : length (decimal a) ≤ length (printed (range a b))
-  first-length = by-eq a b (λ e. omega (arith, ap length (printed-one a b e))) (λ e. omega (arith, two-length a b e))
-
-  pub first-room : start + length (decimal a) ≤ length o₁
-  first-room = omega (arith, p .next, long₁, first-length)
-
-  module _ (next : ℕ) (o₂ : List ℕ) (q : Puts start (decimal a) next o₁ o₂) where
-    pub run-one : a ≡ b → Puts at (gap at ++ printed (range a b)) next out o₂
-    run-one e =
-        subst (λ (t : List ℕ). Puts at (gap at ++ t) next out o₂) (sym (printed-one a b e))
-        (puts-then at start next (gap at) (decimal a) out o₁ o₂ (omega (arith, first-length)) p q)
-
-    long₂ : length o₂ ≡ length out
-    long₂ = puts-long start next (decimal a) o₁ o₂ first-room q ∙ long₁
-
-    module _ (e : a ≡ b → ⊥) where
-      pub joiner-room : next < length o₂
-      joiner-room = omega (arith, q .next, p .next, long₂, two-length a b e)
-
-      pub last-room : next + 1 + length (decimal b) ≤ length (set o₂ next joiner)
-      last-room = omega (arith, q .next, p .next, long₂, two-length a b e, length-set o₂ next joiner)
-
-      module _ (r : ℕ) (o₃ : List ℕ) (s : Puts (next + 1) (decimal b) r (set o₂ next joiner) o₃) where
-        pub run-two : Puts at (gap at ++ printed (range a b)) r out o₃
-        run-two =
-            subst (λ (t : List ℕ). Puts at (gap at ++ t) r out o₃) (sym (printed-two a b e))
-            (puts-then at start r (gap at) (decimal a ++ joiner ∷ decimal b) out o₁ o₃
-            (omega (arith, length-append (decimal a) (joiner ∷ decimal b), two-length a b e)) p
-            (puts-then start next r (decimal a) (joiner ∷ decimal b) o₁ o₂ o₃ (omega (arith, p .next, long₁, two-length a b e)) q
-            (puts-then next (next + 1) r (joiner ∷ []) (decimal b) o₂ (set o₂ next joiner) o₃ (omega (arith, last-room, length-set o₂ next joiner)) (puts-one next joiner o₂ joiner-room) s)))
-
-        pub long₃ : length o₃ ≡ length out
-        long₃ = puts-long (next + 1) r (decimal b) (set o₂ next joiner) o₃ last-room s ∙ length-set o₂ next joiner ∙ long₂
+use Rattle.text.proofs.Pieces.{gap-length, printed-length}
 
 -- ---- what is left to print, where `at` bytes are printed
 

@@ -1,4 +1,4 @@
--- The maximal runs of a set: that they are found, that there are no others, and what they cover. Assumes nothing.
+-- The maximal runs of a set: that they are found, what they cover, and the next of them by two scans. Assumes nothing.
 use mathlib.Core.Path.{_≡_, refl, sym, ap, _∙_, subst}
 use mathlib.Core.Bool.{Bool, true, false, _&&_, _||_, false≢true}
 use mathlib.Core.List.{List, [], _∷_}
@@ -8,7 +8,7 @@ use lib.Dec.{leb}
 use borrow.Author.Tests.{le-leb, lt-leb}
 use Rattle.word.specs.Sets.{choose}
 use Rattle.word.proofs.Cases.{by-lt, by-eq, and-false}
-use Rattle.storage.specs.Stores.{Bits, Bounded}
+use Rattle.storage.specs.Stores.{Bits, Bounded, view, reading, nextFrom}
 use Rattle.text.specs.Lists.{Range, range, covers}
 use Rattle.text.specs.Texts.{runsFrom, runs}
 use Rattle.text.specs.Kernels.{NextRun}
@@ -16,6 +16,19 @@ use Rattle.text.specs.Promises.{Runs, none, more}
 use Rattle.text.specs.declared.Run.{Run}
 use Rattle.text.specs.declared.Value.the-variants.{Of, Missing}
 use Rattle.text.proofs.Marks.{between}
+use lib.ListN.{length}
+use Rattle.storage.specs.Promises.{NextMember}
+use Rattle.storage.specs.declared.Refusal.{Refusal}
+use Rattle.storage.specs.declared.Found.{Found}
+use Rattle.storage.specs.declared.Found.the-variants.{At, Nothing}
+use Rattle.storage.specs.declared.Number.{Number}
+use Rattle.storage.specs.declared.Number.the-variants.{Is}
+use Rattle.storage.proofs.Checks.{Passed, reading-ok}
+use Rattle.storage.proofs.Views.{view-count, bounded-view}
+use Rattle.storage.proofs.Promises.{next-member}
+use Rattle.slice.specs.Slices.{nextClear}
+use Rattle.slice.specs.Promises.{NextOther}
+use Rattle.slice.proofs.Promises.{next-other}
 
 -- ---- they are found
 
@@ -119,3 +132,69 @@ next-some s e i run (r ∷ rs) n h (more a b f m z x) =
 
     high : r .high ≡ run .end - 1
     high = omega (arith, end)
+
+-- ---- the next run, by two scans
+
+module _ (ws : List ℕ) (n i : ℕ) (p : Passed (length ws) n) where
+  abbrev b : Bits
+  b = view ws n
+
+  bound : Bounded b
+  bound = bounded-view ws n
+
+  -- the length is past every member
+  below : (j : ℕ) → b .members j ≡ true → j < 64 * n
+  below j e = by-lt j (64 * n) (λ h. h) (λ h. absurd (false≢true (sym (bound .past j (omega (arith, view-count ws n))) ∙ e)))
+
+  module _ (f : Found) (ef : f ≡ reading ws n Found.Refused (λ s. nextFrom s i)) where
+    member : NextMember (b .members) i f
+    member = subst (NextMember (b .members) i) (sym (ef ∙ reading-ok ws n Found.Refused (λ s. nextFrom s i) p)) (next-member b bound i)
+
+    at : (x : ℕ) → f ≡ At x → NextMember (b .members) i (At x)
+    at x e = subst (NextMember (b .members) i) e member
+
+    pub start-below : (x : ℕ) → f ≡ At x → x < 64 * n
+    start-below x e = below x (at x e .1)
+
+    pub run-none : i ≤ 64 * n → f ≡ Nothing → NextRun (b .members) (64 * n) i (record { low = 64 * n; end = 64 * n })
+    run-none h e =
+        let q : NextMember (b .members) i Nothing = subst (NextMember (b .members) i) e member in
+        record {
+          from = h;
+          order = omega arith;
+          within = omega arith;
+          before = λ j l k. q j l;
+          all = λ j l k. absurd (omega arith);
+          stops = λ l. absurd (omega arith);
+          none = λ e. refl;
+        }
+
+    pub found-never : (e : Refusal) → f ≡ Found.Refused e → ⊥
+    found-never e q = subst (NextMember (b .members) i) q member
+
+    module _ (x : ℕ) (ex : f ≡ At x) (m : Number) (em : m ≡ reading ws n Number.Refused (λ s. Number.Is (nextClear s (x + 1)))) where
+      clear : m ≡ Number.Is (nextClear b (x + 1))
+      clear = em ∙ reading-ok ws n Number.Refused (λ s. Number.Is (nextClear s (x + 1))) p
+
+      pub clear-never : (e : Refusal) → m ≡ Number.Refused e → ⊥
+      clear-never e q = let z : Number.Refused e ≡ Number.Is (nextClear b (x + 1)) = sym q ∙ clear in let y : _≡_ {A = ℕ} 0 1 = cc in omega arith
+
+      pub run-found : (end : ℕ) → m ≡ Number.Is end → NextRun (b .members) (64 * n) i (record { low = x; end = end })
+      run-found end q = record {
+        from = at x ex .0;
+        order = omega (arith, o .from);
+        within = by-lt (64 * n) end (λ l. absurd (omega (arith, below (end - 1) (all (end - 1) (omega (arith, o .from)) (omega (arith, o .from)))))) (λ l. l);
+        before = λ j l k. at x ex .2 j l k;
+        all = all;
+        stops = λ l. o .other;
+        none = λ e. absurd (omega (arith, o .from));
+      }
+        where
+          same : nextClear b (x + 1) ≡ end
+          same = let z : Number.Is (nextClear b (x + 1)) ≡ Number.Is end = sym clear ∙ q in cc
+
+          o : NextOther b (x + 1) end
+          o = subst (NextOther b (x + 1)) same (next-other b bound (x + 1))
+
+          all : (j : ℕ) → x ≤ j → j < end → b .members j ≡ true
+          all j l k = by-eq j x (λ e. ap (b .members) e ∙ at x ex .1) (λ e. o .between j (omega arith) k)

@@ -1,4 +1,4 @@
-use Rattle.text.proofs.Printing.{gap-none, gap-two}
+use Rattle.text.proofs.Pieces.{gap-none, gap-two}
 use Rattle.text.proofs.gap_len.Statement.{statement}
 use Rattle.text.proofs.gap_len.Tie as tie
 

@@ -1,6 +1,6 @@
 use native.Mathlib.Omega.{arith}
 use borrow.Author.Needs.{needs}
-use Rattle.text.proofs.Printing.{start-below, run-none, run-found, found-never, clear-never}
+use Rattle.text.proofs.Runs.{start-below, run-none, run-found, found-never, clear-never}
 use Rattle.text.proofs.next_run.Statement.{statement}
 use Rattle.text.proofs.next_run.Tie as tie
 

@@ -1,7 +1,7 @@
 use native.Mathlib.Omega.{arith}
 use lib.ListN.{length-set}
 use borrow.Author.Needs.{needs}
-use Rattle.text.proofs.Printing.{gap-two, puts-gap-none, puts-gap-two}
+use Rattle.text.proofs.Pieces.{gap-two, puts-gap-none, puts-gap-two}
 use Rattle.text.proofs.put_gap.Statement.{statement}
 use Rattle.text.proofs.put_gap.Tie as tie
 

@@ -1,6 +1,6 @@
 use native.Mathlib.Omega.{arith}
 use borrow.Author.Needs.{needs}
-use Rattle.text.proofs.Printing.{first-room, run-one, joiner-room, last-room, run-two, long₃}
+use Rattle.text.proofs.Pieces.{first-room, run-one, joiner-room, last-room, run-two, long₃}
 use Rattle.text.proofs.put_run.Statement.{statement}
 use Rattle.text.proofs.put_run.Tie as tie
 

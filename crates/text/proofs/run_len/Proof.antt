@@ -2,7 +2,7 @@ use mathlib.Core.Path.{sym, ap, _∙_}
 use native.Mathlib.Omega.{arith}
 use lib.ListN.{length}
 use borrow.Author.Needs.{needs}
-use Rattle.text.proofs.Printing.{printed-one, two-length, ten-digits}
+use Rattle.text.proofs.Pieces.{printed-one, two-length, ten-digits}
 use Rattle.text.proofs.run_len.Statement.{statement}
 use Rattle.text.proofs.run_len.Tie as tie
 
