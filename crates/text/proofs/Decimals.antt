@@ -12,6 +12,7 @@ use Rattle.word.specs.Sets.{choose}
 use Rattle.word.proofs.Cases.{by-lt}
 use Rattle.text.specs.Lists.{zeroDigit, digit, Digits, one, more}
 use Rattle.text.specs.Texts.{decimalFrom, decimal}
+use Rattle.text.proofs.Steps.{chosen, other}
 
 -- ---- they mean the number
 
@@ -38,12 +39,6 @@ pub decimal-digits : (n : ℕ) → Digits (decimal n) n
 decimal-digits n = digits-from n n (omega arith)
 
 -- ---- one digit, or one more than the number's tenth has
-
-chosen : {A : Type 0} {t : Bool} (a b : A) → t ≡ true → choose t a b ≡ a
-chosen a b e = ap (λ (x : Bool). choose x a b) e
-
-other : {A : Type 0} {t : Bool} (a b : A) → t ≡ false → choose t a b ≡ b
-other a b e = ap (λ (x : Bool). choose x a b) e
 
 fuel : (f k n : ℕ) → n ≤ f → n ≤ k → decimalFrom f n ≡ decimalFrom k n
 unfolding decimalFrom
