@@ -2,11 +2,10 @@
 use mathlib.Core.Path.{_≡_, refl, sym, ap, _∙_, subst, fun-ext}
 use mathlib.Core.Bool.{Bool, true, false, _&&_}
 use mathlib.Core.List.{List}
-use mathlib.Core.Logic.{inl, inr}
 use Prim.Native.Nat.{ℕ, _+_, _-_, _*_, _/_, _%_, _^_, _≤_, _<_, max}
 use native.Mathlib.Nat.{mod-lt}
 use native.Mathlib.Omega.{arith}
-use lib.ListN.{length, getD}
+use lib.ListN.{length}
 use lib.Bits.{bitAnd}
 use lib.Pow.{pow-pos}
 use lib.Dec.{leb, ltb, eqb}
@@ -18,14 +17,15 @@ use Rattle.word.proofs.Cases.{by-lt, by-eq}
 use Rattle.word.proofs.Bits.{bit-mod, bit-zero, pack-bit, no-bits}
 use Rattle.word.proofs.Sets.{least}
 use Rattle.word.proofs.Words.{least-bit}
-use Rattle.storage.specs.Stores.{Bits, Outcome, refused, done, Op, checked, view, within, inRegion, passes, zeroed, answer, store, Leaves, outcome, Changes}
+use Rattle.storage.specs.Stores.{Bits, Outcome, refused, done, view, within, inRegion, passes, zeroed, answer, store, outcome, Changes}
 use Rattle.storage.specs.declared.Bitmap.{Bitmap}
 use Rattle.storage.specs.declared.Refusal.the-variants.{WidthOver, IndexOver, NoSpace}
 use Rattle.storage.specs.declared.Change.{Change}
 use Rattle.storage.specs.declared.Change.the-variants.{Done, Refused}
 use Rattle.storage.proofs.Checks.{Passed, within-ok, within-no}
 use Rattle.storage.proofs.Views.{view-in}
-use Rattle.storage.proofs.Stores.{Stored, written-stored, outcome-ok, changes-done, changes-refused, length-zeroed, zeroed-out, grown-bit}
+use Rattle.storage.proofs.Stores.{Stored, written-stored, outcome-ok, changes-done, changes-refused, changes-same}
+use Rattle.storage.proofs.Grown.{grown-long, grown-kept, grown-at}
 use Rattle.slice.specs.Slices.{withField, fieldSetting}
 use Rattle.slice.proofs.Fields.{low-digits, setting-in}
 use Rattle.bitmap.specs.Bitmaps.{settingRegion, settingField}
@@ -108,12 +108,6 @@ module _ (i value width c : ℕ) (b : Bits) where
 
 -- ---- the call
 
--- two operations that come to the same on a store
-changes-same : (op other : Op) (ws ws' : List ℕ) (b : Bitmap) (r : Change) → op (length ws) (view ws (b .count)) ≡ other (length ws) (view ws (b .count))
-    → Changes other ws b r ws' → Changes op ws b r ws'
-unfolding outcome
-changes-same op other ws ws' b r e h = subst (λ (o : Outcome). Leaves (checked (length ws) (b .count) refused o) ws b r ws') (sym e) h
-
 -- a strict field that was done, by its words
 strict-done : (z ws' : List ℕ) (m i value width : ℕ) (r : Change) → Passed (length z) m → 0 < width → width ≤ 64 → i + width ≤ 64 * m
     → Changes (fieldSetting i value width) z (record { count = m }) r ws' → (r ≡ Done (record { count = m })) × Stored z m (withField i value width (view z m)) ws'
@@ -162,13 +156,13 @@ module _ (ws : List ℕ) (b : Bitmap) (i value width : ℕ) (p : Passed (length 
           (changes-done (settingField i value width) ws b ws' s m p
           (field-some i value width (length ws) (view ws (b .count)) d (omega (arith, d .pos)) ∙ within-ok (length ws) s (omega (arith, p .inside, word)))
           (record {
-            long = t .1 .long ∙ long;
+            long = t .1 .long ∙ grown-long ws z (b .count) (w + 1) ez;
             fits = λ k q. t .1 .fits k (omega (arith, word));
             used = λ k j q g.
                 t .1 .used k j (omega (arith, word)) g
-                ∙ ap (choose (inRegion i width (64 * k + j)) (bit value (64 * k + j - i))) (view-in z m k j (omega (arith, word)) g ∙ old k j (omega (arith, word)) g);
+                ∙ ap (choose (inRegion i width (64 * k + j)) (bit value (64 * k + j - i))) (view-in z m k j (omega (arith, word)) g ∙ grown-at ws z (b .count) (w + 1) ez k j (omega (arith, word)) g);
             dropped = λ k q g. absurd (omega (arith, word));
-            kept = λ k q g. t .1 .kept k (omega (arith, word)) (omega (arith, word)) ∙ ap (λ (y : List ℕ). getD y k 0) ez ∙ zeroed-out (b .count) (w + 1) ws k (inr (omega (arith, word)));
+            kept = λ k q g. t .1 .kept k (omega (arith, word)) (omega (arith, word)) ∙ grown-kept ws z (b .count) (w + 1) ez k (omega (arith, word));
           })
           (omega (arith, word)))
         where
@@ -178,15 +172,5 @@ module _ (ws : List ℕ) (b : Bitmap) (i value width : ℕ) (p : Passed (length 
           word : (i + width - 1) / 64 ≡ w
           word = omega (arith, d .pos)
 
-          long : length z ≡ length ws
-          long = ap length ez ∙ length-zeroed (b .count) (w + 1) ws
-
           t : (r ≡ Done (record { count = m })) × Stored z m (withField i value width (view z m)) ws'
-          t = strict-done z ws' m i value width r (record { short = omega (arith, long, p .short); inside = omega (arith, long, p .inside) }) (d .pos) (d .wide) (omega (arith, word)) l
-
-          old : (k j : ℕ) → k < m → j < 64 → bit (getD z k 0) j ≡ view ws (b .count) .members (64 * k + j)
-          old k j q g =
-              ap (λ (y : List ℕ). bit (getD y k 0) j) ez
-              ∙ by-lt k (b .count)
-              (λ a. grown-bit ws (b .count) (w + 1) k j (inl a) g)
-              (λ a. grown-bit ws (b .count) (w + 1) k j (inr (omega (arith, word))) g)
+          t = strict-done z ws' m i value width r (record { short = omega (arith, grown-long ws z (b .count) (w + 1) ez, p .short); inside = omega (arith, grown-long ws z (b .count) (w + 1) ez, p .inside) }) (d .pos) (d .wide) (omega (arith, word)) l

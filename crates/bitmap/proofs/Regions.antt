@@ -1,5 +1,5 @@
 -- A region of bits set or cleared. Assumes nothing.
-use mathlib.Core.Path.{_≡_, refl, sym, ap, ap₂, _∙_, subst}
+use mathlib.Core.Path.{_≡_, sym, ap, ap₂, _∙_, subst}
 use mathlib.Core.Bool.{Bool, true, false, _&&_}
 use mathlib.Core.List.{List, _++_}
 use mathlib.Core.Logic.{inl, inr}
@@ -21,8 +21,8 @@ use Rattle.storage.specs.declared.Bitmap.{Bitmap}
 use Rattle.storage.specs.declared.Refusal.the-variants.{IndexOver, NoSpace}
 use Rattle.storage.specs.declared.Change.the-variants.{Done, Refused}
 use Rattle.storage.proofs.Checks.{Passed, within-ok, within-no}
-use Rattle.storage.proofs.Views.{view-count, view-part, view-in}
-use Rattle.storage.proofs.Stores.{changes-done, changes-refused, part-changes, length-zeroed, zeroed-out, zeroed-fit, grown-bit}
+use Rattle.storage.proofs.Views.{view-count, view-part}
+use Rattle.storage.proofs.Stores.{changes-done, changes-refused, keeps-changes, part-changes, length-zeroed, zeroed-out, zeroed-fit, grown-bit}
 use Rattle.bitmap.specs.Bitmaps.{settingRegion}
 
 -- ---- the filled words
@@ -76,16 +76,7 @@ module _ (i k c : ℕ) (v : Bool) (b : Bits) where
 
 module _ (ws : List ℕ) (b : Bitmap) (i k : ℕ) (f : Fit ws) (p : Passed (length ws) (b .count)) where
   pub region-nothing : (v : Bool) → k ≡ 0 → Changes (settingRegion i v k) ws b (Done b) ws
-  region-nothing v e =
-      changes-done (settingRegion i v k) ws b ws (view ws (b .count)) (b .count) p (region-none i k (length ws) v (view ws (b .count)) e)
-      (record {
-        long = refl;
-        fits = λ m l. f m;
-        used = λ m j l q. sym (view-in ws (b .count) m j (omega (arith, view-count ws (b .count))) q);
-        dropped = λ m l q. absurd (omega (arith, view-count ws (b .count)));
-        kept = λ m l q. refl;
-      })
-      (sym (view-count ws (b .count)))
+  region-nothing v e = keeps-changes (settingRegion i v k) ws b f p (region-none i k (length ws) v (view ws (b .count)) e)
 
   pub region-index-over : (v : Bool) → (k ≡ 0 → ⊥) → 2 ^ 64 < i + k → Changes (settingRegion i v k) ws b (Refused IndexOver b) ws
   region-index-over v n h = changes-refused (settingRegion i v k) ws b IndexOver p (region-over i k (length ws) v (view ws (b .count)) n h)

@@ -20,6 +20,7 @@ use Rattle.arch.proofs.Regions.{length-filled-words, filled-in, filled-below, f
 use Rattle.storage.specs.Stores.{Bits, Bounded, Outcome, refused, done, Op, checked, view, beside, wordAt, written, zeroed, answer, store, Leaves, outcome, Changes}
 use Rattle.storage.specs.declared.Bitmap.{Bitmap}
 use Rattle.storage.specs.declared.Refusal.{Refusal}
+use Rattle.storage.specs.declared.Change.{Change}
 use Rattle.storage.specs.declared.Change.the-variants.{Done, Refused}
 use Rattle.storage.specs.declared.Guard.the-variants.{Pass, Stop}
 use Rattle.storage.proofs.Checks.{Passed, checked-ok, stopped, beside-stopped}
@@ -185,6 +186,12 @@ module _ (op : Op) (ws : List ℕ) (b : Bitmap) where
   pub changes-done : (ws' : List ℕ) (s : Bits) (m : ℕ) → Passed (length ws) (b .count) → op (length ws) (view ws (b .count)) ≡ done s
       → Stored ws (b .count) s ws' → m ≡ s .count → Changes op ws b (Done (record { count = m })) ws'
   changes-done ws' s m p q t e = leaves-done (outcome-ok p ∙ q) t e
+
+-- two operations that come to the same on a store
+pub changes-same : (op other : Op) (ws ws' : List ℕ) (b : Bitmap) (r : Change) → op (length ws) (view ws (b .count)) ≡ other (length ws) (view ws (b .count))
+    → Changes other ws b r ws' → Changes op ws b r ws'
+unfolding outcome
+changes-same op other ws ws' b r e h = subst (λ (o : Outcome). Leaves (checked (length ws) (b .count) refused o) ws b r ws') (sym e) h
 
 -- a call that changes nothing
 pub keeps-changes : (op : Op) (ws : List ℕ) (b : Bitmap) → Fit ws → Passed (length ws) (b .count) → op (length ws) (view ws (b .count)) ≡ done (view ws (b .count))
