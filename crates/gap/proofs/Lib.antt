@@ -1,0 +1,6 @@
+pub mod Tops
+pub mod Tails
+pub mod Opens
+pub mod Closes
+pub mod Calls
+pub mod Promises

@@ -1,0 +1,36 @@
+-- What `open` and `close` promise, for every number. Each is proved in proofs/Promises, of a bitmap with no member past its words.
+use Prim.Native.Nat.{ℕ, _+_, _*_, _^_, _≤_, _<_}
+use mathlib.Core.Path.{_≡_}
+use mathlib.Core.Bool.{true, false}
+use mathlib.Core.Logic.{_⊎_}
+use Rattle.storage.specs.Stores.{Bits, limit}
+
+-- the words in use hold every member, and no fewer words do
+pub record Trimmed (s : Bits) : Type 0 where
+  pub holds : (i : ℕ) → s .members i ≡ true → i < 64 * s .count
+  pub least : (n : ℕ) → ((i : ℕ) → s .members i ≡ true → i < 64 * n) → s .count ≤ n
+
+-- `open`: numbers below p stay, those from p on go k up, and the k places at p are empty; no member passes 2 ^ 64 - 1
+pub record Opens (p k : ℕ) (b s : Bits) : Type 0 where
+  pub below : (i : ℕ) → i < p → s .members i ≡ b .members i
+  pub empty : (i : ℕ) → p ≤ i → i < p + k → s .members i ≡ false
+  pub moved : (i : ℕ) → p ≤ i → s .members (i + k) ≡ b .members i
+  pub last : (i : ℕ) → p ≤ i → b .members i ≡ true → i + k < 2 ^ 64
+  pub count : Trimmed s
+
+-- 4 where a member from p on passes 2 ^ 64 - 1; 6 where none does, and a member has no word where it stays or goes
+abbrev pub NotOpened : ℕ → ℕ → ℕ → Bits → ℕ → Type 0
+NotOpened p k c b m =
+    ((m ≡ 4) × (i : ℕ) × (p ≤ i) × (b .members i ≡ true) × (2 ^ 64 ≤ i + k))
+    ⊎ ((m ≡ 6) × ((i : ℕ) → p ≤ i → b .members i ≡ true → i + k < 2 ^ 64)
+    × (i : ℕ) × (b .members i ≡ true) × (((i < p) × (64 * c ≤ i)) ⊎ ((p ≤ i) × (64 * c ≤ i + k))))
+
+-- `close`: numbers below p stay, those from p on, below p + k, go, and those behind them go k down
+pub record Closes (p k : ℕ) (b s : Bits) : Type 0 where
+  pub below : (i : ℕ) → i < p → s .members i ≡ b .members i
+  pub moved : (i : ℕ) → p ≤ i → s .members i ≡ b .members (i + k)
+  pub count : Trimmed s
+
+-- only a bitmap that no store has is refused
+abbrev pub NotClosed : ℕ → Bits → ℕ → Type 0
+NotClosed c b m = b .count ≤ c → c ≤ limit → ⊥
