@@ -1,11 +1,11 @@
 -- The maximal runs of a set: that they are found, what they cover, and the next of them by two scans. Assumes nothing.
 use mathlib.Core.Path.{_≡_, refl, sym, ap, _∙_, subst}
-use mathlib.Core.Bool.{Bool, true, false, _&&_, _||_, false≢true}
+use mathlib.Core.Bool.{Bool, true, false, not, _&&_, _||_, false≢true}
 use mathlib.Core.List.{List, [], _∷_}
-use Prim.Native.Nat.{ℕ, zero, suc, _+_, _-_, _*_, _≤_, _<_}
+use Prim.Native.Nat.{ℕ, zero, suc, _+_, _-_, _*_, _/_, _%_, _^_, _≤_, _<_}
 use native.Mathlib.Omega.{arith}
 use lib.Dec.{leb}
-use borrow.Author.Tests.{le-leb, lt-leb}
+use borrow.Author.Tests.{le-leb, lt-leb, eq-eqb}
 use Rattle.word.specs.Sets.{choose}
 use Rattle.word.proofs.Cases.{by-lt, by-eq, and-false}
 use Rattle.storage.specs.Stores.{Bits, Bounded, view, reading, nextFrom}
@@ -16,7 +16,8 @@ use Rattle.text.specs.Promises.{Runs, none, more}
 use Rattle.text.specs.declared.Run.{Run}
 use Rattle.text.specs.declared.Value.the-variants.{Of, Missing}
 use Rattle.text.proofs.Marks.{between}
-use lib.ListN.{length}
+use lib.Bits.{bitAnd}
+use lib.ListN.{length, getD}
 use Rattle.storage.specs.Promises.{NextMember}
 use Rattle.storage.specs.declared.Refusal.{Refusal}
 use Rattle.storage.specs.declared.Found.{Found}
@@ -29,6 +30,7 @@ use Rattle.storage.proofs.Promises.{next-member}
 use Rattle.slice.specs.Slices.{nextClear}
 use Rattle.slice.specs.Promises.{NextOther}
 use Rattle.slice.proofs.Promises.{next-other}
+use Rattle.slice.proofs.Fields.{bit-of}
 
 -- ---- they are found
 
@@ -172,6 +174,18 @@ module _ (ws : List ℕ) (n i : ℕ) (p : Passed (length ws) n) where
     pub found-never : (e : Refusal) → f ≡ Found.Refused e → ⊥
     found-never e q = subst (NextMember (b .members) i) q member
 
+    -- a run of one number
+    pub run-single : (x : ℕ) → f ≡ At x → b .members (x + 1) ≡ false → NextRun (b .members) (64 * n) i (record { low = x; end = x + 1 })
+    run-single x ex z = record {
+      from = at x ex .0;
+      order = omega arith;
+      within = omega (arith, start-below x ex);
+      before = λ j l k. at x ex .2 j l k;
+      all = λ j l k. let e : j ≡ x = omega arith in ap (b .members) e ∙ at x ex .1;
+      stops = λ l. z;
+      none = λ e. absurd (omega arith);
+    }
+
     module _ (x : ℕ) (ex : f ≡ At x) (m : Number) (em : m ≡ reading ws n Number.Refused (λ s. Number.Is (nextClear s (x + 1)))) where
       clear : m ≡ Number.Is (nextClear b (x + 1))
       clear = em ∙ reading-ok ws n Number.Refused (λ s. Number.Is (nextClear s (x + 1))) p
@@ -198,3 +212,7 @@ module _ (ws : List ℕ) (n i : ℕ) (p : Passed (length ws) n) where
 
           all : (j : ℕ) → x ≤ j → j < end → b .members j ≡ true
           all j l k = by-eq j x (λ e. ap (b .members) e ∙ at x ex .1) (λ e. o .between j (omega arith) k)
+
+-- a number whose bit is 0 is no member
+pub clear-bit : (ws : List ℕ) (n i : ℕ) → i / 64 < n → bitAnd (getD ws (i / 64) 0 / 2 ^ (i % 64)) 1 ≡ 0 → view ws n .members i ≡ false
+clear-bit ws n i h e = sym (bit-of ws n i h) ∙ ap not (eq-eqb (bitAnd (getD ws (i / 64) 0 / 2 ^ (i % 64)) 1) 0 e)

@@ -332,7 +332,14 @@ fn next_run(words: &[u64], b: Bitmap, i: usize) -> Run
     let f = slice::next_set(words, b, i);
     match f {
         Found::At(a) => {
-            let c = slice::next_clear(words, b, a + 1);
+            let next = a + 1;
+            // A run of one bit needs no second scan.
+            if next / 64 < b.count {
+                if (words[next / 64] >> (next % 64)) & 1 == 0 {
+                    return Run { low: a, end: next };
+                }
+            }
+            let c = slice::next_clear(words, b, next);
             match c {
                 Number::Is(e) => Run { low: a, end: e },
                 Number::Refused(_) => none,
