@@ -1,4 +1,6 @@
 // The list text of a bitmap: its runs upward, as `0-3, 5-7, 11`.
+//
+// Both calls measure first and write only what fits. Reading follows a token byte by byte; printing goes run by run.
 use storage::Bitmap;
 use storage::Change;
 use storage::Found;
@@ -12,7 +14,7 @@ ghost use lib.ListN.{length};
 ghost use Rattle.storage.specs.Stores.{Changes, view};
 ghost use Rattle.storage.specs.Stores as stores;
 ghost use Rattle.text.specs.Lists.{limit, digit, blank, plain, range};
-ghost use Rattle.text.specs.Readings.{kind, grown, value, token, empty, byDigit, byJoiner, step, readingList};
+ghost use Rattle.text.specs.Readings.{kind, grown, fresh, value, token, empty, byDigit, byJoiner, step, readingList};
 ghost use Rattle.text.specs.Texts.{decimal, printed, textOf, Prints};
 ghost use Rattle.text.specs.Kernels.{numberOf, leftOf, partOf, stepOf, Walked, NextRun, gap, putAt, Puts};
 
@@ -52,6 +54,7 @@ struct Part {
     pub value: usize,
 }
 
+// What a byte makes of a token.
 enum Step {
     Go(Part),
     Ends,
@@ -132,6 +135,18 @@ fn value_of(phase: usize, v: usize) -> Value
         Value::Of(v)
     } else {
         Value::Missing
+    }
+}
+
+// A token of which nothing is read.
+fn fresh() -> Part
+    ensures { λ r. ⌜ partOf r ≡ fresh ⌝ }
+{
+    Part {
+        split: 0,
+        left: 0,
+        phase: 0,
+        value: 0,
     }
 }
 
@@ -252,16 +267,10 @@ fn walk(words: &mut [u64], text: &[u8]) -> Measured
     let mut any = false;
     let mut at = 0;
     'tokens: loop {
-        let mut part = Part {
-            split: 0,
-            left: 0,
-            phase: 0,
-            value: 0,
-        };
+        let mut part = fresh();
         let mut more = false;
         'digits: while at < text.len() {
-            let k = kind_of(text[at]);
-            let s = step_by(part, k);
+            let s = step_by(part, kind_of(text[at]));
             at += 1;
             match s {
                 Step::Go(q) => part = q,
@@ -272,8 +281,7 @@ fn walk(words: &mut [u64], text: &[u8]) -> Measured
                 Step::Stop => break 'tokens,
             }
         }
-        let t = token_of(part);
-        match t {
+        match token_of(part) {
             Token::Range(a, b) => {
                 arch::fill_region(words, a, b + 1, true);
                 top = word::max(top, b);
@@ -426,6 +434,19 @@ fn put_number(out: &mut [u8], at: usize, x: usize) -> usize
     end
 }
 
+// Puts what stands between two runs, if one came before; the place after it.
+fn put_gap(out: &mut [u8], at: usize) -> usize
+    requires { ⌜ at + length (gap at) ≤ length (now out) ⌝ }
+    ensures { λ r. ⌜ Puts at (gap at) r (now (out .entry)) (now (out .exit)) ⌝ }
+{
+    if at == 0 {
+        return 0;
+    }
+    out[at] = COMMA;
+    out[at + 1] = SPACE;
+    at + 2
+}
+
 // Puts a run, after what stands before it; the place after it.
 fn put_run(out: &mut [u8], at: usize, a: usize, b: usize) -> usize
     requires { ⌜ (a ≤ limit) × (b ≤ limit) × (at + (length (gap at) + length (printed (range a b))) ≤ length (now out)) ⌝ }
@@ -438,19 +459,6 @@ fn put_run(out: &mut [u8], at: usize, a: usize, b: usize) -> usize
     }
     out[next] = JOINER;
     put_number(out, next + 1, b)
-}
-
-// Puts what stands between two runs, if one came before; the place after it.
-fn put_gap(out: &mut [u8], at: usize) -> usize
-    requires { ⌜ at + length (gap at) ≤ length (now out) ⌝ }
-    ensures { λ r. ⌜ Puts at (gap at) r (now (out .entry)) (now (out .exit)) ⌝ }
-{
-    if at == 0 {
-        return 0;
-    }
-    out[at] = COMMA;
-    out[at + 1] = SPACE;
-    at + 2
 }
 
 // Puts the text of a bitmap.

@@ -1,7 +1,7 @@
 use Rattle.text.specs.Kernels.{partOf, stepOf}
 use mathlib.Core.Logic.{⊎-elim}
 use borrow.Author.Tests.{not-true, not-false}
-use mathlib.Core.Path.{_≡_, refl, sym, ap, _∙_}
+use mathlib.Core.Path.{_≡_, refl, sym, ap, _∙_, subst}
 use Rattle.text.proofs.Steps.{token-limit}
 use mathlib.Core.Bool.{false}
 use mathlib.Core.List.{List, []}
@@ -29,7 +29,7 @@ abbrev μ-tokens : tie.MeasureT-tokens
 -- how the inner loop was left
 ended-is :
     (c : tie.Left-digits Inv-digits μ-digits Inv-tokens μ-tokens) →
-    Ended (c .before .before .before .before .before .args .text .now) (c .before .before .tokens .at) (partOf (c .before .digits .part)) (c .digits-test .at) (c .digits-test .more)
+    Ended (c .before .before .before .before .before .before .args .text .now) (c .before .before .before .tokens .at) (partOf (c .before .digits .part)) (c .digits-test .at) (c .digits-test .more)
 ended-is c =
     ⊎-elim
     (λ w. ended-left _ _ _ _ _ (c .before .digits .inv .0) (w .0 .left) (w .2 ∙ c .before .digits .inv .1) _)
@@ -39,8 +39,11 @@ ended-is c =
 tokens-holds : tie.Need-tokens-holds Inv-digits μ-digits Inv-tokens μ-tokens
 tokens-holds c = ([], going-start _ _ (λ k. omega (arith, c .before .slice-known .given k)))
 
+fresh-requires : tie.Need-fresh-requires Inv-digits μ-digits Inv-tokens μ-tokens
+fresh-requires c κs = tt
+
 digits-holds : tie.Need-digits-holds Inv-digits μ-digits Inv-tokens μ-tokens
-digits-holds c = (inside-start _ _ (c .tokens .inv .1 .within), refl)
+digits-holds c = (subst (Inside _ _ _) (sym (c .fresh .ensures)) (inside-start _ _ (c .before .tokens .inv .1 .within)), refl)
 
 shared-slice-read-kind-of :
     tie.Need-shared-slice-read-kind-of Inv-digits μ-digits Inv-tokens μ-tokens
@@ -73,11 +76,11 @@ enum-told-2 c = search needs
 token-of-requires : tie.Need-token-of-requires Inv-digits μ-digits Inv-tokens μ-tokens
 token-of-requires c κs = tt
 
-enum-known-t : tie.Need-enum-known-t Inv-digits μ-digits Inv-tokens μ-tokens
-enum-known-t c = search needs
+enum-known-a : tie.Need-enum-known-a Inv-digits μ-digits Inv-tokens μ-tokens
+enum-known-a c = search needs
 
 add-fill-region : tie.Need-add-fill-region Inv-digits μ-digits Inv-tokens μ-tokens
-add-fill-region c = omega (arith, token-limit _ _ _ (sym (c .before .before .before .before .token-of .ensures) ∙ c .before .before .t .given .1))
+add-fill-region c = omega (arith, token-limit _ _ _ (sym (c .before .before .before .before .token-of .ensures) ∙ c .before .before .a .given .1))
 
 fill-region-requires : tie.Need-fill-region-requires Inv-digits μ-digits Inv-tokens μ-tokens
 fill-region-requires c κs = tt
@@ -89,49 +92,49 @@ enum-told-3 : tie.Need-enum-told-3 Inv-digits μ-digits Inv-tokens μ-tokens
 enum-told-3 c = search needs
 
 same-length : tie.Need-same-length Inv-digits μ-digits Inv-tokens μ-tokens
-same-length c = going-length _ _ _ _ _ _ _ (c .before .before .before .before .before .before .before .tokens .inv .1)
+same-length c = going-length _ _ _ _ _ _ _ (c .before .before .before .before .before .before .before .before .tokens .inv .1)
 
 returns : tie.Need-returns Inv-digits μ-digits Inv-tokens μ-tokens
-returns c = empty-last _ _ _ _ _ _ _ (c .before .before .before .before .before .before .before .tokens .inv .1) _ _ _ (ended-is (c .before .before .before .before .before)) _ (c .before .before .before .before .token-of .ensures) (c .before .before .enum-told3 .given .1) (c .before .if1 .taken) (not-true _ (c .if2 .taken))
+returns c = empty-last _ _ _ _ _ _ _ (c .before .before .before .before .before .before .before .before .tokens .inv .1) _ _ _ (ended-is (c .before .before .before .before .before)) _ (c .before .before .before .before .token-of .ensures) (c .before .before .enum-told3 .given .1) (c .before .if1 .taken) (not-true _ (c .if2 .taken))
 
 enum-told-4 : tie.Need-enum-told-4 Inv-digits μ-digits Inv-tokens μ-tokens
 enum-told-4 c = search needs
 
 same-length-2 : tie.Need-same-length-2 Inv-digits μ-digits Inv-tokens μ-tokens
-same-length-2 c = more-length _ _ _ _ _ _ _ (c .before .before .before .before .before .before .before .before .before .before .before .before .tokens .inv .1) _ _ _ (ended-is (c .before .before .before .before .before .before .before .before .before .before)) _ (c .before .before .before .before .before .before .before .before .before .token-of .ensures) _ _ (c .before .before .before .before .before .before .before .t .given .1) _ (c .before .before .before .before .fill-region .ensures) _ (c .before .max .ensures)
+same-length-2 c = more-length _ _ _ _ _ _ _ (c .before .before .before .before .before .before .before .before .before .before .before .before .before .tokens .inv .1) _ _ _ (ended-is (c .before .before .before .before .before .before .before .before .before .before)) _ (c .before .before .before .before .before .before .before .before .before .token-of .ensures) _ _ (c .before .before .before .before .before .before .before .a .given .1) _ (c .before .before .before .before .fill-region .ensures) _ (c .before .max .ensures)
 
 returns-2 : tie.Need-returns-2 Inv-digits μ-digits Inv-tokens μ-tokens
-returns-2 c = range-last _ _ _ _ _ _ _ (c .before .before .before .before .before .before .before .before .before .before .before .before .tokens .inv .1) _ _ _ (ended-is (c .before .before .before .before .before .before .before .before .before .before)) _ (c .before .before .before .before .before .before .before .before .before .token-of .ensures) _ _ (c .before .before .before .before .before .before .before .t .given .1) _ (c .before .before .before .before .fill-region .ensures) _ (c .before .max .ensures) (not-true _ (c .if3 .taken))
+returns-2 c = range-last _ _ _ _ _ _ _ (c .before .before .before .before .before .before .before .before .before .before .before .before .before .tokens .inv .1) _ _ _ (ended-is (c .before .before .before .before .before .before .before .before .before .before)) _ (c .before .before .before .before .before .before .before .before .before .token-of .ensures) _ _ (c .before .before .before .before .before .before .before .a .given .1) _ (c .before .before .before .before .fill-region .ensures) _ (c .before .max .ensures) (not-true _ (c .if3 .taken))
 
 tokens-less : tie.Need-tokens-less Inv-digits μ-digits Inv-tokens μ-tokens
-tokens-less c = range-less _ _ _ _ _ _ _ (c .before .before .before .before .before .before .before .before .before .before .before .before .tokens .inv .1) _ _ _ (ended-is (c .before .before .before .before .before .before .before .before .before .before)) _ (c .before .before .before .before .before .before .before .before .before .token-of .ensures) _ _ (c .before .before .before .before .before .before .before .t .given .1) _ (c .before .before .before .before .fill-region .ensures) _ (c .before .max .ensures) (not-false _ (c .if3 .left))
+tokens-less c = range-less _ _ _ _ _ _ _ (c .before .before .before .before .before .before .before .before .before .before .before .before .before .tokens .inv .1) _ _ _ (ended-is (c .before .before .before .before .before .before .before .before .before .before)) _ (c .before .before .before .before .before .before .before .before .before .token-of .ensures) _ _ (c .before .before .before .before .before .before .before .a .given .1) _ (c .before .before .before .before .fill-region .ensures) _ (c .before .max .ensures) (not-false _ (c .if3 .left))
 
 tokens-again : tie.Need-tokens-again Inv-digits μ-digits Inv-tokens μ-tokens
-tokens-again c = (_, range-more _ _ _ _ _ _ _ (c .before .before .before .before .before .before .before .before .before .before .before .before .tokens .inv .1) _ _ _ (ended-is (c .before .before .before .before .before .before .before .before .before .before)) _ (c .before .before .before .before .before .before .before .before .before .token-of .ensures) _ _ (c .before .before .before .before .before .before .before .t .given .1) _ (c .before .before .before .before .fill-region .ensures) _ (c .before .max .ensures) (not-false _ (c .if3 .left)))
+tokens-again c = (_, range-more _ _ _ _ _ _ _ (c .before .before .before .before .before .before .before .before .before .before .before .before .before .tokens .inv .1) _ _ _ (ended-is (c .before .before .before .before .before .before .before .before .before .before)) _ (c .before .before .before .before .before .before .before .before .before .token-of .ensures) _ _ (c .before .before .before .before .before .before .before .a .given .1) _ (c .before .before .before .before .fill-region .ensures) _ (c .before .max .ensures) (not-false _ (c .if3 .left)))
 
 same-length-3 : tie.Need-same-length-3 Inv-digits μ-digits Inv-tokens μ-tokens
-same-length-3 c = going-length _ _ _ _ _ _ _ (c .before .before .before .before .before .before .before .tokens .inv .1)
+same-length-3 c = going-length _ _ _ _ _ _ _ (c .before .before .before .before .before .before .before .before .tokens .inv .1)
 
 returns-3 : tie.Need-returns-3 Inv-digits μ-digits Inv-tokens μ-tokens
-returns-3 c = stops _ _ _ _ _ _ _ (c .before .before .before .before .before .before .before .tokens .inv .1) (inside-stop _ _ _ _ _ _ (c .before .before .before .before .before .before .digits .inv .0) (c .before .before .before .before .before .digits-test .taken) (c .before .before .before .kind-of .ensures) (c .before .before .step-by .ensures) (ap stepOf (c .enum-told2 .given .1)) _)
+returns-3 c = stops _ _ _ _ _ _ _ (c .before .before .before .before .before .before .before .before .tokens .inv .1) (inside-stop _ _ _ _ _ _ (c .before .before .before .before .before .before .digits .inv .0) (c .before .before .before .before .before .digits-test .taken) (c .before .before .before .kind-of .ensures) (c .before .before .step-by .ensures) (ap stepOf (c .enum-told2 .given .1)) _)
 
 same-length-4 : tie.Need-same-length-4 Inv-digits μ-digits Inv-tokens μ-tokens
-same-length-4 c = going-length _ _ _ _ _ _ _ (c .before .before .before .before .before .before .before .tokens .inv .1)
+same-length-4 c = going-length _ _ _ _ _ _ _ (c .before .before .before .before .before .before .before .before .tokens .inv .1)
 
 returns-4 : tie.Need-returns-4 Inv-digits μ-digits Inv-tokens μ-tokens
-returns-4 c = empty-inner _ _ _ _ _ _ _ (c .before .before .before .before .before .before .before .tokens .inv .1) _ _ _ (ended-is (c .before .before .before .before .before)) _ (c .before .before .before .before .token-of .ensures) (c .before .before .enum-told3 .given .1) (not-false _ (c .if2 .left))
+returns-4 c = empty-inner _ _ _ _ _ _ _ (c .before .before .before .before .before .before .before .before .tokens .inv .1) _ _ _ (ended-is (c .before .before .before .before .before)) _ (c .before .before .before .before .token-of .ensures) (c .before .before .enum-told3 .given .1) (not-false _ (c .if2 .left))
 
 same-length-5 : tie.Need-same-length-5 Inv-digits μ-digits Inv-tokens μ-tokens
-same-length-5 c = going-length _ _ _ _ _ _ _ (c .before .before .before .before .before .before .tokens .inv .1)
+same-length-5 c = going-length _ _ _ _ _ _ _ (c .before .before .before .before .before .before .before .tokens .inv .1)
 
 returns-5 : tie.Need-returns-5 Inv-digits μ-digits Inv-tokens μ-tokens
-returns-5 c = empty-first _ _ _ _ _ _ _ (c .before .before .before .before .before .before .tokens .inv .1) _ _ _ (ended-is (c .before .before .before .before)) _ (c .before .before .before .token-of .ensures) (c .before .enum-told3 .given .1) (c .if1 .left)
+returns-5 c = empty-first _ _ _ _ _ _ _ (c .before .before .before .before .before .before .before .tokens .inv .1) _ _ _ (ended-is (c .before .before .before .before)) _ (c .before .before .before .token-of .ensures) (c .before .enum-told3 .given .1) (c .if1 .left)
 
 same-length-6 : tie.Need-same-length-6 Inv-digits μ-digits Inv-tokens μ-tokens
-same-length-6 c = going-length _ _ _ _ _ _ _ (c .before .before .before .before .before .tokens .inv .1)
+same-length-6 c = going-length _ _ _ _ _ _ _ (c .before .before .before .before .before .before .tokens .inv .1)
 
 returns-6 : tie.Need-returns-6 Inv-digits μ-digits Inv-tokens μ-tokens
-returns-6 c = none-at _ _ _ _ _ _ _ (c .before .before .before .before .before .tokens .inv .1) _ _ _ (ended-is (c .before .before .before)) _ (c .before .before .token-of .ensures) (c .enum-told4 .given .1)
+returns-6 c = none-at _ _ _ _ _ _ _ (c .before .before .before .before .before .before .tokens .inv .1) _ _ _ (ended-is (c .before .before .before)) _ (c .before .before .token-of .ensures) (c .enum-told4 .given .1)
 
 pub walk-spec : {M : Type 1} → statement M
 walk-spec =
@@ -142,6 +145,7 @@ walk-spec =
     Inv-tokens
     μ-tokens
     tokens-holds
+    fresh-requires
     digits-holds
     shared-slice-read-kind-of
     kind-of-requires
@@ -153,7 +157,7 @@ walk-spec =
     enum-told
     enum-told-2
     token-of-requires
-    enum-known-t
+    enum-known-a
     add-fill-region
     fill-region-requires
     max-requires
