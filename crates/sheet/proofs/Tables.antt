@@ -1,0 +1,84 @@
+-- The table of the source is the table of the definition.
+use Prim.Native.Nat.{ℕ, zero, suc, _≤_, _<_}
+use mathlib.Core.Path.{_≡_, refl, sym, ap, _∙_, subst}
+use mathlib.Core.Bool.{Bool, true, false}
+use mathlib.Core.List.{List, [], _∷_}
+use mathlib.Core.Option.{Option, none, some}
+use native.Mathlib.Omega.{arith}
+use native.Mathlib.Decide.{ℕ-discrete}
+use lib.ListN.{length, getD, getElem?}
+use lib.Dec.{leb}
+use borrow.Author.Tests.{le-leb, lt-leb}
+use Rattle.word.specs.Sets.{choose}
+use Rattle.sheet.specs.Kinds.{table, rowOf, sizeIn}
+use Rattle.sheet.specs.Kernels.{known}
+use Rattle.sheet.specs.declared.Kind.{Kind}
+use Rattle.sheet.specs.declared.Known.{Known}
+use Rattle.sheet.specs.declared.Known.the-variants.{Bytes, Newer}
+
+-- a fact of each number below a bound, from as many facts
+abbrev pub Below : (ℕ → Type 0) → ℕ → Type 0
+Below P zero = Unit {0}
+Below P (suc n) = Below P n × P n
+
+pub below-at : (P : ℕ → Type 0) (n k : ℕ) → Below P n → k < n → P k
+below-at P zero k a l = absurd (omega arith)
+below-at P (suc n) k a l = go (λ l′. below-at P n k (a .0) l′) (ℕ-discrete n k)
+  where
+    go : (k < n → P k) → Dec (n ≡ k) → P k
+    go ih (yes e) = subst P e (a .1)
+    go ih (no e) = ih (omega arith)
+
+pub past-end : {A : Type 0} (l : List A) (k : ℕ) → length l ≤ k → getElem? l k ≡ none
+past-end [] k h = refl
+past-end (a ∷ l) zero h = absurd (omega arith)
+past-end (a ∷ l) (suc k) h = past-end l k (omega arith)
+
+pub no-kind : (e k : ℕ) → k ≡ 0 → known (sizeIn e k) ≡ Newer
+unfolding sizeIn
+no-kind e k z = ap (λ (k : ℕ). known (sizeIn e k)) z
+
+pub past-kinds : (e k : ℕ) → 12 ≤ k → sizeIn e k ≡ none
+unfolding sizeIn
+past-kinds e zero l = absurd (omega arith)
+past-kinds e (suc k) l = rw (past-end table k (omega arith)) refl
+
+abbrev pub kind : ℕ → ℕ → Kind
+kind b s = record { bytes = b; since = s }
+
+-- the constant KINDS
+abbrev pub rows : List Kind
+rows =
+    kind 0 0 ∷ kind 4 1 ∷ kind 4 1 ∷ kind 9 1 ∷ kind 13 1 ∷ kind 5 1 ∷ kind 5 1 ∷ kind 5 1 ∷ kind 0 1 ∷ kind 8 2 ∷ kind 8 2 ∷ kind 8 2 ∷ []
+
+abbrev pub byRow : ℕ → Kind → Known
+byRow e r = choose (leb (r .since) e) (Bytes (r .bytes)) Newer
+
+abbrev Same : ℕ → ℕ → Type 0
+Same e k = byRow e (getD rows (suc k) (kind 0 0)) ≡ known (sizeIn e (suc k))
+
+each-kind : (e : ℕ) → Below (Same e) 11
+unfolding sizeIn
+each-kind e =
+    (((((((((((tt, first 4), first 4), first 9), first 13), first 5), first 5), first 5), first 0), second 8), second 8), second 8)
+  where
+    by-test : (t : Bool) (b : ℕ) → choose t (Bytes b) Newer ≡ known (choose t (some b) none)
+    by-test true b = refl
+    by-test false b = refl
+
+    first : (b : ℕ) → choose (leb 1 e) (Bytes b) Newer ≡ known (choose (leb 1 e) (some b) none)
+    first = by-test (leb 1 e)
+
+    second : (b : ℕ) → choose (leb 2 e) (Bytes b) Newer ≡ known (choose (leb 2 e) (some b) none)
+    second = by-test (leb 2 e)
+
+-- each kind of the source has the length and the first edition of the definition's table
+pub row-of : (e k : ℕ) → (k ≡ 0 → ⊥) → k < 12 → byRow e (getD rows k (kind 0 0)) ≡ known (sizeIn e k)
+row-of e zero n l = absurd (n refl)
+row-of e (suc k) n l = below-at (Same e) 11 k (each-kind e) (omega arith)
+
+pub row-newer : (e k : ℕ) → (k ≡ 0 → ⊥) → k < 12 → e < getD rows k (kind 0 0) .since → Newer ≡ known (sizeIn e k)
+row-newer e k n l h = sym (ap (λ (t : Bool). choose t (Bytes (getD rows k (kind 0 0) .bytes)) Newer) (lt-leb (getD rows k (kind 0 0) .since) e h)) ∙ row-of e k n l
+
+pub row-bytes : (e k : ℕ) → (k ≡ 0 → ⊥) → k < 12 → getD rows k (kind 0 0) .since ≤ e → Bytes (getD rows k (kind 0 0) .bytes) ≡ known (sizeIn e k)
+row-bytes e k n l h = sym (ap (λ (t : Bool). choose t (Bytes (getD rows k (kind 0 0) .bytes)) Newer) (le-leb (getD rows k (kind 0 0) .since) e h)) ∙ row-of e k n l

@@ -1,0 +1,6 @@
+pub mod Bytes
+pub mod Kinds
+pub mod Reader
+pub mod Reads
+pub mod Writer
+pub mod Kernels
