@@ -1,2 +1,4 @@
 pub mod Cases
 pub mod Tables
+pub mod Turns
+pub mod Exact

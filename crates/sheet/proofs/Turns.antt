@@ -1,0 +1,176 @@
+-- One record: what its turn says of it, for any edition, state and step.
+use Prim.Native.Nat.{ℕ, zero, suc, _+_, _-_, _≤_, _<_}
+use mathlib.Core.Path.{_≡_, refl, sym, ap, _∙_, subst}
+use mathlib.Core.Bool.{Bool, true, false, _&&_, false≢true}
+use mathlib.Core.List.{List, [], _∷_, _++_}
+use mathlib.Core.Logic.{_↔_, _⊎_, inl, inr}
+use mathlib.Core.Option.{Option, none, some}
+use native.Mathlib.Omega.{arith}
+use native.Mathlib.Decide.{decLe, ℕ-discrete}
+use native.Mathlib.Nat.{add-zero, add-suc, suc-add, zero-add}
+use lib.ListN.{length, getD}
+use lib.Dec.{leb, ltb, eqb}
+use borrow.Author.Tests.{lt-ltb, le-ltb, le-leb, lt-leb, eq-eqb, ne-eqb}
+use Rattle.word.specs.Sets.{choose}
+use Rattle.storage.specs.declared.Refusal.{Refusal}
+use Rattle.storage.specs.declared.Refusal.the-variants.{StoreTooLong, CountOverStore, WidthOver, IndexOver, PastLength, NoSpace, NotList, NotAscii, NotSheet, CutRecord, BytesRemain, BadPayload, NewerKind, NoEdition}
+use Rattle.sheet.specs.Reader.{Edition, Item, Answer, refused, done, Turn, stop, next, headed, countIn, endAt, itemAt, edit, stepped, edited, known, act, then, records, copied, read}
+use Rattle.sheet.specs.Meaning.{Header, start, Whole, item, listed, onward, sized, editOf, effect, Sound, edits, Reached, AtRecord, Newer, Bad, Full, Applies, Accepted, Means}
+
+pub none-some : {X : Type 0} {x : X} → _≡_ {A = Option X} none (some x) → ⊥
+none-some e = let z : _≡_ {A = ℕ} 0 1 = cc in omega arith
+
+pub some-inj : {X : Type 0} {x y : X} → _≡_ {A = Option X} (some x) (some y) → x ≡ y
+some-inj e = cc
+
+pub take-true : {X : Type 0} {t : Bool} (x y : X) → t ≡ true → choose t x y ≡ x
+take-true x y e = ap (λ (t : Bool). choose t x y) e
+
+pub take-false : {X : Type 0} {t : Bool} (x y : X) → t ≡ false → choose t x y ≡ y
+take-false x y e = ap (λ (t : Bool). choose t x y) e
+
+pub header? : (sheet : List ℕ) → Dec (Header sheet)
+header? sheet = go (decLe 4 (length sheet)) (ℕ-discrete (getD sheet 0 0) 78) (ℕ-discrete (getD sheet 1 0) 83)
+  where
+    go : Dec (4 ≤ length sheet) → Dec (getD sheet 0 0 ≡ 78) → Dec (getD sheet 1 0 ≡ 83) → Dec (Header sheet)
+    go (yes a) (yes b) (yes c) = yes (a, b, c)
+    go (yes a) (yes b) (no c) = no (λ h. c (h .2))
+    go (yes a) (no b) c = no (λ h. b (h .1))
+    go (no a) b c = no (λ h. a (h .0))
+
+pub headed-true : (sheet : List ℕ) → Header sheet → headed sheet ≡ true
+headed-true sheet h = rw (le-leb 4 (length sheet) (h .0), eq-eqb (getD sheet 0 0) 78 (h .1), eq-eqb (getD sheet 1 0) 83 (h .2)) refl
+
+pub headed-false : (sheet : List ℕ) → ¬ Header sheet → headed sheet ≡ false
+headed-false sheet h = go (decLe 4 (length sheet)) (ℕ-discrete (getD sheet 0 0) 78) (ℕ-discrete (getD sheet 1 0) 83)
+  where
+    none-of : (t : Bool) → (t && false) ≡ false
+    none-of true = refl
+    none-of false = refl
+    go : Dec (4 ≤ length sheet) → Dec (getD sheet 0 0 ≡ 78) → Dec (getD sheet 1 0 ≡ 83) → headed sheet ≡ false
+    go (yes a) (yes b) (yes c) = absurd (h (a, b, c))
+    go (yes a) (yes b) (no c) = rw (ne-eqb (getD sheet 1 0) 83 c, none-of (eqb (getD sheet 0 0) 78)) (none-of (leb 4 (length sheet)))
+    go (yes a) (no b) c = rw (ne-eqb (getD sheet 0 0) 78 b) (none-of (leb 4 (length sheet)))
+    go (no a) b c = rw (lt-leb 4 (length sheet) (omega arith)) refl
+
+module _ {A S : Type 0} (E : Edition A S) where
+  -- what a record does, as its edit's step
+  abbrev pub does : Option A → S → Option S
+  does none s = some s
+  does (some e) s = E .step e s
+
+  pub effect-append : (es : List A) (o : Option A) (s : S) → effect E (es ++ listed o) s ≡ onward (does o) (effect E es s)
+  unfolding effect
+  effect-append [] none s = refl
+  effect-append [] (some e) s = go (E .step e s)
+    where
+      go : (o : Option S) → onward (λ (s′ : S). some s′) o ≡ o
+      go none = refl
+      go (some x) = refl
+  effect-append (x ∷ es) o s = go (effect-append es o) (E .step x s)
+    where
+      go : ((s′ : S) → effect E (es ++ listed o) s′ ≡ onward (does o) (effect E es s′)) → (q : Option S) → onward (effect E (es ++ listed o)) q ≡ onward (does o) (onward (effect E es) q)
+      go ih none = refl
+      go ih (some s′) = ih s′
+
+  -- ---- one record
+
+  -- what a record's turn says of it
+  abbrev pub Did : S → Item → Turn S → Type 0
+  Did s r (next t) = (r .duty ≡ true → (e : A) × (editOf E r ≡ some e)) × (does (editOf E r) s ≡ some t)
+  Did s r (stop NoSpace) = (e : A) × (editOf E r ≡ some e) × (E .step e s ≡ none)
+  Did s r (stop BadPayload) = (r .duty ≡ true) × (n : ℕ) × (E .size (r .kind) ≡ some n) × (edit E r n ≡ none)
+  Did s r (stop NewerKind) = (r .duty ≡ true) × (E .size (r .kind) ≡ none)
+  Did s r (stop NotSheet) = ⊥
+  Did s r (stop CutRecord) = ⊥
+  Did s r (stop BytesRemain) = ⊥
+  Did s r (stop StoreTooLong) = ⊥
+  Did s r (stop CountOverStore) = ⊥
+  Did s r (stop WidthOver) = ⊥
+  Did s r (stop IndexOver) = ⊥
+  Did s r (stop PastLength) = ⊥
+  Did s r (stop NotList) = ⊥
+  Did s r (stop NotAscii) = ⊥
+  Did s r (stop NoEdition) = ⊥
+
+  module _ (r : Item) (s : S) where
+    edit-known : (d : r .duty ≡ true) (n : ℕ) → E .size (r .kind) ≡ some n → editOf E r ≡ edit E r n
+    edit-known d n p = take-true _ _ d ∙ ap (sized E r) p
+
+    did-step : (e : A) → editOf E r ≡ some e → (o : Option S) → E .step e s ≡ o → Did s r (stepped E o)
+    did-step e p none q = (e, p, q)
+    did-step e p (some t) q = ((λ _. (e, p)), ap (λ (o : Option A). does o s) p ∙ q)
+
+    did-edit : r .duty ≡ true → (n : ℕ) → E .size (r .kind) ≡ some n → (o : Option A) → edit E r n ≡ o → Did s r (edited E o s)
+    did-edit d n p none q = (d, n, p, q)
+    did-edit d n p (some e) q = did-step e (edit-known d n p ∙ q) (E .step e s) refl
+
+    did-known : r .duty ≡ true → (o : Option ℕ) → E .size (r .kind) ≡ o → Did s r (known E r o s)
+    did-known d none p = (d, p)
+    did-known d (some n) p = did-edit d n p (edit E r n) refl
+
+    did-duty : (d : Bool) → r .duty ≡ d → Did s r (choose d (known E r (E .size (r .kind)) s) (next s))
+    did-duty true d = did-known d (E .size (r .kind)) refl
+    did-duty false d = ((λ t. absurd (false≢true (sym d ∙ t))), ap (λ (o : Option A). does o s) (take-false _ _ d))
+
+    pub did : Did s r (act E r s)
+    unfolding act
+    did = did-duty (r .duty) refl
+
+    on-duty : r .duty ≡ true → act E r s ≡ known E r (E .size (r .kind)) s
+    unfolding act
+    on-duty d = take-true _ _ d
+
+    act-edit : (e : A) → editOf E r ≡ some e → act E r s ≡ stepped E (E .step e s)
+    act-edit e p = go (r .duty) refl
+      where
+        by-size : (o : Option ℕ) → sized E r o ≡ some e → known E r o s ≡ stepped E (E .step e s)
+        by-size none q = absurd (none-some q)
+        by-size (some n) q = ap (λ (o : Option A). edited E o s) q
+        go : (d : Bool) → r .duty ≡ d → act E r s ≡ stepped E (E .step e s)
+        go true d = on-duty d ∙ by-size (E .size (r .kind)) (sym (take-true _ _ d) ∙ p)
+        go false d = absurd (none-some (sym (take-false _ _ d) ∙ p))
+
+    act-remark : r .duty ≡ false → act E r s ≡ next s
+    unfolding act
+    act-remark d = take-false _ _ d
+
+    pub act-did : (o : Turn S) → Did s r o → act E r s ≡ o
+    act-did (next t) h = go (r .duty) refl
+      where
+        go : (d : Bool) → r .duty ≡ d → act E r s ≡ next t
+        go true d = let (e, p) = h .0 d in act-edit e p ∙ ap (stepped E) (sym (ap (λ (o : Option A). does o s) p) ∙ h .1)
+        go false d = act-remark d ∙ ap next (some-inj (sym (ap (λ (o : Option A). does o s) (take-false _ _ d)) ∙ h .1))
+    act-did (stop BadPayload) h = on-duty (h .0) ∙ ap (λ (o : Option ℕ). known E r o s) (h .2) ∙ ap (λ (o : Option A). edited E o s) (h .3)
+    act-did (stop NewerKind) h = on-duty (h .0) ∙ ap (λ (o : Option ℕ). known E r o s) (h .1)
+    act-did (stop NoSpace) h = act-edit (h .0) (h .1) ∙ ap (stepped E) (h .2)
+    act-did (stop NotSheet) h = absurd h
+    act-did (stop CutRecord) h = absurd h
+    act-did (stop BytesRemain) h = absurd h
+    act-did (stop StoreTooLong) h = absurd h
+    act-did (stop CountOverStore) h = absurd h
+    act-did (stop WidthOver) h = absurd h
+    act-did (stop IndexOver) h = absurd h
+    act-did (stop PastLength) h = absurd h
+    act-did (stop NotList) h = absurd h
+    act-did (stop NotAscii) h = absurd h
+    act-did (stop NoEdition) h = absurd h
+
+  -- ---- the records in order
+
+  module _ (sheet : List ℕ) where
+    pub record-whole : (n i at : ℕ) (s : S) → endAt sheet at ≤ length sheet → records E sheet (suc n) i at s ≡ then E (records E sheet n (suc i) (endAt sheet at)) (suc i) (act E (itemAt sheet at) s)
+    unfolding records
+    record-whole n i at s w = take-true _ _ (le-leb (endAt sheet at) (length sheet) w)
+
+    pub record-cut : (n i at : ℕ) (s : S) → ¬ (endAt sheet at ≤ length sheet) → records E sheet (suc n) i at s ≡ refused CutRecord (suc i)
+    unfolding records
+    record-cut n i at s w = take-false _ _ (lt-leb (endAt sheet at) (length sheet) (omega arith))
+
+    pub all-read : (i at : ℕ) (s : S) → at ≡ length sheet → records E sheet 0 i at s ≡ done i s
+    unfolding records
+    all-read i at s e = take-false _ _ (le-ltb at (length sheet) (omega arith))
+
+    pub bytes-left : (i at : ℕ) (s : S) → at < length sheet → records E sheet 0 i at s ≡ refused BytesRemain i
+    unfolding records
+    bytes-left i at s l = take-true _ _ (lt-ltb at (length sheet) l)
