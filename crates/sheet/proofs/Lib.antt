@@ -2,3 +2,4 @@ pub mod Cases
 pub mod Tables
 pub mod Turns
 pub mod Exact
+pub mod Editions
