@@ -4,4 +4,6 @@ pub mod Reader
 pub mod Reads
 pub mod Meaning
 pub mod Writer
+pub mod Plain
+pub mod Promises
 pub mod Kernels

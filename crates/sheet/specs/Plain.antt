@@ -1,0 +1,156 @@
+-- The plain sheet (01): it is fed sizes and what is asked, sees no buffer's bytes and is given no length. And lists of calls.
+use Prim.Native.Nat.{ℕ, _<_, _^_}
+use mathlib.Core.Path.{_≡_}
+use mathlib.Core.Bool.{Bool, true, false, _&&_, _||_}
+use mathlib.Core.List.{List, [], _∷_, _++_}
+use mathlib.Core.Option.{Option, none, some}
+use lib.ListN.{length, take}
+use lib.Dec.{leb, ltb, eqb}
+use Rattle.word.specs.Sets.{choose}
+use Rattle.storage.specs.declared.Refusal.{Refusal}
+use Rattle.storage.specs.declared.Refusal.the-variants.{WidthOver, IndexOver, NoSpace, NotSheet, BadPayload, NewerKind}
+use Rattle.sheet.specs.Bytes.{bytes}
+use Rattle.sheet.specs.Writer.{Request, duty, remark, requested, Entry, edit, note, Checked, bad, good, checkedOf, bytesOf, Starts, Adds}
+use Rattle.sheet.specs.declared.Edit.{Edit}
+use Rattle.sheet.specs.declared.Fields.{Fields}
+use Rattle.sheet.specs.declared.Added.{Added}
+use Rattle.sheet.specs.declared.Added.the-variants.{Done, Refused}
+
+-- none before an accepted start, then its records
+abbrev pub Plain : Type 0
+Plain = Option (List Entry)
+
+unfoldable pub body : List Entry → List ℕ
+body [] = []
+body (e ∷ es) = bytesOf e ++ body es
+
+-- its bytes: N, S, the record count in 16 bits, and the records as they are laid out
+unfoldable pub sheetOf : List Entry → List ℕ
+unfolding bytes body
+sheetOf es = 78 ∷ 83 ∷ bytes 2 (length es) ++ body es
+
+-- its edits are its duty records
+unfoldable pub editsIn : List Entry → List Edit
+editsIn [] = []
+editsIn (edit e ∷ es) = e ∷ editsIn es
+editsIn (note k p ∷ es) = editsIn es
+
+-- 13: a duty kind that is not 1 to 11, or a remark's over 127
+abbrev pub wrongKind : Request → Bool
+wrongKind (duty k f) = eqb k 0 || ltb 11 k
+wrongKind (remark k p) = ltb 127 k
+
+-- 3: a width over 64, in a duty record of kind 4
+abbrev pub wrongWidth : Request → Bool
+wrongWidth (duty k f) = eqb k 4 && ltb 64 (f .width)
+wrongWidth (remark k p) = false
+
+-- 4: a resize over 4,294,967,296 bits, in a duty record of kind 7
+abbrev pub wrongSize : Request → Bool
+wrongSize (duty k f) = eqb k 7 && ltb 4_294_967_296 (f .size)
+wrongSize (remark k p) = false
+
+-- 12: a remark's payload over 65,535 bytes
+abbrev pub wrongPayload : Request → Bool
+wrongPayload (duty k f) = false
+wrongPayload (remark k p) = ltb 65_535 (length p)
+
+-- 6: 65,535 records are held, or the bytes would pass the size
+abbrev pub noRoom : ℕ → List Entry → Entry → Bool
+noRoom size es e = leb 65_535 (length es) || ltb size (length (sheetOf (es ++ e ∷ [])))
+
+-- the first whose test holds
+unfoldable pub firstOf : List (Bool × Refusal) → Option Refusal
+firstOf [] = none
+firstOf ((t, e) ∷ rest) = choose t (some e) (firstOf rest)
+
+-- what is wrong with a request, whatever is held
+unfoldable pub refusalOf : Request → Option Refusal
+unfolding firstOf
+refusalOf q = firstOf ((wrongKind q, NewerKind) ∷ (wrongWidth q, WidthOver) ∷ (wrongSize q, IndexOver) ∷ (wrongPayload q, BadPayload) ∷ [])
+
+abbrev pub entryBy : Checked → Entry
+entryBy (bad e) = note 0 []
+entryBy (good e) = e
+
+-- the record that a good request asks for
+abbrev pub entryOf : Request → Entry
+entryOf q = entryBy (checkedOf q)
+
+-- its answer, and what it holds then
+pub record Answered : Type 0 where
+  pub answer : Added
+  pub plain : Plain
+
+abbrev pub refusing : Refusal → Plain → Answered
+refusing e p = record { answer = Refused e; plain = p }
+
+abbrev pub holding : ℕ → List Entry → Entry → Option Refusal → Answered
+holding size es e (some why) = refusing why (some es)
+holding size es e none =
+    choose (noRoom size es e) (refusing NoSpace (some es)) (record { answer = Done (length (sheetOf (es ++ e ∷ []))); plain = some (es ++ e ∷ []) })
+
+-- what is asked of the writer
+pub data Ask : Type 0 where
+  start : Ask
+  addition : Bool → ℕ → Fields → List ℕ → Ask
+
+-- the plain sheet's answer to a call on a buffer of a size
+unfoldable pub answered : ℕ → Ask → Plain → Answered
+unfolding sheetOf
+answered size start p = choose (ltb size 4) (refusing NoSpace p) (record { answer = Done 4; plain = some [] })
+answered size (addition d kind f payload) none = refusing NotSheet none
+answered size (addition d kind f payload) (some es) =
+    let q = requested d kind f payload in
+    holding size es (entryOf q) (refusalOf q)
+
+-- a call as it went: the buffer that it got, what was asked, what it answered, and the buffer that it left
+pub record Call : Type 0 where
+  pub buffer : List ℕ
+  pub ask : Ask
+  pub answer : Added
+  pub after : List ℕ
+
+-- the fields are in the ranges of their types
+abbrev pub Typed : Fields → Type 0
+Typed f = (f .p < 2 ^ 32) × (f .k < 2 ^ 32) × (f .value < 2 ^ 64)
+
+-- it met the contract of `start` or of `add`, which gets the last accepted length
+abbrev pub Went : ℕ → List ℕ → Ask → Added → List ℕ → Type 0
+Went len buf start r buf' = Starts buf r buf'
+Went len buf (addition d kind f payload) r buf' = Adds buf len d kind f payload r buf' × Typed f
+
+-- the last accepted length after an answer
+abbrev pub lengthAfter : ℕ → Added → ℕ
+lengthAfter len (Done n) = n
+lengthAfter len (Refused e) = len
+
+-- each call got the buffer as the last one left it, or another with the same bytes up to the last accepted length
+unfoldable pub InRow : List ℕ → ℕ → List Call → Type 0
+InRow buf len [] = Unit {0}
+InRow buf len (c ∷ cs) =
+    (take len (c .buffer) ≡ take len buf) × Went len (c .buffer) (c .ask) (c .answer) (c .after) × InRow (c .after) (lengthAfter len (c .answer)) cs
+
+-- what the calls answered, the last accepted length, and the buffer as the last call left it
+unfoldable pub answers : List Call → List Added
+answers [] = []
+answers (c ∷ cs) = c .answer ∷ answers cs
+
+unfoldable pub lastLength : ℕ → List Call → ℕ
+lastLength len [] = len
+lastLength len (c ∷ cs) = lastLength (lengthAfter len (c .answer)) cs
+
+unfoldable pub lastBuffer : List ℕ → List Call → List ℕ
+lastBuffer buf [] = buf
+lastBuffer buf (c ∷ cs) = lastBuffer (c .after) cs
+
+-- what the plain sheet answers, and what it holds at the end
+unfoldable pub plainAnswers : Plain → List Call → List Added
+unfolding answered
+plainAnswers p [] = []
+plainAnswers p (c ∷ cs) = let a = answered (length (c .buffer)) (c .ask) p in a .answer ∷ plainAnswers (a .plain) cs
+
+unfoldable pub lastPlain : Plain → List Call → Plain
+unfolding answered
+lastPlain p [] = p
+lastPlain p (c ∷ cs) = lastPlain (answered (length (c .buffer)) (c .ask) p .plain) cs
