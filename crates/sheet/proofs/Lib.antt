@@ -6,3 +6,4 @@ pub mod Editions
 pub mod Steps
 pub mod Readings
 pub mod Payloads
+pub mod Laid

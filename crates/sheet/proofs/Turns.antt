@@ -131,7 +131,7 @@ module _ {A S : Type 0} (E : Edition A S) where
         go true d = on-duty d ∙ by-size (E .size (r .kind)) (sym (take-true _ _ d) ∙ p)
         go false d = absurd (none-some (sym (take-false _ _ d) ∙ p))
 
-    act-remark : r .duty ≡ false → act E r s ≡ next s
+    pub act-remark : r .duty ≡ false → act E r s ≡ next s
     unfolding act
     act-remark d = take-false _ _ d
 
