@@ -7,3 +7,5 @@ pub mod Steps
 pub mod Readings
 pub mod Payloads
 pub mod Laid
+pub mod Requests
+pub mod Written

@@ -1,0 +1,189 @@
+-- What the writer leaves is the plain sheet, after one call and after every list of calls.
+use Prim.Native.Nat.{ℕ, zero, suc, _+_, _*_, _^_, _/_, _%_, _≤_, _<_}
+use mathlib.Core.Path.{_≡_, refl, sym, ap, ap₂, _∙_, subst}
+use mathlib.Core.Bool.{Bool, true, false, _||_}
+use mathlib.Core.List.{List, [], _∷_, _++_, append-assoc, append-nil}
+use mathlib.Core.Option.{Option, none, some}
+use native.Mathlib.Omega.{arith}
+use lib.ListN.{set as put, length, getD, take, drop, length-append, length-take}
+use lib.Seq.{sets, sets-eq, take-set-lt, getD-take, take-at, length-sets}
+use lib.Dec.{leb, ltb}
+use borrow.Author.Tests.{lt-ltb, le-ltb, lt-leb, le-leb}
+use Rattle.word.specs.Sets.{choose}
+use Rattle.word.proofs.Cases.{by-lt}
+use Rattle.storage.specs.declared.Refusal.{Refusal}
+use Rattle.storage.specs.declared.Refusal.the-variants.{CountOverStore, NoSpace, NotSheet}
+use Rattle.sheet.specs.Bytes.{bytes}
+use Rattle.sheet.specs.Reader.{countIn}
+use Rattle.sheet.specs.Writer.{Request, duty, remark, requested, Entry, Checked, bad, good, checkedOf, bytesOf, sheetFault, Left, refuse, started, placed, placedBy, judged, added, Writes}
+use Rattle.sheet.specs.Plain.{Plain, body, sheetOf, noRoom, refusalOf, entryOf, Answered, refusing, holding, Ask, start, addition, answered, Call, Typed, Went, lengthAfter, InRow, answers, lastLength, lastBuffer, plainAnswers, lastPlain}
+use Rattle.sheet.specs.declared.Fields.{Fields}
+use Rattle.sheet.specs.declared.Added.{Added}
+use Rattle.sheet.specs.declared.Added.the-variants.{Done, Refused}
+use Rattle.sheet.proofs.Turns.{take-true, take-false}
+use Rattle.sheet.proofs.Laid.{Proper, AllProper, two-bytes, no-fault}
+use Rattle.sheet.proofs.Requests.{verdict, same-checks, TypedQ, proper-entry}
+
+-- the buffer's front is the plain sheet
+abbrev pub Fronts : List ℕ → ℕ → Plain → Type 0
+Fronts buf len none = len ≡ 0
+Fronts buf len (some es) = (len ≡ length (sheetOf es)) × (take len buf ≡ sheetOf es) × (length es ≤ 65_535) × AllProper es
+
+-- a call's answer and buffer agree with the plain sheet's answer and records
+abbrev Agrees : ℕ → Left → Answered → Type 0
+Agrees len l a = (l .answer ≡ a .answer) × Fronts (l .buffer) (lengthAfter len (l .answer)) (a .plain)
+
+-- ---- a start
+
+begun : (buf : List ℕ) → 4 ≤ length buf → take 4 (sets buf 0 (78 ∷ 83 ∷ 0 ∷ 0 ∷ [])) ≡ 78 ∷ 83 ∷ 0 ∷ 0 ∷ []
+begun [] h = absurd (omega arith)
+begun (a ∷ []) h = absurd (omega arith)
+begun (a ∷ b ∷ []) h = absurd (omega arith)
+begun (a ∷ b ∷ c ∷ []) h = absurd (omega arith)
+begun (a ∷ b ∷ c ∷ d ∷ buf) h = refl
+
+agree-start : (buf : List ℕ) (len : ℕ) (p : Plain) → Fronts buf len p → Agrees len (started buf) (answered (length buf) start p)
+unfolding started answered
+agree-start buf len p h =
+    by-lt (length buf) 4
+    (λ l. subst (λ (t : Bool). Agrees len (choose t (refuse NoSpace buf) fresh) (choose t (refusing NoSpace p) empty)) (sym (lt-ltb (length buf) 4 l)) (refl, h))
+    (λ l. subst (λ (t : Bool). Agrees len (choose t (refuse NoSpace buf) fresh) (choose t (refusing NoSpace p) empty)) (sym (le-ltb (length buf) 4 l))
+    (refl, (refl, begun buf l, omega arith, tt)))
+  where
+    fresh : Left
+    fresh = record { answer = Done 4; buffer = sets buf 0 (78 ∷ 83 ∷ 0 ∷ 0 ∷ []) }
+    empty : Answered
+    empty = record { answer = Done 4; plain = some [] }
+
+-- ---- an addition
+
+body-snoc : (es : List Entry) (e : Entry) → body (es ++ e ∷ []) ≡ body es ++ bytesOf e
+unfolding body
+body-snoc [] e = append-nil (bytesOf e)
+body-snoc (x ∷ es) e = ap (λ (l : List ℕ). bytesOf x ++ l) (body-snoc es e) ∙ sym (append-assoc (bytesOf x) (body es) (bytesOf e))
+
+proper-snoc : (es : List Entry) (e : Entry) → AllProper es → Proper e → AllProper (es ++ e ∷ [])
+proper-snoc [] e h p = (p, tt)
+proper-snoc (x ∷ es) e h p = (h .0, proper-snoc es e (h .1) p)
+
+length-snoc : (es : List Entry) (e : Entry) → length (es ++ e ∷ []) ≡ length es + 1
+length-snoc es e = length-append es (e ∷ [])
+
+module _ (buf : List ℕ) (len : ℕ) (es : List Entry) (h : Fronts buf len (some es)) where
+  in-buffer : len ≤ length buf
+  in-buffer = omega (arith, h .0, rw length-take at (ap length (h .1)))
+
+  four : 4 ≤ len
+  unfolding sheetOf
+  four = let e = h .0 in omega arith
+
+  counted : countIn buf ≡ length es
+  unfolding sheetOf
+  counted =
+      let a : getD buf 2 0 ≡ getD (sheetOf es) 2 0 = sym (getD-take len buf 2 0 (omega (arith, four))) ∙ ap (λ (l : List ℕ). getD l 2 0) (h .1) in
+      let b : getD buf 3 0 ≡ getD (sheetOf es) 3 0 = sym (getD-take len buf 3 0 (omega (arith, four))) ∙ ap (λ (l : List ℕ). getD l 3 0) (h .1) in
+      ap₂ (λ (x y : ℕ). x * 256 + y) a b ∙ two-bytes (length es) (h .2)
+
+  longer : (e : Entry) → length (sheetOf (es ++ e ∷ [])) ≡ len + length (bytesOf e)
+  unfolding sheetOf
+  longer e = omega (arith, h .0, ap length (body-snoc es e), length-append (body es) (bytesOf e))
+
+  stored : (e : Entry) → len + length (bytesOf e) ≤ length buf → take (len + length (bytesOf e)) (sets (sets buf 2 (bytes 2 (countIn buf + 1))) len (bytesOf e)) ≡ sheetOf (es ++ e ∷ [])
+  unfolding sheetOf
+  stored e l =
+      ap (take (len + length (bytesOf e))) (sets-eq (bytesOf e) raised len (rw (length-sets buf 2 (bytes 2 (countIn buf + 1))) l))
+      ∙ take-at (take len raised ++ bytesOf e) (drop (len + length (bytesOf e)) raised) (len + length (bytesOf e)) size
+      ∙ ap (λ (f : List ℕ). f ++ bytesOf e) front
+      ∙ last
+    where
+      raised : List ℕ
+      raised = sets buf 2 (bytes 2 (countIn buf + 1))
+      front : take len raised ≡ put (put (sheetOf es) 2 ((countIn buf + 1) / 256 ^ 1 % 256)) 3 ((countIn buf + 1) / 256 ^ 0 % 256)
+      front =
+          take-set-lt len (put buf 2 ((countIn buf + 1) / 256 ^ 1 % 256)) 3 ((countIn buf + 1) / 256 ^ 0 % 256) (omega (arith, four))
+          ∙ ap (λ (f : List ℕ). put f 3 ((countIn buf + 1) / 256 ^ 0 % 256)) (take-set-lt len buf 2 ((countIn buf + 1) / 256 ^ 1 % 256) (omega (arith, four)) ∙ ap (λ (f : List ℕ). put f 2 ((countIn buf + 1) / 256 ^ 1 % 256)) (h .1))
+      size : length (take len raised ++ bytesOf e) ≡ len + length (bytesOf e)
+      size = rw (length-append (take len raised) (bytesOf e), front) (ap (λ (n : ℕ). n + length (bytesOf e)) (sym (h .0)))
+      last : (78 ∷ 83 ∷ (countIn buf + 1) / 256 ^ 1 % 256 ∷ (countIn buf + 1) / 256 ^ 0 % 256 ∷ body es) ++ bytesOf e ≡ sheetOf (es ++ e ∷ [])
+      last = rw (counted, ← (length-snoc es e), body-snoc es e)
+
+  -- a record that is refused by nothing but want of room
+  agree-room : (e : Entry) → Proper e → Agrees len (placed buf len e) (holding (length buf) es e none)
+  unfolding placed
+  agree-room e p =
+      subst (λ (t : Bool). Agrees len (choose (leb 65_535 (countIn buf) || ltb (length buf) (len + length (bytesOf e))) (refuse NoSpace buf) put-in) (choose t (refusing NoSpace (some es)) held))
+      same (go (leb 65_535 (countIn buf) || ltb (length buf) (len + length (bytesOf e))) refl)
+    where
+      put-in : Left
+      put-in = record { answer = Done (len + length (bytesOf e)); buffer = sets (sets buf 2 (bytes 2 (countIn buf + 1))) len (bytesOf e) }
+      held : Answered
+      held = record { answer = Done (length (sheetOf (es ++ e ∷ []))); plain = some (es ++ e ∷ []) }
+      same : (leb 65_535 (countIn buf) || ltb (length buf) (len + length (bytesOf e))) ≡ noRoom (length buf) es e
+      same = ap₂ (λ (a b : ℕ). leb 65_535 a || ltb (length buf) b) counted (sym (longer e))
+      no-more : (a b : Bool) → (a || b) ≡ false → (a ≡ false) × (b ≡ false)
+      no-more false b q = (refl, q)
+      no-more true b q = absurd (let z : _≡_ {A = ℕ} 0 1 = cc in omega arith)
+      go : (t : Bool) → (leb 65_535 (countIn buf) || ltb (length buf) (len + length (bytesOf e))) ≡ t → Agrees len (choose t (refuse NoSpace buf) put-in) (choose t (refusing NoSpace (some es)) held)
+      go true q = (refl, h)
+      go false q =
+          let (a, b) = no-more (leb 65_535 (countIn buf)) (ltb (length buf) (len + length (bytesOf e))) q in
+          let l₁ : countIn buf < 65_535 =
+              by-lt (countIn buf) 65_535 (λ l. l) (λ l. absurd (let z : true ≡ false = sym (le-leb 65_535 (countIn buf) l) ∙ a in let y : _≡_ {A = ℕ} 0 1 = cc in omega arith)) in
+          let l₂ : len + length (bytesOf e) ≤ length buf =
+              by-lt (length buf) (len + length (bytesOf e)) (λ l. absurd (let z : true ≡ false = sym (lt-ltb (length buf) (len + length (bytesOf e)) l) ∙ b in let y : _≡_ {A = ℕ} 0 1 = cc in omega arith)) (λ l. l) in
+          (ap Done (sym (longer e)), (sym (longer e), stored e l₂, omega (arith, counted, length-snoc es e), proper-snoc es e (h .3) p))
+
+  agree-checked : (q : Request) → TypedQ q → (o : Option Refusal) → refusalOf q ≡ o → Agrees len (placedBy buf len (verdict (checkedOf q) o)) (holding (length buf) es (entryOf q) o)
+  agree-checked q t (some e) r = (refl, h)
+  agree-checked q t none r = agree-room (entryOf q) (proper-entry q t r)
+
+  agree-addition : (q : Request) → TypedQ q → Agrees len (added buf len q) (holding (length buf) es (entryOf q) (refusalOf q))
+  unfolding added
+  agree-addition q t =
+      let e : added buf len q ≡ placedBy buf len (verdict (checkedOf q) (refusalOf q)) =
+          take-false _ _ (le-ltb (length buf) len in-buffer) ∙ ap (judged buf len q) (ap sheetFault (h .1) ∙ no-fault es (h .2) (h .3)) ∙ ap (placedBy buf len) (same-checks q) in
+      subst (λ (l : Left). Agrees len l (holding (length buf) es (entryOf q) (refusalOf q))) (sym e) (agree-checked q t (refusalOf q) refl)
+
+-- ---- lists
+
+-- what a call came to, by its contract
+abbrev leftBy : ℕ → List ℕ → Ask → Left
+leftBy len buf start = started buf
+leftBy len buf (addition d kind f payload) = added buf len (requested d kind f payload)
+
+typed : (d : Bool) (kind : ℕ) (f : Fields) (payload : List ℕ) → Typed f → TypedQ (requested d kind f payload)
+typed true kind f payload t = t
+typed false kind f payload t = tt
+
+no-start : (buf : List ℕ) (q : Request) → added buf 0 q ≡ refuse NotSheet buf
+unfolding added
+no-start buf q = take-false _ _ (le-ltb (length buf) 0 (omega arith))
+
+agree : (buf : List ℕ) (len : ℕ) (p : Plain) (a : Ask) (r : Added) (buf' : List ℕ) → Went len buf a r buf' → Fronts buf len p → Agrees len (leftBy len buf a) (answered (length buf) a p)
+unfolding answered
+agree buf len p start r buf' w h = agree-start buf len p h
+agree buf len none (addition d kind f payload) r buf' w h =
+    subst (λ (l : Left). Agrees len l (refusing NotSheet none)) (sym (ap (λ (n : ℕ). added buf n (requested d kind f payload)) h ∙ no-start buf (requested d kind f payload))) (refl, h)
+agree buf len (some es) (addition d kind f payload) r buf' w h = agree-addition buf len es h (requested d kind f payload) (typed d kind f payload (w .1))
+
+went-by : (len : ℕ) (buf : List ℕ) (a : Ask) (r : Added) (buf' : List ℕ) → Went len buf a r buf' → Writes (leftBy len buf a) r buf'
+went-by len buf start r buf' w = w
+went-by len buf (addition d kind f payload) r buf' w = w .0
+
+-- only the bytes up to the length are spoken of
+moved : (b b' : List ℕ) (len : ℕ) (p : Plain) → take len b' ≡ take len b → Fronts b len p → Fronts b' len p
+moved b b' len none e h = h
+moved b b' len (some es) e h = (h .0, e ∙ h .1, h .2, h .3)
+
+pub along : (cs : List Call) (buf : List ℕ) (len : ℕ) (p : Plain) → InRow buf len cs → Fronts buf len p
+    → (answers cs ≡ plainAnswers p cs) × Fronts (lastBuffer buf cs) (lastLength len cs) (lastPlain p cs)
+unfolding InRow answers plainAnswers lastBuffer lastLength lastPlain
+along [] buf len p a h = (refl, h)
+along (c ∷ cs) buf len p a h =
+    let w = went-by len (c .buffer) (c .ask) (c .answer) (c .after) (a .1) in
+    let g = agree (c .buffer) len p (c .ask) (c .answer) (c .after) (a .1) (moved buf (c .buffer) len p (a .0) h) in
+    let next : Fronts (c .after) (lengthAfter len (c .answer)) (answered (length (c .buffer)) (c .ask) p .plain) =
+        subst (λ (b : List ℕ). Fronts b (lengthAfter len (c .answer)) (answered (length (c .buffer)) (c .ask) p .plain)) (sym (w .leaves))
+        (subst (λ (r : Added). Fronts (leftBy len (c .buffer) (c .ask) .buffer) (lengthAfter len r) (answered (length (c .buffer)) (c .ask) p .plain)) (sym (w .answers)) (g .1)) in
+    let r = along cs (c .after) (lengthAfter len (c .answer)) (answered (length (c .buffer)) (c .ask) p .plain) (a .2) next in
+    (ap₂ (λ (x : Added) (xs : List Added). x ∷ xs) (w .answers ∙ g .0) (r .0), r .1)
