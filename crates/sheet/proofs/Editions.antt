@@ -23,6 +23,7 @@ module _ {A S : Type 0} (E F : Edition A S) (h : Holds E F) where
       on : length (r .payload) ≡ n → (o : Option A) → E .rule (r .kind) (r .payload) ≡ o → edited E o s ≡ edited F o s
       on l none q = refl
       on l (some e) q = ap (stepped E) (sym (h .step-kept (r .kind) n (r .payload) e p l q s))
+
       go : (b : Bool) → eqb (length (r .payload)) n ≡ b → edited E (choose b (E .rule (r .kind) (r .payload)) none) s ≡ edited F (choose b (F .rule (r .kind) (r .payload)) none) s
       go true e =
           let l : length (r .payload) ≡ n = eqb→eq _ _ (rw e tt) in
@@ -47,6 +48,7 @@ module _ {A S : Type 0} (E F : Edition A S) (h : Holds E F) where
         on : ((s′ : S) → SameOr (records E sheet n (suc i) (endAt sheet at) s′) (records F sheet n (suc i) (endAt sheet at) s′)) → (o : Turn S) → SameOr (then E (records E sheet n (suc i) (endAt sheet at)) (suc i) o) (then F (records F sheet n (suc i) (endAt sheet at)) (suc i) o)
         on ih (stop e) = inl refl
         on ih (next t) = ih t
+
         go : ((s′ : S) → SameOr (records E sheet n (suc i) (endAt sheet at) s′) (records F sheet n (suc i) (endAt sheet at) s′)) → (t : Bool) → (act E (itemAt sheet at) s ≡ act F (itemAt sheet at) s) ⊎ (act E (itemAt sheet at) s ≡ stop NewerKind)
             → SameOr (choose t (then E (records E sheet n (suc i) (endAt sheet at)) (suc i) (act E (itemAt sheet at) s)) (refused CutRecord (suc i))) (choose t (then F (records F sheet n (suc i) (endAt sheet at)) (suc i) (act F (itemAt sheet at) s)) (refused CutRecord (suc i)))
         go ih false p = inl refl

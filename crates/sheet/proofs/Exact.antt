@@ -21,9 +21,10 @@ module _ {A S : Type 0} (E : Edition A S) (sheet : List ℕ) where
 
   reaches-suc : (s₀ : S) (i : ℕ) (s t : S) → Reaches s₀ i s → Sound E sheet i → does E (editOf E (item sheet i)) s ≡ some t → Reaches s₀ (suc i) t
   unfolding edits
-  reaches-suc s₀ i s t h g e =
-      ((λ j l. go j l (decLe (suc j) i)),
-        effect-append E (edits E sheet i) (editOf E (item sheet i)) s₀ ∙ ap (onward (does E (editOf E (item sheet i)))) (h .1) ∙ e)
+  reaches-suc s₀ i s t h g e = (
+    (λ j l. go j l (decLe (suc j) i)),
+    effect-append E (edits E sheet i) (editOf E (item sheet i)) s₀ ∙ ap (onward (does E (editOf E (item sheet i)))) (h .1) ∙ e,
+  )
     where
       go : (j : ℕ) → j < suc i → Dec (j < i) → Sound E sheet j
       go j l (yes k) = h .0 j k
@@ -77,6 +78,7 @@ module _ {A S : Type 0} (E : Edition A S) (sheet : List ℕ) where
       where
         here : (P : S → ℕ → Type 0) → P s i → AtRecord E sheet old (suc i) P
         here P p = record { index = i; numbered = refl; within = omega arith; reached = reached i s h; here = p }
+
         on : Whole sheet i → ((t : S) → Reaches s₀ (suc i) t → Means E sheet old (records E sheet n (suc i) (start sheet (suc i)) t)) → (o : Turn S) → Did E s (item sheet i) o → Means E sheet old (then E (records E sheet n (suc i) (start sheet (suc i))) (suc i) o)
         on w k (next t) d = k t (reaches-suc s₀ i s t h (w, d .0) (d .1))
         on w k (stop NoSpace) d = inr (here (Full E sheet) (w, d .0, d .1, d .2))
@@ -93,6 +95,7 @@ module _ {A S : Type 0} (E : Edition A S) (sheet : List ℕ) where
         on w k (stop NotList) d = absurd d
         on w k (stop NotAscii) d = absurd d
         on w k (stop NoEdition) d = absurd d
+
         go : Dec (Whole sheet i) → ((t : S) → Reaches s₀ (suc i) t → Means E sheet old (records E sheet n (suc i) (start sheet (suc i)) t)) → Means E sheet old (records E sheet (suc n) i (start sheet i) s)
         go (yes w) k =
             subst (Means E sheet old) (sym (turned n i s w (act E (item sheet i) s) (did E (item sheet i) s))) (on w k (act E (item sheet i) s) (did E (item sheet i) s))

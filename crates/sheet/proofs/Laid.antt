@@ -57,7 +57,7 @@ module _ (pre : List ℕ) (first : ℕ) (p rest : List ℕ) (short : length p �
   laid-item =
       let a : getD placed (length pre) 0 ≡ first = getD-append-seam pre first (bytes 2 (length p) ++ p ++ rest) 0 in
       let b : take (sizeAt placed (length pre)) (drop (length pre + 3) placed) ≡ p =
-          ap₂ (λ (n : ℕ) (l : List ℕ). take n l) laid-size (drop-append-add pre (laid first p ++ rest) 3) ∙ take-append-seam p rest in
+      ap₂ (λ (n : ℕ) (l : List ℕ). take n l) laid-size (drop-append-add pre (laid first p ++ rest) 3) ∙ take-append-seam p rest in
       λ i. record { duty = leb 128 (a i); kind = a i % 128; payload = b i }
 
   laid-end : endAt placed (length pre) ≡ length (pre ++ laid first p)
@@ -135,7 +135,7 @@ module _ (c n : ℕ) where
   act-edit e s h g =
       ap (λ (o : Option ℕ). known (editionOf c n) (itemOf (edit e)) o s) g
       ∙ ap (λ (o : Option Edit). edited (editionOf c n) o s)
-          (take-true _ _ (eq-eqb (length (payloadOf e)) (length (payloadOf e)) refl) ∙ read-back e h)
+      (take-true _ _ (eq-eqb (length (payloadOf e)) (length (payloadOf e)) refl) ∙ read-back e h)
 
   -- the record in its place takes its turn, and the others follow
   record-of : (pre : List ℕ) (x : Entry) (es : List Entry) (m i : ℕ) (s : Bits) → Proper x
@@ -144,9 +144,9 @@ module _ (c n : ℕ) where
   record-of pre x es m i s h =
       record-whole (editionOf c n) (pre ++ (bytesOf x ++ body es)) m i (length pre) s (whole-of pre (body es) x h)
       ∙ ap₂ (λ (l : List ℕ) (at : ℕ). then (editionOf c n) (records (editionOf c n) l m (suc i) at) (suc i) (act (editionOf c n) (itemAt (pre ++ (bytesOf x ++ body es)) (length pre)) s))
-          (sym (append-assoc pre (bytesOf x) (body es))) (end-of pre (body es) x h)
+      (sym (append-assoc pre (bytesOf x) (body es))) (end-of pre (body es) x h)
       ∙ ap (λ (r : Item). then (editionOf c n) (records (editionOf c n) ((pre ++ bytesOf x) ++ body es) m (suc i) (length (pre ++ bytesOf x))) (suc i) (act (editionOf c n) r s))
-          (item-of pre (body es) x h)
+      (item-of pre (body es) x h)
 
   records-body : (pre : List ℕ) (es : List Entry) (i : ℕ) (s t : Bits) → AllProper es → InEdition n es → effect (editionOf c n) (editsIn es) s ≡ some t
       → records (editionOf c n) (pre ++ body es) (length es) i (length pre) s ≡ done (i + length es) t
@@ -161,6 +161,7 @@ module _ (c n : ℕ) where
     where
       next : List ℕ
       next = pre ++ bytesOf (edit x)
+
       go : ((s′ : Bits) → effect (editionOf c n) (editsIn es) s′ ≡ some t → records (editionOf c n) (next ++ body es) (length es) (suc i) (length next) s′ ≡ done (suc i + length es) t)
           → (o : Option Bits) → onward (effect (editionOf c n) (editsIn es)) o ≡ some t
           → then (editionOf c n) (records (editionOf c n) (next ++ body es) (length es) (suc i) (length next)) (suc i) (stepped (editionOf c n) o) ≡ done (i + suc (length es)) t
@@ -169,7 +170,7 @@ module _ (c n : ℕ) where
   records-body pre (note k p ∷ es) i s t h g e =
       record-of pre (note k p) es (length es) i s (h .0)
       ∙ ap (then (editionOf c n) (records (editionOf c n) ((pre ++ bytesOf (note k p)) ++ body es) (length es) (suc i) (length (pre ++ bytesOf (note k p)))) (suc i))
-          (act-remark (editionOf c n) (itemOf (note k p)) s refl)
+      (act-remark (editionOf c n) (itemOf (note k p)) s refl)
       ∙ records-body (pre ++ bytesOf (note k p)) es (suc i) s t (h .1) g e
       ∙ ap (λ (m : ℕ). done m t) (suc-add i (length es) ∙ sym (add-suc i (length es)))
 

@@ -9,3 +9,4 @@ pub mod Payloads
 pub mod Laid
 pub mod Requests
 pub mod Written
+pub mod Writings

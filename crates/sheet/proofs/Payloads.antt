@@ -181,9 +181,19 @@ Fine k = (sizeIn 2 (suc k) ≡ some (bytesBy (rowOf (suc k)))) × (bytesBy (rowO
 
 each-fine : Below Fine 11
 unfolding sizeIn rowOf
-each-fine =
-    (((((((((((tt, (refl, omega arith)), (refl, omega arith)), (refl, omega arith)), (refl, omega arith)), (refl, omega arith)), (refl, omega arith)), (refl, omega arith)),
-      (refl, omega arith)), (refl, omega arith)), (refl, omega arith)), (refl, omega arith))
+each-fine = (
+  (
+    (
+      (
+        (((((((tt, (refl, omega arith)), (refl, omega arith)), (refl, omega arith)), (refl, omega arith)), (refl, omega arith)), (refl, omega arith)), (refl, omega arith)),
+        (refl, omega arith),
+      ),
+      (refl, omega arith),
+    ),
+    (refl, omega arith),
+  ),
+  (refl, omega arith),
+)
 
 fine : (k : ℕ) → 1 ≤ k → k ≤ 11 → (sizeIn 2 k ≡ some (bytesBy (rowOf k))) × (bytesBy (rowOf k) ≤ 13)
 fine zero l h = absurd (omega arith)

@@ -82,13 +82,13 @@ module _ (n : ℕ) (ws : List ℕ) (m c : ℕ) where
     abbrev reading : Answer Bits
     reading = read (editionOf c n) sheet (fitting c (view ws m))
 
-    course-passes : Passes n ws m c → course n sheet ws m c ≡ went reading
+    pub course-passes : Passes n ws m c → course n sheet ws m c ≡ went reading
     unfolding course
     course-passes p =
         take-true _ _ (edition-true n (p .edition)) ∙ checked-ok (length ws) m stopped _ (p .short) (p .inside)
         ∙ checked-ok c 0 stopped (went reading) (p .result) (omega arith)
 
-    course-stops : (e : Refusal) → Stops n ws m c e → course n sheet ws m c ≡ stopped e
+    pub course-stops : (e : Refusal) → Stops n ws m c e → course n sheet ws m c ≡ stopped e
     unfolding course
     course-stops e (no-edition h q) = take-false _ _ (edition-false n h) ∙ ap stopped (sym q)
     course-stops e (long h l q) = take-true _ _ (edition-true n h) ∙ checked-long (length ws) m stopped _ l ∙ ap stopped (sym q)
@@ -138,6 +138,7 @@ module _ (n : ℕ) (sheet ws : List ℕ) (m : ℕ) (res : List ℕ) (r : Reading
           let g : k ≡ 0 = cc in
           inl (subst (Stops n ws m c) f s, g)
       to (inr p) q = inr (p, exact (editionOf c n) sheet (fitting c (view ws m)) (refused e k) .0 (from-refused answer e k (sym (passed p) ∙ q)))
+
       back : Gets n sheet ws m c e k → r ≡ Refused e k
       back (inl (s, z)) = halted e s ∙ ap (Refused e) (sym z)
       back (inr (p, a)) = passed p ∙ ap (λ (x : Answer Bits). readAnswer (went x)) (exact (editionOf c n) sheet (fitting c (view ws m)) (refused e k) .1 a)
@@ -181,6 +182,7 @@ module _ (n : ℕ) (sheet ws : List ℕ) (m : ℕ) (res : List ℕ) (r : Reading
       never (long g l q) = let z : _≡_ {A = ℕ} 0 1 = cc in omega arith
       never (over g l k q) = let z : _≡_ {A = ℕ} 0 1 = cc in omega arith
       never (result-long g l k t q) = let z : _≡_ {A = ℕ} 0 1 = cc in omega arith
+
       to : Gets n sheet ws m c NewerKind k → Passes n ws m c × AtRecord (editionOf c n) sheet (fitting c (view ws m)) k (Newer (editionOf c n) sheet)
       to (inl (s, z)) = absurd (never s)
       to (inr p) = p
@@ -244,31 +246,40 @@ keeps-meaning e f ge gf l sheet ws m res₁ res₂ size words r₁ r₂ res₁' 
   where
     c : ℕ
     c = length res₁
+
     later : Passes e ws m c → Passes f ws m (length res₂)
     later p = record { edition = gf; short = p .short; inside = p .inside; result = subst (λ (x : ℕ). x ≤ limit) size (p .result) }
+
     also : (x : Refusal) → Stops e ws m c x → Stops f ws m (length res₂) x
     also x (no-edition g q) = absurd (g ge)
     also x (long g u q) = long gf u q
     also x (over g u v q) = over gf u v q
     also x (result-long g u v w q) = result-long gf u v (subst (λ (y : ℕ). limit < y) size w) q
+
     go : ((x : Refusal) × Stops e ws m c x) ⊎ Passes e ws m c → ((r₁ ≡ r₂) × (res₁' ≡ res₂')) ⊎ ((k : ℕ) × (r₁ ≡ Refused NewerKind k))
     go (inl (x, s)) =
         let t = also x s in
-        inl (h₁ .answers ∙ ap readAnswer (course-stops e ws m c sheet x s ∙ sym (course-stops f ws m (length res₂) sheet x t)) ∙ sym (h₂ .answers),
+        inl (
+          h₁ .answers ∙ ap readAnswer (course-stops e ws m c sheet x s ∙ sym (course-stops f ws m (length res₂) sheet x t)) ∙ sym (h₂ .answers),
           h₁ .leaves ∙ ap (λ (y : Course). readStore y res₁) (course-stops e ws m c sheet x s) ∙ words x s
-          ∙ sym (h₂ .leaves ∙ ap (λ (y : Course). readStore y res₂) (course-stops f ws m (length res₂) sheet x t)))
+              ∙ sym (h₂ .leaves ∙ ap (λ (y : Course). readStore y res₂) (course-stops f ws m (length res₂) sheet x t)),
+        )
     go (inr p) = compare (same-or-newer (editionOf c e) (editionOf c f) (later-holds c e f l) sheet (fitting c (view ws m)))
       where
         first : course e sheet ws m c ≡ went (read (editionOf c e) sheet (fitting c (view ws m)))
         first = course-passes e ws m c sheet p
+
         second : course f sheet ws m (length res₂) ≡ went (read (editionOf c f) sheet (fitting c (view ws m)))
         second =
             course-passes f ws m (length res₂) sheet (later p)
             ∙ ap (λ (x : ℕ). went (read (editionOf x f) sheet (fitting x (view ws m)))) (sym size)
+
         compare : ((read (editionOf c e) sheet (fitting c (view ws m)) ≡ read (editionOf c f) sheet (fitting c (view ws m))) ⊎ ((k : ℕ) × (read (editionOf c e) sheet (fitting c (view ws m)) ≡ refused NewerKind k)))
             → ((r₁ ≡ r₂) × (res₁' ≡ res₂')) ⊎ ((k : ℕ) × (r₁ ≡ Refused NewerKind k))
         compare (inl q) =
-            inl (h₁ .answers ∙ ap readAnswer (first ∙ ap went q ∙ sym second) ∙ sym (h₂ .answers),
+            inl (
+              h₁ .answers ∙ ap readAnswer (first ∙ ap went q ∙ sym second) ∙ sym (h₂ .answers),
               h₁ .leaves ∙ ap (λ (y : Course). readStore y res₁) (first ∙ ap went q) ∙ same-store (read (editionOf c f) sheet (fitting c (view ws m))) res₁ res₂ size
-              ∙ sym (h₂ .leaves ∙ ap (λ (y : Course). readStore y res₂) second))
+                  ∙ sym (h₂ .leaves ∙ ap (λ (y : Course). readStore y res₂) second),
+            )
         compare (inr (k, q)) = inr (k, h₁ .answers ∙ ap readAnswer (first ∙ ap went q))

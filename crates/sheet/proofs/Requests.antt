@@ -81,15 +81,28 @@ sure-at (m ∷ ms) h zero f t = h .0 f t
 sure-at (m ∷ ms) h (suc k) f t = sure-at ms (h .1) k f t
 
 all-sure : AllSure makers
-all-sure =
-    ((λ f t. t .0),
-      ((λ f t. t .0),
-        ((λ f t. (t .0, t .1)),
-          ((λ f t. by-test (ltb 64 (f .width)) WidthOver _ (λ q. (t .0, not-over 64 (f .width) q, t .2))),
-            ((λ f t. t .1),
-              ((λ f t. t .1),
-                ((λ f t. by-test (ltb 4_294_967_296 (f .size)) IndexOver _ (λ q. not-over 4_294_967_296 (f .size) q)),
-                  ((λ f t. tt), ((λ f t. (t .0, t .1)), ((λ f t. (t .0, t .1)), ((λ f t. (t .0, t .1)), tt)))))))))))
+all-sure = (
+  (λ f t. t .0),
+  (
+    (λ f t. t .0),
+    (
+      (λ f t. (t .0, t .1)),
+      (
+        (λ f t. by-test (ltb 64 (f .width)) WidthOver _ (λ q. (t .0, not-over 64 (f .width) q, t .2))),
+        (
+          (λ f t. t .1),
+          (
+            (λ f t. t .1),
+            (
+              (λ f t. by-test (ltb 4_294_967_296 (f .size)) IndexOver _ (λ q. not-over 4_294_967_296 (f .size) q)),
+              ((λ f t. tt), ((λ f t. (t .0, t .1)), ((λ f t. (t .0, t .1)), ((λ f t. (t .0, t .1)), tt)))),
+            ),
+          ),
+        ),
+      ),
+    ),
+  ),
+)
 
 abbrev pub TypedQ : Request → Type 0
 TypedQ (duty k f) = Typed f
@@ -109,3 +122,55 @@ checked-proper (remark k p) t = go (ltb 127 k) refl
 pub proper-entry : (q : Request) → TypedQ q → refusalOf q ≡ none → Proper (entryOf q)
 proper-entry q t e =
     subst ProperC (same-checks q ∙ ap (verdict (checkedOf q)) e) (checked-proper q t)
+
+-- ---- the kind asked for
+
+by-good : (x e : Edit) → good (edit x) ≡ good (edit e) → kindOf e ≡ kindOf x
+by-good x e q = let y : e ≡ x = cc in ap kindOf y
+
+by-limited : (t : Bool) (r : Refusal) (x e : Edit) → choose t (bad r) (good (edit x)) ≡ good (edit e) → kindOf e ≡ kindOf x
+by-limited true r x e q = absurd (let z : _≡_ {A = ℕ} 0 1 = cc in omega arith)
+by-limited false r x e q = by-good x e q
+
+not-good : {r : Refusal} {e : Entry} → bad r ≡ good e → ⊥
+not-good q = let z : _≡_ {A = ℕ} 0 1 = cc in omega arith
+
+abbrev KindFor : Fields → ℕ → Type 0
+KindFor f k = (e : Edit) → checkedOf (duty k f) ≡ good (edit e) → kindOf e ≡ k
+
+kind-each : (f : Fields) → Below (KindFor f) 12
+unfolding checkedOf kindOf
+kind-each f = (
+  (
+    (
+      (
+        (
+          (
+            (
+              (
+                ((((tt, (λ e q. absurd (not-good q))), (λ e q. by-good _ e q)), (λ e q. by-good _ e q)), (λ e q. by-good _ e q)),
+                (λ e q. by-limited (ltb 64 (f .width)) WidthOver _ e q),
+              ),
+              (λ e q. by-good _ e q),
+            ),
+            (λ e q. by-good _ e q),
+          ),
+          (λ e q. by-limited (ltb 4_294_967_296 (f .size)) IndexOver _ e q),
+        ),
+        (λ e q. by-good _ e q),
+      ),
+      (λ e q. by-good _ e q),
+    ),
+    (λ e q. by-good _ e q),
+  ),
+  (λ e q. by-good _ e q),
+)
+
+-- the record asked for has the kind asked for
+pub kind-kept : (f : Fields) (k : ℕ) (e : Edit) → checkedOf (duty k f) ≡ good (edit e) → kindOf e ≡ k
+unfolding checkedOf
+kind-kept f k e q = by-lt k 12 (λ l. below-at (KindFor f) 12 k (kind-each f) l e q) (λ l. past k l q)
+  where
+    past : (k : ℕ) → 12 ≤ k → checkedOf (duty k f) ≡ good (edit e) → kindOf e ≡ k
+    past zero l p = absurd (omega arith)
+    past (suc k) l p = absurd (not-good (sym (ap (λ (o : Option (Fields → Checked)). madeBy o f) (past-end makers k (omega arith))) ∙ p))

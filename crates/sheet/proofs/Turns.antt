@@ -47,6 +47,7 @@ headed-false sheet h = go (decLe 4 (length sheet)) (ℕ-discrete (getD sheet 0 0
     none-of : (t : Bool) → (t && false) ≡ false
     none-of true = refl
     none-of false = refl
+
     go : Dec (4 ≤ length sheet) → Dec (getD sheet 0 0 ≡ 78) → Dec (getD sheet 1 0 ≡ 83) → headed sheet ≡ false
     go (yes a) (yes b) (yes c) = absurd (h (a, b, c))
     go (yes a) (yes b) (no c) = rw (ne-eqb (getD sheet 1 0) 83 c, none-of (eqb (getD sheet 0 0) 78)) (none-of (leb 4 (length sheet)))
@@ -127,6 +128,7 @@ module _ {A S : Type 0} (E : Edition A S) where
         by-size : (o : Option ℕ) → sized E r o ≡ some e → known E r o s ≡ stepped E (E .step e s)
         by-size none q = absurd (none-some q)
         by-size (some n) q = ap (λ (o : Option A). edited E o s) q
+
         go : (d : Bool) → r .duty ≡ d → act E r s ≡ stepped E (E .step e s)
         go true d = on-duty d ∙ by-size (E .size (r .kind)) (sym (take-true _ _ d) ∙ p)
         go false d = absurd (none-some (sym (take-false _ _ d) ∙ p))

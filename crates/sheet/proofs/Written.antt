@@ -52,6 +52,7 @@ agree-start buf len p h =
   where
     fresh : Left
     fresh = record { answer = Done 4; buffer = sets buf 0 (78 ∷ 83 ∷ 0 ∷ 0 ∷ []) }
+
     empty : Answered
     empty = record { answer = Done 4; plain = some [] }
 
@@ -98,12 +99,15 @@ module _ (buf : List ℕ) (len : ℕ) (es : List Entry) (h : Fronts buf len (som
     where
       raised : List ℕ
       raised = sets buf 2 (bytes 2 (countIn buf + 1))
+
       front : take len raised ≡ put (put (sheetOf es) 2 ((countIn buf + 1) / 256 ^ 1 % 256)) 3 ((countIn buf + 1) / 256 ^ 0 % 256)
       front =
           take-set-lt len (put buf 2 ((countIn buf + 1) / 256 ^ 1 % 256)) 3 ((countIn buf + 1) / 256 ^ 0 % 256) (omega (arith, four))
           ∙ ap (λ (f : List ℕ). put f 3 ((countIn buf + 1) / 256 ^ 0 % 256)) (take-set-lt len buf 2 ((countIn buf + 1) / 256 ^ 1 % 256) (omega (arith, four)) ∙ ap (λ (f : List ℕ). put f 2 ((countIn buf + 1) / 256 ^ 1 % 256)) (h .1))
+
       size : length (take len raised ++ bytesOf e) ≡ len + length (bytesOf e)
       size = rw (length-append (take len raised) (bytesOf e), front) (ap (λ (n : ℕ). n + length (bytesOf e)) (sym (h .0)))
+
       last : (78 ∷ 83 ∷ (countIn buf + 1) / 256 ^ 1 % 256 ∷ (countIn buf + 1) / 256 ^ 0 % 256 ∷ body es) ++ bytesOf e ≡ sheetOf (es ++ e ∷ [])
       last = rw (counted, ← (length-snoc es e), body-snoc es e)
 
@@ -116,21 +120,25 @@ module _ (buf : List ℕ) (len : ℕ) (es : List Entry) (h : Fronts buf len (som
     where
       put-in : Left
       put-in = record { answer = Done (len + length (bytesOf e)); buffer = sets (sets buf 2 (bytes 2 (countIn buf + 1))) len (bytesOf e) }
+
       held : Answered
       held = record { answer = Done (length (sheetOf (es ++ e ∷ []))); plain = some (es ++ e ∷ []) }
+
       same : (leb 65_535 (countIn buf) || ltb (length buf) (len + length (bytesOf e))) ≡ noRoom (length buf) es e
       same = ap₂ (λ (a b : ℕ). leb 65_535 a || ltb (length buf) b) counted (sym (longer e))
+
       no-more : (a b : Bool) → (a || b) ≡ false → (a ≡ false) × (b ≡ false)
       no-more false b q = (refl, q)
       no-more true b q = absurd (let z : _≡_ {A = ℕ} 0 1 = cc in omega arith)
+
       go : (t : Bool) → (leb 65_535 (countIn buf) || ltb (length buf) (len + length (bytesOf e))) ≡ t → Agrees len (choose t (refuse NoSpace buf) put-in) (choose t (refusing NoSpace (some es)) held)
       go true q = (refl, h)
       go false q =
           let (a, b) = no-more (leb 65_535 (countIn buf)) (ltb (length buf) (len + length (bytesOf e))) q in
           let l₁ : countIn buf < 65_535 =
-              by-lt (countIn buf) 65_535 (λ l. l) (λ l. absurd (let z : true ≡ false = sym (le-leb 65_535 (countIn buf) l) ∙ a in let y : _≡_ {A = ℕ} 0 1 = cc in omega arith)) in
+          by-lt (countIn buf) 65_535 (λ l. l) (λ l. absurd (let z : true ≡ false = sym (le-leb 65_535 (countIn buf) l) ∙ a in let y : _≡_ {A = ℕ} 0 1 = cc in omega arith)) in
           let l₂ : len + length (bytesOf e) ≤ length buf =
-              by-lt (length buf) (len + length (bytesOf e)) (λ l. absurd (let z : true ≡ false = sym (lt-ltb (length buf) (len + length (bytesOf e)) l) ∙ b in let y : _≡_ {A = ℕ} 0 1 = cc in omega arith)) (λ l. l) in
+          by-lt (length buf) (len + length (bytesOf e)) (λ l. absurd (let z : true ≡ false = sym (lt-ltb (length buf) (len + length (bytesOf e)) l) ∙ b in let y : _≡_ {A = ℕ} 0 1 = cc in omega arith)) (λ l. l) in
           (ap Done (sym (longer e)), (sym (longer e), stored e l₂, omega (arith, counted, length-snoc es e), proper-snoc es e (h .3) p))
 
   agree-checked : (q : Request) → TypedQ q → (o : Option Refusal) → refusalOf q ≡ o → Agrees len (placedBy buf len (verdict (checkedOf q) o)) (holding (length buf) es (entryOf q) o)
@@ -141,7 +149,7 @@ module _ (buf : List ℕ) (len : ℕ) (es : List Entry) (h : Fronts buf len (som
   unfolding added
   agree-addition q t =
       let e : added buf len q ≡ placedBy buf len (verdict (checkedOf q) (refusalOf q)) =
-          take-false _ _ (le-ltb (length buf) len in-buffer) ∙ ap (judged buf len q) (ap sheetFault (h .1) ∙ no-fault es (h .2) (h .3)) ∙ ap (placedBy buf len) (same-checks q) in
+      take-false _ _ (le-ltb (length buf) len in-buffer) ∙ ap (judged buf len q) (ap sheetFault (h .1) ∙ no-fault es (h .2) (h .3)) ∙ ap (placedBy buf len) (same-checks q) in
       subst (λ (l : Left). Agrees len l (holding (length buf) es (entryOf q) (refusalOf q))) (sym e) (agree-checked q t (refusalOf q) refl)
 
 -- ---- lists
@@ -183,7 +191,7 @@ along (c ∷ cs) buf len p a h =
     let w = went-by len (c .buffer) (c .ask) (c .answer) (c .after) (a .1) in
     let g = agree (c .buffer) len p (c .ask) (c .answer) (c .after) (a .1) (moved buf (c .buffer) len p (a .0) h) in
     let next : Fronts (c .after) (lengthAfter len (c .answer)) (answered (length (c .buffer)) (c .ask) p .plain) =
-        subst (λ (b : List ℕ). Fronts b (lengthAfter len (c .answer)) (answered (length (c .buffer)) (c .ask) p .plain)) (sym (w .leaves))
-        (subst (λ (r : Added). Fronts (leftBy len (c .buffer) (c .ask) .buffer) (lengthAfter len r) (answered (length (c .buffer)) (c .ask) p .plain)) (sym (w .answers)) (g .1)) in
+    subst (λ (b : List ℕ). Fronts b (lengthAfter len (c .answer)) (answered (length (c .buffer)) (c .ask) p .plain)) (sym (w .leaves))
+    (subst (λ (r : Added). Fronts (leftBy len (c .buffer) (c .ask) .buffer) (lengthAfter len r) (answered (length (c .buffer)) (c .ask) p .plain)) (sym (w .answers)) (g .1)) in
     let r = along cs (c .after) (lengthAfter len (c .answer)) (answered (length (c .buffer)) (c .ask) p .plain) (a .2) next in
     (ap₂ (λ (x : Added) (xs : List Added). x ∷ xs) (w .answers ∙ g .0) (r .0), r .1)

@@ -1,18 +1,25 @@
--- What the sheet promises (demand 3), of the contracts of its calls and at real bitmaps. Each is proved in proofs/Readings or proofs/Lists.
-use Prim.Native.Nat.{ℕ, _*_, _≤_, _<_}
+-- What the sheet promises (demand 3), of the contracts of its calls and at real bitmaps. Proved in proofs/Readings and proofs/Writings.
+use Prim.Native.Nat.{ℕ, _+_, _*_, _≤_, _<_}
 use mathlib.Core.Path.{_≡_}
 use mathlib.Core.List.{List}
 use mathlib.Core.Logic.{_↔_, _⊎_}
-use lib.ListN.{length, getD}
+use mathlib.Core.Option.{Option, none, some}
+use lib.ListN.{length, getD, take, drop}
 use Rattle.word.specs.Bits.{member}
-use Rattle.storage.specs.Stores.{Bits, Bounded, limit, view}
+use Rattle.storage.specs.Stores.{Bits, Bounded, limit, view, written}
 use Rattle.storage.specs.declared.Bitmap.{Bitmap}
 use Rattle.storage.specs.declared.Refusal.{Refusal}
-use Rattle.storage.specs.declared.Refusal.the-variants.{StoreTooLong, CountOverStore, NewerKind, NoEdition}
-use Rattle.sheet.specs.Meaning.{AtRecord, Newer, Applies, Accepted}
+use Rattle.storage.specs.declared.Refusal.the-variants.{StoreTooLong, CountOverStore, NoSpace, NotSheet, CutRecord, BytesRemain, NewerKind, NoEdition}
+use Rattle.sheet.specs.Kinds.{kindOf}
+use Rattle.sheet.specs.Reader.{countIn}
+use Rattle.sheet.specs.Meaning.{Header, start, Whole, effect, AtRecord, Newer, Applies, Accepted}
 use Rattle.sheet.specs.Reads.{editionOf, latest, fitting, Reads}
+use Rattle.sheet.specs.Writer.{Request, duty, Entry, edit, good, checkedOf, bytesOf}
+use Rattle.sheet.specs.Plain.{sheetOf, editsIn, refusalOf, entryOf, Call, InRow, answers, lastLength, lastBuffer, plainAnswers, lastPlain}
+use Rattle.sheet.specs.declared.Edit.{Edit}
+use Rattle.sheet.specs.declared.Fields.{Fields}
 use Rattle.sheet.specs.declared.Reading.{Reading}
-use Rattle.sheet.specs.declared.Reading.the-variants.{Done, Refused}
+use Rattle.sheet.specs.declared.Added.{Added}
 
 abbrev pub IsEdition : ℕ → Type 0
 IsEdition n = (1 ≤ n) × (n ≤ latest)
@@ -50,21 +57,73 @@ pub record Made (n : ℕ) (sheet ws : List ℕ) (m : ℕ) (res : List ℕ) (k : 
 -- what a reading answers and leaves, whatever it is given
 pub record ReadingMeans (n : ℕ) (sheet ws : List ℕ) (m : ℕ) (res : List ℕ) (r : Reading) (res' : List ℕ) : Type 0 where
   -- (a): what an accepted reading has made
-  pub made : (k : ℕ) (b : Bitmap) → r ≡ Done k b → Made n sheet ws m res k b res'
+  pub made : (k : ℕ) (b : Bitmap) → r ≡ Reading.Done k b → Made n sheet ws m res k b res'
   pub accepts : (k : ℕ) (s : Bits) → Passes n ws m (length res) → Accepted (editionOf (length res) n) sheet (fitting (length res) (view ws m)) k s
-      → r ≡ Done k (record { count = s .count })
+      → r ≡ Reading.Done k (record { count = s .count })
   -- (c): each number with its record, exactly where it applies
-  pub exact : (e : Refusal) (k : ℕ) → (r ≡ Refused e k) ↔ Gets n sheet ws m (length res) e k
+  pub exact : (e : Refusal) (k : ℕ) → (r ≡ Reading.Refused e k) ↔ Gets n sheet ws m (length res) e k
   -- 13 names the first duty record of a kind that the edition lacks
-  pub newer : (k : ℕ) → (r ≡ Refused NewerKind k)
+  pub newer : (k : ℕ) → (r ≡ Reading.Refused NewerKind k)
       ↔ (Passes n ws m (length res) × AtRecord (editionOf (length res) n) sheet (fitting (length res) (view ws m)) k (Newer (editionOf (length res) n) sheet))
   -- 14, 1 and 2 touch nothing; any later refusal leaves zeros
   pub untouched : (e : Refusal) → Stops n ws m (length res) e → res' ≡ res
-  pub cleared : (e : Refusal) (k : ℕ) → Passes n ws m (length res) → r ≡ Refused e k → (length res' ≡ length res) × ((j : ℕ) → getD res' j 0 ≡ 0)
+  pub cleared : (e : Refusal) (k : ℕ) → Passes n ws m (length res) → r ≡ Reading.Refused e k → (length res' ≡ length res) × ((j : ℕ) → getD res' j 0 ≡ 0)
 
 -- (b): two readings of one sheet and old bitmap, into stores of one size, of equal words where 1 or 2 applies
 abbrev pub KeepsMeaning : Type 0
 KeepsMeaning =
     (e f : ℕ) → IsEdition e → IsEdition f → e ≤ f → (sheet ws : List ℕ) (m : ℕ) (res₁ res₂ : List ℕ) → length res₁ ≡ length res₂
     → ((x : Refusal) → Stops e ws m (length res₁) x → res₁ ≡ res₂) → (r₁ r₂ : Reading) (res₁' res₂' : List ℕ)
-    → Reads e sheet ws m res₁ r₁ res₁' → Reads f sheet ws m res₂ r₂ res₂' → ((r₁ ≡ r₂) × (res₁' ≡ res₂')) ⊎ ((k : ℕ) × (r₁ ≡ Refused NewerKind k))
+    → Reads e sheet ws m res₁ r₁ res₁' → Reads f sheet ws m res₂ r₂ res₂' → ((r₁ ≡ r₂) × (res₁' ≡ res₂')) ⊎ ((k : ℕ) × (r₁ ≡ Reading.Refused NewerKind k))
+
+-- (d): 9, 10 or 11 of a sheet that is given to the writer, or nothing
+pub data SheetGets (sheet : List ℕ) (o : Option Refusal) : Type 0 where
+  no-header : ¬ Header sheet → o ≡ some NotSheet → SheetGets sheet o
+  cut : Header sheet → (i : ℕ) → i < countIn sheet → ((j : ℕ) → j < i → Whole sheet j) → ¬ Whole sheet i → o ≡ some CutRecord → SheetGets sheet o
+  remain : Header sheet → ((j : ℕ) → j < countIn sheet → Whole sheet j) → start sheet (countIn sheet) < length sheet → o ≡ some BytesRemain → SheetGets sheet o
+  nothing : Header sheet → ((j : ℕ) → j < countIn sheet → Whole sheet j) → start sheet (countIn sheet) ≡ length sheet → o ≡ none → SheetGets sheet o
+
+-- what an addition to the first len bytes of the buffer answers: 2, then the sheet's faults, then what is wrong with the request, then 6
+pub data AddGets (buf : List ℕ) (len : ℕ) (q : Request) (r : Added) : Type 0 where
+  over : length buf < len → r ≡ Added.Refused CountOverStore → AddGets buf len q r
+  fault : len ≤ length buf → (e : Refusal) → SheetGets (take len buf) (some e) → r ≡ Added.Refused e → AddGets buf len q r
+  wrong : len ≤ length buf → SheetGets (take len buf) none → (e : Refusal) → refusalOf q ≡ some e → r ≡ Added.Refused e → AddGets buf len q r
+  full : len ≤ length buf → SheetGets (take len buf) none → refusalOf q ≡ none
+      → (65_535 ≤ countIn buf) ⊎ (length buf < len + length (bytesOf (entryOf q))) → r ≡ Added.Refused NoSpace → AddGets buf len q r
+  fine : len ≤ length buf → SheetGets (take len buf) none → refusalOf q ≡ none
+      → countIn buf < 65_535 → len + length (bytesOf (entryOf q)) ≤ length buf → r ≡ Added.Done (len + length (bytesOf (entryOf q))) → AddGets buf len q r
+
+-- a refused call changes nothing, and the bytes past the new sheet are untouched
+pub record Leaves (buf : List ℕ) (r : Added) (buf' : List ℕ) : Type 0 where
+  pub kept : (e : Refusal) → r ≡ Added.Refused e → buf' ≡ buf
+  pub long : length buf' ≡ length buf
+  pub past : (n : ℕ) → r ≡ Added.Done n → drop n buf' ≡ drop n buf
+
+-- whatever it is given
+pub record AddMeans (buf : List ℕ) (len : ℕ) (q : Request) (r : Added) (buf' : List ℕ) : Type 0 where
+  pub exact : (x : Added) → (r ≡ x) ↔ AddGets buf len q x
+  pub leaves : Leaves buf r buf'
+  -- the record asked for has the kind asked for
+  pub kind : (k : ℕ) (f : Fields) (e : Edit) → q ≡ duty k f → checkedOf q ≡ good (edit e) → kindOf e ≡ k
+
+pub record StartMeans (buf : List ℕ) (r : Added) (buf' : List ℕ) : Type 0 where
+  pub short : (e : Refusal) → (r ≡ Added.Refused e) ↔ ((length buf < 4) × (e ≡ NoSpace))
+  pub fine : (n : ℕ) → (r ≡ Added.Done n) ↔ ((4 ≤ length buf) × (n ≡ 4))
+  pub leaves : Leaves buf r buf'
+
+-- (e): after a list of calls from a buffer of any bytes at length 0 on
+pub record ListMeans (buf : List ℕ) (cs : List Call) : Type 0 where
+  -- each call answered as the plain sheet
+  pub same : answers cs ≡ plainAnswers none cs
+  -- if a start was accepted, the bytes up to the last accepted length are the plain sheet's
+  pub length-is : (es : List Entry) → lastPlain none cs ≡ some es → lastLength 0 cs ≡ length (sheetOf es)
+  pub bytes-are : (es : List Entry) → lastPlain none cs ≡ some es → take (lastLength 0 cs) (lastBuffer buf cs) ≡ sheetOf es
+  -- and edition 2 accepts them with the effect of exactly its edits in order
+  pub effect-is : (es : List Entry) → lastPlain none cs ≡ some es
+      → (ws : List ℕ) (m : ℕ) (res : List ℕ) (r : Reading) (res' : List ℕ) → Passes 2 ws m (length res) → m ≤ length res
+      → (t : Bits) → effect (editionOf (length res) 2) (editsIn es) (view ws m) ≡ some t
+      → Reads 2 (take (lastLength 0 cs) (lastBuffer buf cs)) ws m res r res'
+      → (r ≡ Reading.Done (length es) (record { count = t .count })) × (res' ≡ written res (length res) t)
+
+abbrev pub WholeLists : Type 0
+WholeLists = (buf : List ℕ) (cs : List Call) → InRow buf 0 cs → ListMeans buf cs
