@@ -5,12 +5,15 @@ use mathlib.Core.Bool.{Bool, true, false}
 use mathlib.Core.List.{List}
 use mathlib.Core.Logic.{_⊎_, inl, inr}
 use mathlib.Core.Option.{Option, none, some}
+use native.Mathlib.Omega.{arith}
 use lib.ListN.{length}
-use lib.Dec.{leb, ltb, eqb, eqb→eq}
+use lib.Dec.{leb, eqb, eqb→eq}
 use Rattle.word.specs.Sets.{choose}
-use Rattle.storage.specs.declared.Refusal.the-variants.{BytesRemain, CutRecord, NotSheet, NewerKind}
+use Rattle.storage.specs.declared.Refusal.the-variants.{CutRecord, NotSheet, NewerKind}
 use Rattle.sheet.specs.Reader.{Edition, Item, Answer, refused, done, Turn, stop, next, headed, countIn, endAt, itemAt, edit, stepped, edited, known, act, then, records, copied, read}
-use Rattle.sheet.specs.Meaning.{Holds}
+use Rattle.sheet.specs.Meaning.{AtRecord, Newer, Holds}
+use Rattle.sheet.specs.Promises.{AnyTwo}
+use Rattle.sheet.proofs.Exact.{exact}
 
 module _ {A S : Type 0} (E F : Edition A S) (h : Holds E F) where
   -- E's answer is F's, or names a newer kind
@@ -64,3 +67,16 @@ module _ {A S : Type 0} (E F : Edition A S) (h : Holds E F) where
         go false o = inl refl
         go true none = inl refl
         go true (some s) = records-kept (countIn sheet) 0 4 s
+
+-- and it names the first duty record of a kind that it lacks
+pub any-two : {A S : Type 0} (E F : Edition A S) → Holds E F → (sheet : List ℕ) (old : Option S) → AnyTwo E F sheet old
+any-two {S = S} E F h sheet old = record { same = go (same-or-newer E F h sheet old); kept = λ k s e. stays k s e (same-or-newer E F h sheet old) }
+  where
+    go : SameOr E F h (read E sheet old) (read F sheet old)
+        → (read E sheet old ≡ read F sheet old) ⊎ ((k : ℕ) × (read E sheet old ≡ refused NewerKind k) × AtRecord E sheet old k (Newer E sheet))
+    go (inl e) = inl e
+    go (inr (k, e)) = inr (k, e, exact E sheet old (refused NewerKind k) .0 e)
+
+    stays : (k : ℕ) (s : S) → read E sheet old ≡ done k s → SameOr E F h (read E sheet old) (read F sheet old) → read F sheet old ≡ done k s
+    stays k s e (inl p) = sym p ∙ e
+    stays k s e (inr (j, p)) = absurd (let z : _≡_ {A = ℕ} 0 1 = cc in omega arith)

@@ -1,8 +1,8 @@
 -- The reader gives exactly the answer that the sheet's meaning names, for any edition, state and step.
 use Prim.Native.Nat.{ℕ, zero, suc, _+_, _-_, _≤_, _<_}
 use mathlib.Core.Path.{_≡_, refl, sym, ap, _∙_, subst}
-use mathlib.Core.List.{List, _++_}
-use mathlib.Core.Logic.{_↔_, _⊎_, inl, inr}
+use mathlib.Core.List.{List}
+use mathlib.Core.Logic.{_↔_, inl, inr}
 use mathlib.Core.Option.{Option, none, some}
 use native.Mathlib.Omega.{arith}
 use native.Mathlib.Decide.{decLe}
@@ -10,8 +10,8 @@ use native.Mathlib.Nat.{add-zero, add-suc, suc-add, zero-add}
 use lib.ListN.{length}
 use Rattle.storage.specs.declared.Refusal.{Refusal}
 use Rattle.storage.specs.declared.Refusal.the-variants.{StoreTooLong, CountOverStore, WidthOver, IndexOver, PastLength, NoSpace, NotList, NotAscii, NotSheet, CutRecord, BytesRemain, BadPayload, NewerKind, NoEdition}
-use Rattle.sheet.specs.Reader.{Edition, Answer, refused, done, Turn, stop, next, countIn, endAt, edit, act, then, records, copied, read}
-use Rattle.sheet.specs.Meaning.{Header, start, Whole, item, onward, editOf, effect, Sound, edits, Reached, AtRecord, Newer, Bad, Full, Applies, Accepted, Means}
+use Rattle.sheet.specs.Reader.{Edition, Answer, refused, done, Turn, stop, next, countIn, endAt, act, then, records, copied, read}
+use Rattle.sheet.specs.Meaning.{Header, start, Whole, item, onward, editOf, effect, Sound, edits, Reached, AtRecord, Newer, Bad, Full, Means}
 use Rattle.sheet.proofs.Turns.{none-some, some-inj, take-true, take-false, header?, headed-true, headed-false, does, effect-append, Did, did, act-did, record-whole, record-cut, all-read, bytes-left}
 
 module _ {A S : Type 0} (E : Edition A S) (sheet : List ℕ) where

@@ -1,20 +1,18 @@
 -- Records that are laid out one after another are read as they were, by the frames and by any edition that has their kinds.
-use Prim.Native.Nat.{ℕ, zero, suc, _+_, _*_, _^_, _/_, _%_, _≤_, _<_}
-use mathlib.Core.Path.{_≡_, refl, sym, ap, ap₂, _∙_, subst}
-use mathlib.Core.Bool.{Bool, true, false}
-use mathlib.Core.List.{List, [], _∷_, _++_, append-assoc, append-nil}
+use Prim.Native.Nat.{ℕ, suc, _+_, _*_, _^_, _/_, _%_, _≤_}
+use mathlib.Core.Path.{_≡_, refl, sym, ap, ap₂, _∙_}
+use mathlib.Core.Bool.{true, false}
+use mathlib.Core.List.{List, [], _∷_, _++_, append-assoc}
 use mathlib.Core.Option.{Option, none, some}
 use native.Mathlib.Omega.{arith}
 use native.Mathlib.Nat.{add-zero, add-suc, suc-add, zero-add}
 use lib.ListN.{length, getD, take, drop, length-append}
 use lib.Seq.{take-append-seam, drop-append-add, getD-append-seam, getD-append-add}
-use lib.Dec.{leb, eqb}
+use lib.Dec.{leb}
 use borrow.Author.Tests.{le-leb, lt-leb, le-ltb, eq-eqb}
-use Rattle.word.specs.Sets.{choose}
-use Rattle.storage.specs.declared.Refusal.{Refusal}
 use Rattle.sheet.specs.Bytes.{bytes}
-use Rattle.sheet.specs.Kinds.{sizeIn, ruleOf, kindOf, payloadOf}
-use Rattle.sheet.specs.Reader.{Edition, Item, Answer, done, countIn, sizeAt, endAt, itemAt, edited, known, act, stepped, then, records, copied, read}
+use Rattle.sheet.specs.Kinds.{sizeIn, kindOf, payloadOf}
+use Rattle.sheet.specs.Reader.{Item, done, countIn, sizeAt, endAt, itemAt, edited, known, act, stepped, then, records, read}
 use Rattle.sheet.specs.Meaning.{Header, onward, effect}
 use Rattle.sheet.specs.Reads.{editionOf}
 use Rattle.sheet.specs.Writer.{Entry, edit, note, laid, bytesOf, framesFault, sheetFault}

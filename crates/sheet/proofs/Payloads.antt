@@ -1,19 +1,17 @@
 -- What is laid out of an edit is read back as it.
-use Prim.Native.Nat.{ℕ, zero, suc, _+_, _*_, _^_, _/_, _%_, _≤_, _<_}
-use mathlib.Core.Path.{_≡_, refl, sym, ap, ap₂, _∙_}
+use Prim.Native.Nat.{ℕ, zero, suc, _+_, _*_, _^_, _%_, _≤_, _<_}
+use mathlib.Core.Path.{_≡_, refl, sym, ap, _∙_}
 use mathlib.Core.Bool.{Bool, true, false, _&&_}
-use mathlib.Core.List.{List, [], _∷_}
-use mathlib.Core.Option.{Option, none, some}
+use mathlib.Core.Option.{some}
 use native.Mathlib.Omega.{arith}
 use native.Mathlib.Nat.{mod-eq-of-lt, mul-comm, pow-suc, one-le-pow}
 use lib.ListN.{length}
 use lib.Arith.{mod-mul}
-use lib.Dec.{leb, eqb}
 use borrow.Author.Tests.{le-leb, eq-eqb}
-use Rattle.word.specs.Sets.{choose, val}
+use Rattle.word.specs.Sets.{val}
 use Rattle.word.specs.Bits.{isOne}
 use Rattle.sheet.specs.Bytes.{number, bytes, bits}
-use Rattle.sheet.specs.Kinds.{only, unused, flag, rowOf, sizeIn, parseBy, ruleOf, kindOf, numbered, bytesBy, payloadOf}
+use Rattle.sheet.specs.Kinds.{only, unused, rowOf, sizeIn, parseBy, ruleOf, kindOf, numbered, bytesBy, payloadOf}
 use Rattle.sheet.specs.declared.Edit.{Edit}
 use Rattle.sheet.specs.declared.Edit.the-variants.{Set, Unset, SetRegion, SetField, Shift, Rotate, Resize, Reverse, ToggleRegion, Open, Close}
 use Rattle.sheet.proofs.Tables.{Below, below-at}

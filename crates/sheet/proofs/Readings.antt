@@ -1,7 +1,7 @@
 -- Demand 3 of readings into stores: the promises of specs/Promises about `Reads`. Assumes nothing.
-use Prim.Native.Nat.{ℕ, _*_, _≤_, _<_}
+use Prim.Native.Nat.{ℕ, _≤_, _<_}
 use mathlib.Core.Path.{_≡_, refl, sym, ap, _∙_, subst}
-use mathlib.Core.Bool.{Bool, true, false, _&&_}
+use mathlib.Core.Bool.{true, false}
 use mathlib.Core.List.{List}
 use mathlib.Core.Logic.{_↔_, _⊎_, inl, inr}
 use mathlib.Core.Option.{Option, none, some}
@@ -21,13 +21,13 @@ use Rattle.storage.specs.declared.Refusal.{Refusal}
 use Rattle.storage.specs.declared.Refusal.the-variants.{StoreTooLong, CountOverStore, NewerKind, NoEdition}
 use Rattle.storage.proofs.Checks.{checked-ok, checked-long, checked-over}
 use Rattle.storage.proofs.Stores.{length-zeroed, zeroed-in}
-use Rattle.storage.proofs.Views.{bounded-view, view-count}
+use Rattle.storage.proofs.Views.{bounded-view}
 use Rattle.storage.proofs.Promises.{space-rules}
 use Rattle.sheet.specs.Kinds.{Row, rowOf, sizeBy, sizeIn}
 use Rattle.sheet.specs.Reader.{Answer, refused, done, read}
-use Rattle.sheet.specs.Meaning.{AtRecord, Newer, Applies, Accepted, Holds}
+use Rattle.sheet.specs.Meaning.{Accepted, Holds}
 use Rattle.sheet.specs.Reads.{editionOf, latest, isEdition, fitting, Course, stopped, went, course, readAnswer, readStore, Reads}
-use Rattle.sheet.specs.Promises.{IsEdition, Passes, Stops, no-edition, long, over, result-long, Gets, Made, ReadingMeans, KeepsMeaning}
+use Rattle.sheet.specs.Promises.{IsEdition, Passes, Stops, no-edition, long, over, result-long, Gets, NamesNewer, Made, ReadingMeans, KeepsMeaning}
 use Rattle.sheet.specs.declared.Reading.{Reading}
 use Rattle.sheet.specs.declared.Reading.the-variants.{Done, Refused}
 use Rattle.sheet.proofs.Turns.{none-some, some-inj, take-true, take-false}
@@ -174,7 +174,7 @@ module _ (n : ℕ) (sheet ws : List ℕ) (m : ℕ) (res : List ℕ) (r : Reading
                 (λ v. past res' j (omega (arith, ap length w ∙ rules .long)));
           }
 
-  newer-exact : (k : ℕ) → (r ≡ Refused NewerKind k) ↔ (Passes n ws m c × AtRecord (editionOf c n) sheet (fitting c (view ws m)) k (Newer (editionOf c n) sheet))
+  newer-exact : (k : ℕ) → (r ≡ Refused NewerKind k) ↔ NamesNewer n sheet ws m c k
   newer-exact k = ((λ q. to (refused-exact NewerKind k .0 q)), λ p. refused-exact NewerKind k .1 (inr p))
     where
       never : Stops n ws m c NewerKind → ⊥
@@ -183,7 +183,7 @@ module _ (n : ℕ) (sheet ws : List ℕ) (m : ℕ) (res : List ℕ) (r : Reading
       never (over g l k q) = let z : _≡_ {A = ℕ} 0 1 = cc in omega arith
       never (result-long g l k t q) = let z : _≡_ {A = ℕ} 0 1 = cc in omega arith
 
-      to : Gets n sheet ws m c NewerKind k → Passes n ws m c × AtRecord (editionOf c n) sheet (fitting c (view ws m)) k (Newer (editionOf c n) sheet)
+      to : Gets n sheet ws m c NewerKind k → NamesNewer n sheet ws m c k
       to (inl (s, z)) = absurd (never s)
       to (inr p) = p
 
@@ -221,7 +221,7 @@ later-holds c e f l =
     record { size-kept = λ k b q. size-later e f b (rowOf k) l q; rule-kept = λ k b p q h. refl; step-kept = λ k b p x q h g s. refl }
 
 -- what is left after 14, 1 and 2 depends on the store's size alone
-same-written : (s : Bits) (xs ys : List ℕ) → length xs ≡ length ys → written xs (length xs) s ≡ written ys (length ys) s
+pub same-written : (s : Bits) (xs ys : List ℕ) → length xs ≡ length ys → written xs (length xs) s ≡ written ys (length ys) s
 unfolding written wordAt
 same-written s xs ys e =
     tab-is (length ys) (wordAt ys (length ys) s) (tabFrom 0 (length xs) (wordAt xs (length xs) s)) (length-tab 0 (length xs) (wordAt xs (length xs) s) ∙ e)
@@ -229,7 +229,7 @@ same-written s xs ys e =
     tab-at (length xs) (wordAt xs (length xs) s) k (omega arith)
     ∙ ap (choose (ltb k (s .count)) (wordOf (s .members) k)) (take-true _ _ (lt-ltb k (length xs) (omega arith)) ∙ sym (take-true _ _ (lt-ltb k (length ys) l))))
 
-same-zeros : (xs ys : List ℕ) → length xs ≡ length ys → zeroed 0 (length xs) xs ≡ zeroed 0 (length ys) ys
+pub same-zeros : (xs ys : List ℕ) → length xs ≡ length ys → zeroed 0 (length xs) xs ≡ zeroed 0 (length ys) ys
 same-zeros xs ys e =
     ext-getD 0 (zeroed 0 (length xs) xs) (zeroed 0 (length ys) ys) (length-zeroed 0 (length xs) xs ∙ e ∙ sym (length-zeroed 0 (length ys) ys))
     (λ k l.
@@ -256,7 +256,7 @@ keeps-meaning e f ge gf l sheet ws m res₁ res₂ size words r₁ r₂ res₁' 
     also x (over g u v q) = over gf u v q
     also x (result-long g u v w q) = result-long gf u v (subst (λ (y : ℕ). limit < y) size w) q
 
-    go : ((x : Refusal) × Stops e ws m c x) ⊎ Passes e ws m c → ((r₁ ≡ r₂) × (res₁' ≡ res₂')) ⊎ ((k : ℕ) × (r₁ ≡ Refused NewerKind k))
+    go : ((x : Refusal) × Stops e ws m c x) ⊎ Passes e ws m c → ((r₁ ≡ r₂) × (res₁' ≡ res₂')) ⊎ ((k : ℕ) × (r₁ ≡ Refused NewerKind k) × NamesNewer e sheet ws m c k)
     go (inl (x, s)) =
         let t = also x s in
         inl (
@@ -275,11 +275,13 @@ keeps-meaning e f ge gf l sheet ws m res₁ res₂ size words r₁ r₂ res₁' 
             ∙ ap (λ (x : ℕ). went (read (editionOf x f) sheet (fitting x (view ws m)))) (sym size)
 
         compare : ((read (editionOf c e) sheet (fitting c (view ws m)) ≡ read (editionOf c f) sheet (fitting c (view ws m))) ⊎ ((k : ℕ) × (read (editionOf c e) sheet (fitting c (view ws m)) ≡ refused NewerKind k)))
-            → ((r₁ ≡ r₂) × (res₁' ≡ res₂')) ⊎ ((k : ℕ) × (r₁ ≡ Refused NewerKind k))
+            → ((r₁ ≡ r₂) × (res₁' ≡ res₂')) ⊎ ((k : ℕ) × (r₁ ≡ Refused NewerKind k) × NamesNewer e sheet ws m c k)
         compare (inl q) =
             inl (
               h₁ .answers ∙ ap readAnswer (first ∙ ap went q ∙ sym second) ∙ sym (h₂ .answers),
               h₁ .leaves ∙ ap (λ (y : Course). readStore y res₁) (first ∙ ap went q) ∙ same-store (read (editionOf c f) sheet (fitting c (view ws m))) res₁ res₂ size
                   ∙ sym (h₂ .leaves ∙ ap (λ (y : Course). readStore y res₂) second),
             )
-        compare (inr (k, q)) = inr (k, h₁ .answers ∙ ap readAnswer (first ∙ ap went q))
+        compare (inr (k, q)) =
+            let a : r₁ ≡ Refused NewerKind k = h₁ .answers ∙ ap readAnswer (first ∙ ap went q) in
+            inr (k, a, newer-exact e sheet ws m res₁ r₁ res₁' h₁ k .0 a)

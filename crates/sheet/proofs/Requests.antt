@@ -1,24 +1,23 @@
 -- What is asked of the writer: its checks are the plain sheet's tests, and what they let pass fits its frame.
-use Prim.Native.Nat.{ℕ, zero, suc, _≤_, _<_}
-use mathlib.Core.Path.{_≡_, refl, sym, ap, ap₂, _∙_, subst}
-use mathlib.Core.Bool.{Bool, true, false, _&&_, _||_}
+use Prim.Native.Nat.{ℕ, zero, suc, _≤_}
+use mathlib.Core.Path.{_≡_, refl, sym, ap, _∙_, subst}
+use mathlib.Core.Bool.{Bool, true, false}
 use mathlib.Core.List.{List, [], _∷_}
 use mathlib.Core.Option.{Option, none, some}
 use native.Mathlib.Omega.{arith}
 use lib.ListN.{length, getElem?}
-use lib.Dec.{ltb, eqb}
+use lib.Dec.{ltb}
 use borrow.Author.Tests.{lt-ltb, ne-eqb}
 use Rattle.word.specs.Sets.{choose}
 use Rattle.word.proofs.Cases.{by-lt}
 use Rattle.storage.specs.declared.Refusal.{Refusal}
 use Rattle.storage.specs.declared.Refusal.the-variants.{WidthOver, IndexOver, BadPayload, NewerKind}
 use Rattle.sheet.specs.Kinds.{kindOf}
-use Rattle.sheet.specs.Writer.{Request, duty, remark, Entry, edit, note, Checked, bad, good, makers, makerOf, madeBy, checkedOf}
-use Rattle.sheet.specs.Plain.{wrongKind, wrongWidth, wrongSize, wrongPayload, firstOf, refusalOf, entryBy, entryOf, Typed}
+use Rattle.sheet.specs.Writer.{Request, duty, remark, Entry, edit, note, Checked, bad, good, makers, madeBy, checkedOf}
+use Rattle.sheet.specs.Plain.{refusalOf, entryBy, entryOf, Typed}
 use Rattle.sheet.specs.declared.Edit.{Edit}
 use Rattle.sheet.specs.declared.Fields.{Fields}
 use Rattle.sheet.proofs.Tables.{Below, below-at, past-end}
-use Rattle.sheet.proofs.Turns.{take-true, take-false}
 use Rattle.sheet.proofs.Laid.{Proper}
 
 -- ---- the same tests

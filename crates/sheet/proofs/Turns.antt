@@ -1,21 +1,18 @@
 -- One record: what its turn says of it, for any edition, state and step.
-use Prim.Native.Nat.{ℕ, zero, suc, _+_, _-_, _≤_, _<_}
-use mathlib.Core.Path.{_≡_, refl, sym, ap, _∙_, subst}
+use Prim.Native.Nat.{ℕ, suc, _+_, _-_, _≤_, _<_}
+use mathlib.Core.Path.{_≡_, refl, sym, ap, _∙_}
 use mathlib.Core.Bool.{Bool, true, false, _&&_, false≢true}
 use mathlib.Core.List.{List, [], _∷_, _++_}
-use mathlib.Core.Logic.{_↔_, _⊎_, inl, inr}
 use mathlib.Core.Option.{Option, none, some}
 use native.Mathlib.Omega.{arith}
 use native.Mathlib.Decide.{decLe, ℕ-discrete}
-use native.Mathlib.Nat.{add-zero, add-suc, suc-add, zero-add}
 use lib.ListN.{length, getD}
-use lib.Dec.{leb, ltb, eqb}
+use lib.Dec.{leb, eqb}
 use borrow.Author.Tests.{lt-ltb, le-ltb, le-leb, lt-leb, eq-eqb, ne-eqb}
 use Rattle.word.specs.Sets.{choose}
-use Rattle.storage.specs.declared.Refusal.{Refusal}
 use Rattle.storage.specs.declared.Refusal.the-variants.{StoreTooLong, CountOverStore, WidthOver, IndexOver, PastLength, NoSpace, NotList, NotAscii, NotSheet, CutRecord, BytesRemain, BadPayload, NewerKind, NoEdition}
-use Rattle.sheet.specs.Reader.{Edition, Item, Answer, refused, done, Turn, stop, next, headed, countIn, endAt, itemAt, edit, stepped, edited, known, act, then, records, copied, read}
-use Rattle.sheet.specs.Meaning.{Header, start, Whole, item, listed, onward, sized, editOf, effect, Sound, edits, Reached, AtRecord, Newer, Bad, Full, Applies, Accepted, Means}
+use Rattle.sheet.specs.Reader.{Edition, Item, refused, done, Turn, stop, next, headed, endAt, itemAt, edit, stepped, edited, known, act, then, records}
+use Rattle.sheet.specs.Meaning.{Header, listed, onward, sized, editOf, effect}
 
 pub none-some : {X : Type 0} {x : X} → _≡_ {A = Option X} none (some x) → ⊥
 none-some e = let z : _≡_ {A = ℕ} 0 1 = cc in omega arith

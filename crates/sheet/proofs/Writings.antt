@@ -3,7 +3,7 @@ use Prim.Native.Nat.{ℕ, zero, suc, _+_, _≤_, _<_}
 use mathlib.Core.Path.{_≡_, refl, sym, ap, ap₂, _∙_, subst}
 use mathlib.Core.Bool.{Bool, true, false, _||_}
 use mathlib.Core.List.{List, [], _∷_}
-use mathlib.Core.Logic.{_↔_, _⊎_, inl, inr}
+use mathlib.Core.Logic.{_⊎_, inl, inr}
 use mathlib.Core.Option.{Option, none, some}
 use native.Mathlib.Omega.{arith}
 use native.Mathlib.Decide.{decLe}
@@ -14,26 +14,21 @@ use lib.Dec.{leb, ltb}
 use borrow.Author.Tests.{lt-ltb, le-ltb, le-leb, lt-leb}
 use Rattle.word.specs.Sets.{choose}
 use Rattle.word.proofs.Cases.{by-lt, or-true}
-use Rattle.storage.specs.Stores.{Bits, view, written}
-use Rattle.storage.specs.declared.Bitmap.{Bitmap}
+use Rattle.storage.specs.Stores.{Bits, view}
 use Rattle.storage.specs.declared.Refusal.{Refusal}
-use Rattle.storage.specs.declared.Refusal.the-variants.{CountOverStore, NoSpace, NotSheet, CutRecord, BytesRemain}
+use Rattle.storage.specs.declared.Refusal.the-variants.{CountOverStore, NoSpace}
 use Rattle.storage.proofs.Views.{view-count}
 use Rattle.sheet.specs.Bytes.{bytes}
-use Rattle.sheet.specs.Kinds.{kindOf}
-use Rattle.sheet.specs.Reader.{Answer, done, countIn, endAt, read}
-use Rattle.sheet.specs.Meaning.{Header, start, Whole, effect}
-use Rattle.sheet.specs.Reads.{editionOf, fitting, Course, went, course, readAnswer, readStore, Reads}
-use Rattle.sheet.specs.Writer.{Request, duty, remark, requested, Entry, edit, note, Checked, bad, good, makers, madeBy, makerOf, checkedOf, bytesOf, framesFault, sheetFault, Left, refuse, started, placed, placedBy, judged, added, Writes, Starts, Adds}
-use Rattle.sheet.specs.Plain.{Plain, sheetOf, editsIn, refusalOf, entryOf, Call, InRow, answers, lastLength, lastBuffer, plainAnswers, lastPlain}
-use Rattle.sheet.specs.Promises.{Passes, SheetGets, no-header, cut, remain, nothing, AddGets, over, fault, wrong, full, fine, Leaves, AddMeans, StartMeans, ListMeans, WholeLists}
-use Rattle.sheet.specs.declared.Edit.{Edit}
+use Rattle.sheet.specs.Reader.{done, countIn, endAt, read}
+use Rattle.sheet.specs.Meaning.{Header, start, Whole}
+use Rattle.sheet.specs.Reads.{editionOf, fitting, Course, went, course, readAnswer, readStore}
+use Rattle.sheet.specs.Writer.{Request, requested, Entry, checkedOf, bytesOf, framesFault, sheetFault, Left, refuse, started, placed, placedBy, judged, added, Writes, Starts, Adds}
+use Rattle.sheet.specs.Plain.{refusalOf, entryOf, answers, lastLength, lastBuffer, plainAnswers, lastPlain}
+use Rattle.sheet.specs.Promises.{SheetGets, no-header, cut, remain, nothing, AddGets, over, fault, wrong, full, fine, Leaves, AddMeans, StartMeans, WholeLists}
 use Rattle.sheet.specs.declared.Fields.{Fields}
-use Rattle.sheet.specs.declared.Reading.{Reading}
 use Rattle.sheet.specs.declared.Added.{Added}
 use Rattle.sheet.specs.declared.Added.the-variants.{Done, Refused}
-use Rattle.sheet.proofs.Tables.{Below, below-at, past-end}
-use Rattle.sheet.proofs.Turns.{none-some, some-inj, take-true, take-false, header?, headed-true, headed-false}
+use Rattle.sheet.proofs.Turns.{none-some, take-true, take-false, header?, headed-true, headed-false}
 use Rattle.sheet.proofs.Payloads.{length-bytes}
 use Rattle.sheet.proofs.Laid.{read-sheet, in-latest}
 use Rattle.sheet.proofs.Readings.{course-passes}

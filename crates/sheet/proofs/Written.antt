@@ -1,5 +1,5 @@
 -- What the writer leaves is the plain sheet, after one call and after every list of calls.
-use Prim.Native.Nat.{ℕ, zero, suc, _+_, _*_, _^_, _/_, _%_, _≤_, _<_}
+use Prim.Native.Nat.{ℕ, _+_, _*_, _^_, _/_, _%_, _≤_, _<_}
 use mathlib.Core.Path.{_≡_, refl, sym, ap, ap₂, _∙_, subst}
 use mathlib.Core.Bool.{Bool, true, false, _||_}
 use mathlib.Core.List.{List, [], _∷_, _++_, append-assoc, append-nil}
@@ -8,19 +8,19 @@ use native.Mathlib.Omega.{arith}
 use lib.ListN.{set as put, length, getD, take, drop, length-append, length-take}
 use lib.Seq.{sets, sets-eq, take-set-lt, getD-take, take-at, length-sets}
 use lib.Dec.{leb, ltb}
-use borrow.Author.Tests.{lt-ltb, le-ltb, lt-leb, le-leb}
+use borrow.Author.Tests.{lt-ltb, le-ltb, le-leb}
 use Rattle.word.specs.Sets.{choose}
 use Rattle.word.proofs.Cases.{by-lt}
 use Rattle.storage.specs.declared.Refusal.{Refusal}
-use Rattle.storage.specs.declared.Refusal.the-variants.{CountOverStore, NoSpace, NotSheet}
+use Rattle.storage.specs.declared.Refusal.the-variants.{NoSpace, NotSheet}
 use Rattle.sheet.specs.Bytes.{bytes}
 use Rattle.sheet.specs.Reader.{countIn}
-use Rattle.sheet.specs.Writer.{Request, duty, remark, requested, Entry, Checked, bad, good, checkedOf, bytesOf, sheetFault, Left, refuse, started, placed, placedBy, judged, added, Writes}
+use Rattle.sheet.specs.Writer.{Request, requested, Entry, checkedOf, bytesOf, sheetFault, Left, refuse, started, placed, placedBy, judged, added, Writes}
 use Rattle.sheet.specs.Plain.{Plain, body, sheetOf, noRoom, refusalOf, entryOf, Answered, refusing, holding, Ask, start, addition, answered, Call, Typed, Went, lengthAfter, InRow, answers, lastLength, lastBuffer, plainAnswers, lastPlain}
 use Rattle.sheet.specs.declared.Fields.{Fields}
 use Rattle.sheet.specs.declared.Added.{Added}
-use Rattle.sheet.specs.declared.Added.the-variants.{Done, Refused}
-use Rattle.sheet.proofs.Turns.{take-true, take-false}
+use Rattle.sheet.specs.declared.Added.the-variants.{Done}
+use Rattle.sheet.proofs.Turns.{take-false}
 use Rattle.sheet.proofs.Laid.{Proper, AllProper, two-bytes, no-fault}
 use Rattle.sheet.proofs.Requests.{verdict, same-checks, TypedQ, proper-entry}
 

@@ -11,7 +11,7 @@ use Rattle.storage.specs.declared.Bitmap.{Bitmap}
 use Rattle.storage.specs.declared.Refusal.{Refusal}
 use Rattle.storage.specs.declared.Refusal.the-variants.{StoreTooLong, CountOverStore, NoSpace, NotSheet, CutRecord, BytesRemain, NewerKind, NoEdition}
 use Rattle.sheet.specs.Kinds.{kindOf}
-use Rattle.sheet.specs.Reader.{countIn}
+use Rattle.sheet.specs.Reader.{Edition, refused, done, countIn, read}
 use Rattle.sheet.specs.Meaning.{Header, start, Whole, effect, AtRecord, Newer, Applies, Accepted}
 use Rattle.sheet.specs.Reads.{editionOf, latest, fitting, Reads}
 use Rattle.sheet.specs.Writer.{Request, duty, Entry, edit, good, checkedOf, bytesOf}
@@ -42,6 +42,11 @@ pub data Stops (n : ℕ) (ws : List ℕ) (m c : ℕ) (e : Refusal) : Type 0 wher
 abbrev pub Gets : ℕ → List ℕ → List ℕ → ℕ → ℕ → Refusal → ℕ → Type 0
 Gets n sheet ws m c e k = (Stops n ws m c e × (k ≡ 0)) ⊎ (Passes n ws m c × Applies (editionOf c n) sheet (fitting c (view ws m)) e k)
 
+-- demand 3's condition: the old bitmap fits, all earlier records are sound and applied, and record k, its frame whole, is a duty record of a kind that
+-- the edition lacks
+abbrev pub NamesNewer : ℕ → List ℕ → List ℕ → ℕ → ℕ → ℕ → Type 0
+NamesNewer n sheet ws m c k = Passes n ws m c × AtRecord (editionOf c n) sheet (fitting c (view ws m)) k (Newer (editionOf c n) sheet)
+
 -- an accepted sheet: its duty records' edits in order have made the bitmap that stands in the result store
 pub record Made (n : ℕ) (sheet ws : List ℕ) (m : ℕ) (res : List ℕ) (k : ℕ) (b : Bitmap) (res' : List ℕ) : Type 0 where
   pub passes : Passes n ws m (length res)
@@ -63,18 +68,24 @@ pub record ReadingMeans (n : ℕ) (sheet ws : List ℕ) (m : ℕ) (res : List �
   -- (c): each number with its record, exactly where it applies
   pub exact : (e : Refusal) (k : ℕ) → (r ≡ Reading.Refused e k) ↔ Gets n sheet ws m (length res) e k
   -- 13 names the first duty record of a kind that the edition lacks
-  pub newer : (k : ℕ) → (r ≡ Reading.Refused NewerKind k)
-      ↔ (Passes n ws m (length res) × AtRecord (editionOf (length res) n) sheet (fitting (length res) (view ws m)) k (Newer (editionOf (length res) n) sheet))
+  pub newer : (k : ℕ) → (r ≡ Reading.Refused NewerKind k) ↔ NamesNewer n sheet ws m (length res) k
   -- 14, 1 and 2 touch nothing; any later refusal leaves zeros
   pub untouched : (e : Refusal) → Stops n ws m (length res) e → res' ≡ res
   pub cleared : (e : Refusal) (k : ℕ) → Passes n ws m (length res) → r ≡ Reading.Refused e k → (length res' ≡ length res) × ((j : ℕ) → getD res' j 0 ≡ 0)
 
--- (b): two readings of one sheet and old bitmap, into stores of one size, of equal words where 1 or 2 applies
+-- (b): two readings of one sheet and old bitmap, into stores of one size, of equal words where 1 or 2 applies: the earlier edition gives the later's
+-- answer and words, or names a newer kind
 abbrev pub KeepsMeaning : Type 0
 KeepsMeaning =
     (e f : ℕ) → IsEdition e → IsEdition f → e ≤ f → (sheet ws : List ℕ) (m : ℕ) (res₁ res₂ : List ℕ) → length res₁ ≡ length res₂
     → ((x : Refusal) → Stops e ws m (length res₁) x → res₁ ≡ res₂) → (r₁ r₂ : Reading) (res₁' res₂' : List ℕ)
-    → Reads e sheet ws m res₁ r₁ res₁' → Reads f sheet ws m res₂ r₂ res₂' → ((r₁ ≡ r₂) × (res₁' ≡ res₂')) ⊎ ((k : ℕ) × (r₁ ≡ Reading.Refused NewerKind k))
+    → Reads e sheet ws m res₁ r₁ res₁' → Reads f sheet ws m res₂ r₂ res₂'
+    → ((r₁ ≡ r₂) × (res₁' ≡ res₂')) ⊎ ((k : ℕ) × (r₁ ≡ Reading.Refused NewerKind k) × NamesNewer e sheet ws m (length res₁) k)
+
+-- the same of any two editions of which the later holds the earlier, whatever their edits and states; what the earlier accepts keeps its meaning
+pub record AnyTwo {A S : Type 0} (E F : Edition A S) (sheet : List ℕ) (old : Option S) : Type 0 where
+  pub same : (read E sheet old ≡ read F sheet old) ⊎ ((k : ℕ) × (read E sheet old ≡ refused NewerKind k) × AtRecord E sheet old k (Newer E sheet))
+  pub kept : (k : ℕ) (s : S) → read E sheet old ≡ done k s → read F sheet old ≡ done k s
 
 -- (d): 9, 10 or 11 of a sheet that is given to the writer, or nothing
 pub data SheetGets (sheet : List ℕ) (o : Option Refusal) : Type 0 where
