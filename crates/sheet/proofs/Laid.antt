@@ -20,7 +20,8 @@ use Rattle.sheet.specs.Plain.{body, sheetOf, editsIn}
 use Rattle.sheet.specs.declared.Edit.{Edit}
 use Rattle.storage.specs.Stores.{Bits}
 use Rattle.sheet.proofs.Turns.{none-some, some-inj, take-true, take-false, headed-true, act-remark, record-whole, all-read}
-use Rattle.sheet.proofs.Payloads.{Ranged, read-back, kind-small, payload-short, size-latest}
+use Rattle.sheet.specs.Promises.{Ranged}
+use Rattle.sheet.proofs.Payloads.{read-back, kind-small, payload-short, size-latest}
 
 -- a record that fits its frame
 abbrev pub Proper : Entry → Type 0

@@ -6,6 +6,7 @@ pub mod Editions
 pub mod Steps
 pub mod Readings
 pub mod Payloads
+pub mod Rules
 pub mod Laid
 pub mod Requests
 pub mod Written

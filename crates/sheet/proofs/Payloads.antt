@@ -12,6 +12,7 @@ use Rattle.word.specs.Sets.{val}
 use Rattle.word.specs.Bits.{isOne}
 use Rattle.sheet.specs.Bytes.{number, bytes, bits}
 use Rattle.sheet.specs.Kinds.{only, unused, rowOf, sizeIn, parseBy, ruleOf, kindOf, numbered, bytesBy, payloadOf}
+use Rattle.sheet.specs.Promises.{Ranged}
 use Rattle.sheet.specs.declared.Edit.{Edit}
 use Rattle.sheet.specs.declared.Edit.the-variants.{Set, Unset, SetRegion, SetField, Shift, Rotate, Resize, Reverse, ToggleRegion, Open, Close}
 use Rattle.sheet.proofs.Tables.{Below, below-at}
@@ -26,20 +27,6 @@ unfolding number bytes
 number-mod zero x = omega arith
 number-mod (suc n) x =
     rw (length-bytes n x, number-mod n x, pow-suc 256 n, mul-comm (256 ^ n) 256) (sym (mod-mul x (omega arith) (one-le-pow n 256 (omega arith))))
-
--- the fields are in their ranges
-abbrev pub Ranged : Edit → Type 0
-Ranged (Set p) = p < 2 ^ 32
-Ranged (Unset p) = p < 2 ^ 32
-Ranged (SetRegion v p k) = (p < 2 ^ 32) × (k < 2 ^ 32)
-Ranged (SetField p w v) = (p < 2 ^ 32) × (w ≤ 64) × (v < 2 ^ 64)
-Ranged (Shift d k) = k < 2 ^ 32
-Ranged (Rotate d k) = k < 2 ^ 32
-Ranged (Resize n) = n ≤ 4_294_967_296
-Ranged Reverse = Unit {0}
-Ranged (ToggleRegion p k) = (p < 2 ^ 32) × (k < 2 ^ 32)
-Ranged (Open p k) = (p < 2 ^ 32) × (k < 2 ^ 32)
-Ranged (Close p k) = (p < 2 ^ 32) × (k < 2 ^ 32)
 
 -- ---- a flag, and the fields beside it
 
@@ -193,7 +180,7 @@ each-fine = (
   (refl, omega arith),
 )
 
-fine : (k : ℕ) → 1 ≤ k → k ≤ 11 → (sizeIn 2 k ≡ some (bytesBy (rowOf k))) × (bytesBy (rowOf k) ≤ 13)
+pub fine : (k : ℕ) → 1 ≤ k → k ≤ 11 → (sizeIn 2 k ≡ some (bytesBy (rowOf k))) × (bytesBy (rowOf k) ≤ 13)
 fine zero l h = absurd (omega arith)
 fine (suc k) l h = below-at Fine 11 k each-fine (omega arith)
 

@@ -34,9 +34,12 @@ past-end [] k h = refl
 past-end (a ∷ l) zero h = absurd (omega arith)
 past-end (a ∷ l) (suc k) h = past-end l k (omega arith)
 
-pub no-kind : (e k : ℕ) → k ≡ 0 → known (sizeIn e k) ≡ Newer
+pub zero-kind : (e : ℕ) → sizeIn e 0 ≡ none
 unfolding sizeIn
-no-kind e k z = ap (λ (k : ℕ). known (sizeIn e k)) z
+zero-kind e = refl
+
+pub no-kind : (e k : ℕ) → k ≡ 0 → known (sizeIn e k) ≡ Newer
+no-kind e k z = ap (λ (k : ℕ). known (sizeIn e k)) z ∙ ap known (zero-kind e)
 
 pub past-kinds : (e k : ℕ) → 12 ≤ k → sizeIn e k ≡ none
 unfolding sizeIn

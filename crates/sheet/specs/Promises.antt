@@ -1,5 +1,5 @@
 -- What the sheet promises (demand 3), of the contracts of its calls and at real bitmaps. Proved in proofs/Readings and proofs/Writings.
-use Prim.Native.Nat.{ℕ, _+_, _*_, _≤_, _<_}
+use Prim.Native.Nat.{ℕ, _+_, _*_, _^_, _≤_, _<_}
 use mathlib.Core.Path.{_≡_}
 use mathlib.Core.List.{List}
 use mathlib.Core.Logic.{_↔_, _⊎_}
@@ -10,16 +10,42 @@ use Rattle.storage.specs.Stores.{Bits, Bounded, limit, view, written}
 use Rattle.storage.specs.declared.Bitmap.{Bitmap}
 use Rattle.storage.specs.declared.Refusal.{Refusal}
 use Rattle.storage.specs.declared.Refusal.the-variants.{StoreTooLong, CountOverStore, NoSpace, NotSheet, CutRecord, BytesRemain, NewerKind, NoEdition}
-use Rattle.sheet.specs.Kinds.{kindOf}
+use Rattle.sheet.specs.Kinds.{sizeIn, ruleOf, kindOf, payloadOf}
 use Rattle.sheet.specs.Reader.{Edition, refused, done, countIn, read}
 use Rattle.sheet.specs.Meaning.{Header, start, Whole, effect, AtRecord, Newer, Applies, Accepted}
 use Rattle.sheet.specs.Reads.{editionOf, latest, fitting, Reads}
 use Rattle.sheet.specs.Writer.{Request, duty, Entry, edit, good, checkedOf, bytesOf}
 use Rattle.sheet.specs.Plain.{sheetOf, editsIn, refusalOf, entryOf, Call, InRow, answers, lastLength, lastBuffer, plainAnswers, lastPlain}
 use Rattle.sheet.specs.declared.Edit.{Edit}
+use Rattle.sheet.specs.declared.Edit.the-variants.{Set, Unset, SetRegion, SetField, Shift, Rotate, Resize, Reverse, ToggleRegion, Open, Close}
 use Rattle.sheet.specs.declared.Fields.{Fields}
 use Rattle.sheet.specs.declared.Reading.{Reading}
 use Rattle.sheet.specs.declared.Added.{Added}
+
+-- the fields of an edit are in the ranges of the table
+abbrev pub Ranged : Edit → Type 0
+Ranged (Set p) = p < 2 ^ 32
+Ranged (Unset p) = p < 2 ^ 32
+Ranged (SetRegion v p k) = (p < 2 ^ 32) × (k < 2 ^ 32)
+Ranged (SetField p w v) = (p < 2 ^ 32) × (w ≤ 64) × (v < 2 ^ 64)
+Ranged (Shift d k) = k < 2 ^ 32
+Ranged (Rotate d k) = k < 2 ^ 32
+Ranged (Resize n) = n ≤ 4_294_967_296
+Ranged Reverse = Unit {0}
+Ranged (ToggleRegion p k) = (p < 2 ^ 32) × (k < 2 ^ 32)
+Ranged (Open p k) = (p < 2 ^ 32) × (k < 2 ^ 32)
+Ranged (Close p k) = (p < 2 ^ 32) × (k < 2 ^ 32)
+
+-- the payload p is the layout of the edit
+pub record Laid (kind : ℕ) (p : List ℕ) (e : Edit) : Type 0 where
+  pub kind-is : kindOf e ≡ kind
+  pub ranged : Ranged e
+  pub bytes-are : payloadOf e ≡ p
+
+-- 12: bytes of a kind's length are a good payload exactly where they are the layout of an edit of that kind
+abbrev pub PayloadsExact : Type 0
+PayloadsExact =
+    (kind : ℕ) (p : List ℕ) (e : Edit) → sizeIn latest kind ≡ some (length p) → ((i : ℕ) → getD p i 0 < 256) → (ruleOf kind p ≡ some e) ↔ Laid kind p e
 
 abbrev pub IsEdition : ℕ → Type 0
 IsEdition n = (1 ≤ n) × (n ≤ latest)
