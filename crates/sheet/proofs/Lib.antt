@@ -7,6 +7,7 @@ pub mod Steps
 pub mod Readings
 pub mod Payloads
 pub mod Rules
+pub mod Spaces
 pub mod Laid
 pub mod Requests
 pub mod Written

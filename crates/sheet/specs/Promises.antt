@@ -6,14 +6,14 @@ use mathlib.Core.Logic.{_↔_, _⊎_}
 use mathlib.Core.Option.{Option, none, some}
 use lib.ListN.{length, getD, take, drop}
 use Rattle.word.specs.Bits.{member}
-use Rattle.storage.specs.Stores.{Bits, Bounded, limit, view, written}
+use Rattle.storage.specs.Stores.{Bits, Bounded, Outcome, limit, view, written}
 use Rattle.storage.specs.declared.Bitmap.{Bitmap}
 use Rattle.storage.specs.declared.Refusal.{Refusal}
 use Rattle.storage.specs.declared.Refusal.the-variants.{StoreTooLong, CountOverStore, NoSpace, NotSheet, CutRecord, BytesRemain, NewerKind, NoEdition}
 use Rattle.sheet.specs.Kinds.{sizeIn, ruleOf, kindOf, payloadOf}
 use Rattle.sheet.specs.Reader.{Edition, refused, done, countIn, read}
 use Rattle.sheet.specs.Meaning.{Header, start, Whole, effect, AtRecord, Newer, Applies, Accepted}
-use Rattle.sheet.specs.Reads.{editionOf, latest, fitting, Reads}
+use Rattle.sheet.specs.Reads.{step, editionOf, latest, fitting, Reads}
 use Rattle.sheet.specs.Writer.{Request, duty, Entry, edit, good, checkedOf, bytesOf}
 use Rattle.sheet.specs.Plain.{sheetOf, editsIn, refusalOf, entryOf, Call, InRow, answers, lastLength, lastBuffer, plainAnswers, lastPlain}
 use Rattle.sheet.specs.declared.Edit.{Edit}
@@ -46,6 +46,10 @@ pub record Laid (kind : ℕ) (p : List ℕ) (e : Edit) : Type 0 where
 abbrev pub PayloadsExact : Type 0
 PayloadsExact =
     (kind : ℕ) (p : List ℕ) (e : Edit) → sizeIn latest kind ≡ some (length p) → ((i : ℕ) → getD p i 0 < 256) → (ruleOf kind p ≡ some e) ↔ Laid kind p e
+
+-- 6: in a store that 1 lets pass, a step of such an edit is refused for want of space alone
+abbrev pub OnlySpace : Type 0
+OnlySpace = (c : ℕ) (e : Edit) (b : Bits) (x : Refusal) → c ≤ limit → Bounded b → b .count ≤ c → Ranged e → step e c b ≡ Outcome.refused x → x ≡ NoSpace
 
 abbrev pub IsEdition : ℕ → Type 0
 IsEdition n = (1 ≤ n) × (n ≤ latest)
