@@ -1,0 +1,143 @@
+-- The starred cases of 01, "Small books to try": one table of what is asked and what must come out. proofs/Starred: every row holds.
+use Prim.Native.Nat.{ℕ, zero, suc}
+use mathlib.Core.Bool.{Bool, true, false, _&&_}
+use mathlib.Core.List.{List, [], _∷_, _++_}
+use lib.ListN.{length}
+use lib.Dec.{eqb}
+use Rattle.storage.specs.Refusals.{changeNumber, changeRecord, foundNumber, numberNumber, numberValue, fieldNumber, fieldValue, truthNumber, truthValue}
+use Rattle.storage.specs.Stores.{Outcome, view, reading, answer, store, outcome}
+use Rattle.storage.specs.declared.Found.{Found}
+use Rattle.storage.specs.declared.Found.the-variants.{At, Nothing, Refused}
+use Rattle.storage.specs.declared.Number.{Number}
+use Rattle.storage.specs.declared.Field.{Field}
+use Rattle.storage.specs.declared.Truth.{Truth}
+use Rattle.slice.specs.Slices.{equal, fieldAt, nextClear}
+use Rattle.bits.specs.Bits.{selected}
+use Rattle.shift.specs.Shifts.{rotatingRight}
+use Rattle.bitmap.specs.Bitmaps.{flippingBit}
+use Rattle.shape.specs.Shapes.{tailOutcome, headOutcome}
+use Rattle.text.specs.Readings.{readingList}
+use Rattle.text.specs.Texts.{textOf}
+use Rattle.sheet.specs.Reads.{Course, course, readAnswer, readStore, readingNumber, readingRecord, readingCount}
+
+-- what is asked; a bitmap's words are all of its store, but in `xori`, where it is the first of them
+pub data Ask : Type 0 where
+  from-list : (text : List ℕ) (capacity : ℕ) → Ask
+  next-clear : (words : List ℕ) (i : ℕ) → Ask
+  first-clear : (words : List ℕ) → Ask
+  get-field : (words : List ℕ) (i width : ℕ) → Ask
+  select : (words : List ℕ) (r : ℕ) → Ask
+  eq : (words others : List ℕ) → Ask
+  rotate-right : (words : List ℕ) (k : ℕ) → Ask
+  xori : (words : List ℕ) (count i : ℕ) → Ask
+  split-off : (words : List ℕ) (at capacity : ℕ) → Ask
+  -- from an empty bitmap
+  read : (edition : ℕ) (sheet : List ℕ) (capacity : ℕ) → Ask
+
+abbrev pub zeros : ℕ → List ℕ
+zeros zero = []
+zeros (suc n) = 0 ∷ zeros n
+
+-- the number, the count, and every word of the store
+abbrev pub changed : Outcome → List ℕ → ℕ → List ℕ
+changed o ws n = let r = answer o (record { count = n }) in changeNumber r ∷ changeRecord r .count ∷ store o ws n
+
+-- the number, 1 where something was found, and the place
+abbrev pub found : Found → List ℕ
+found (At p) = 0 ∷ 1 ∷ p ∷ []
+found Nothing = 0 ∷ 0 ∷ 0 ∷ []
+found (Refused e) = foundNumber (Refused e) ∷ 0 ∷ 0 ∷ []
+
+abbrev pub counted : Number → List ℕ
+counted r = numberNumber r ∷ numberValue r ∷ []
+
+abbrev pub fielded : Field → List ℕ
+fielded r = fieldNumber r ∷ fieldValue r ∷ []
+
+abbrev pub tested : Truth → List ℕ
+tested r = truthNumber r ∷ truthValue r ∷ []
+
+-- the number, the record, the word count, and the list of the result
+abbrev pub sheeted : Course → ℕ → List ℕ
+sheeted k c =
+    let r = readAnswer k in
+    readingNumber r ∷ readingRecord r ∷ readingCount r ∷ textOf (view (readStore k (zeros c)) (readingCount r))
+
+-- what comes out, by the definitions that the contracts cite
+unfoldable pub outOf : Ask → List ℕ
+unfolding outcome readingList answer store reading nextClear fieldAt selected equal rotatingRight flippingBit headOutcome tailOutcome course view
+outOf (from-list text c) = changed (outcome (readingList text) (zeros c) 0) (zeros c) 0
+outOf (next-clear ws i) = counted (reading ws (length ws) Number.Refused (λ s. Number.Is (nextClear s i)))
+outOf (first-clear ws) = counted (reading ws (length ws) Number.Refused (λ s. Number.Is (nextClear s 0)))
+outOf (get-field ws i width) = fielded (reading ws (length ws) Field.Refused (fieldAt i width))
+outOf (select ws r) = found (reading ws (length ws) Found.Refused (selected r))
+outOf (eq ws os) = tested (reading ws (length ws) Truth.Refused (λ s. reading os (length os) Truth.Refused (λ t. Truth.Is (equal s t))))
+outOf (rotate-right ws k) = changed (outcome (rotatingRight k) ws (length ws)) ws (length ws)
+outOf (xori ws n i) = changed (outcome (flippingBit i) ws n) ws n
+outOf (split-off ws at c) = changed (headOutcome at ws (length ws) (zeros c)) ws (length ws) ++ changed (tailOutcome at ws (length ws) (zeros c)) (zeros c) 0
+outOf (read e sheet c) = sheeted (course e sheet [] 0 c) c
+
+pub record Row : Type 0 where
+  pub asked : Ask
+  pub out : List ℕ
+
+abbrev pub row : Ask → List ℕ → Row
+row a o = record { asked = a; out = o }
+
+abbrev pub same : List ℕ → List ℕ → Bool
+same [] [] = true
+same [] (y ∷ ys) = false
+same (x ∷ xs) [] = false
+same (x ∷ xs) (y ∷ ys) = eqb x y && same xs ys
+
+-- every row comes out as it says
+unfoldable pub hold : List Row → Bool
+unfolding outOf
+hold [] = true
+hold (r ∷ rs) = same (outOf (r .asked)) (r .out) && hold rs
+
+-- the sheet of 01
+abbrev pub sheet : List ℕ
+sheet =
+    0x4e ∷ 0x53 ∷ 0x00 ∷ 0x03 ∷ 0x83 ∷ 0x00 ∷ 0x09 ∷ 0x80 ∷ 0x00 ∷ 0x00 ∷ 0x02 ∷ 0x00 ∷ 0x00 ∷ 0x00 ∷ 0x01 ∷ 0x80 ∷ 0x01 ∷ 0x00 ∷ 0x02 ∷ 0x68 ∷ 0x69 ∷ 0x8a ∷ 0x00 ∷ 0x08 ∷ 0x00 ∷ 0x00 ∷ 0x00 ∷ 0x05 ∷ 0x00 ∷ 0x00 ∷ 0x00 ∷ 0x02 ∷ []
+
+abbrev pub starred : List Row
+starred =
+    -- the empty text: 7
+    row (from-list [] 2) (7 ∷ 0 ∷ 0 ∷ 0 ∷ [])
+    -- the text `,`: 7
+    ∷ row (from-list (44 ∷ []) 2) (7 ∷ 0 ∷ 0 ∷ 0 ∷ [])
+    -- the text `1,,`: 7
+    ∷ row (from-list (49 ∷ 44 ∷ 44 ∷ []) 2) (7 ∷ 0 ∷ 0 ∷ 0 ∷ [])
+    -- the text `5-3`: 7
+    ∷ row (from-list (53 ∷ 45 ∷ 51 ∷ []) 2) (7 ∷ 0 ∷ 0 ∷ 0 ∷ [])
+    -- the text `4294967296`: 7
+    ∷ row (from-list (52 ∷ 50 ∷ 57 ∷ 52 ∷ 57 ∷ 54 ∷ 55 ∷ 50 ∷ 57 ∷ 54 ∷ []) 2) (7 ∷ 0 ∷ 0 ∷ 0 ∷ [])
+    -- `1,` reads {1}
+    ∷ row (from-list (49 ∷ 44 ∷ []) 2) (0 ∷ 1 ∷ 2 ∷ 0 ∷ [])
+    -- ` 1 - 3 , 2` reads {1, 2, 3}
+    ∷ row (from-list (32 ∷ 49 ∷ 32 ∷ 45 ∷ 32 ∷ 51 ∷ 32 ∷ 44 ∷ 32 ∷ 50 ∷ []) 2) (0 ∷ 1 ∷ 14 ∷ 0 ∷ [])
+    -- `4294967295` into two words: 6
+    ∷ row (from-list (52 ∷ 50 ∷ 57 ∷ 52 ∷ 57 ∷ 54 ∷ 55 ∷ 50 ∷ 57 ∷ 53 ∷ []) 2) (6 ∷ 0 ∷ 0 ∷ 0 ∷ [])
+    -- one word: next_clear(200) is 200
+    ∷ row (next-clear (5 ∷ []) 200) (0 ∷ 200 ∷ [])
+    -- all ones: first_clear is 64
+    ∷ row (first-clear (0xffff_ffff_ffff_ffff ∷ [])) (0 ∷ 64 ∷ [])
+    -- bits 60 to 63: get_field(60, 8) is 15
+    ∷ row (get-field (0xf000_0000_0000_0000 ∷ []) 60 8) (0 ∷ 15 ∷ [])
+    -- bits 1 and 4: select(1) is 4, select(2) none
+    ∷ row (select (18 ∷ []) 1) (0 ∷ 1 ∷ 4 ∷ [])
+    ∷ row (select (18 ∷ []) 2) (0 ∷ 0 ∷ 0 ∷ [])
+    -- bits 3, 69, 70, 100 split at 70: {3, 69} and {0, 30}
+    ∷ row (split-off (8 ∷ 68719476832 ∷ []) 70 2) (0 ∷ 2 ∷ 8 ∷ 32 ∷ 0 ∷ 1 ∷ 1073741825 ∷ 0 ∷ [])
+    -- [1] and [1, 0] are equal, yet rotating right by 1 puts the bit at 63 and at 127
+    ∷ row (eq (1 ∷ []) (1 ∷ 0 ∷ [])) (0 ∷ 1 ∷ [])
+    ∷ row (rotate-right (1 ∷ []) 1) (0 ∷ 1 ∷ 0x8000_0000_0000_0000 ∷ [])
+    ∷ row (rotate-right (1 ∷ 0 ∷ []) 1) (0 ∷ 2 ∷ 0 ∷ 0x8000_0000_0000_0000 ∷ [])
+    -- xori(130) twice on [1]: three words, then [1]
+    ∷ row (xori (1 ∷ 7 ∷ 7 ∷ 7 ∷ []) 1 130) (0 ∷ 3 ∷ 1 ∷ 0 ∷ 4 ∷ 7 ∷ [])
+    ∷ row (xori (1 ∷ 0 ∷ 4 ∷ 7 ∷ []) 3 130) (0 ∷ 1 ∷ 1 ∷ 0 ∷ 0 ∷ 7 ∷ [])
+    -- the sheet, in both editions: 1 13 3 0, and 2 0 3 1 4, 7-8
+    ∷ row (read 1 sheet 128) (13 ∷ 3 ∷ 0 ∷ [])
+    ∷ row (read 2 sheet 128) (0 ∷ 3 ∷ 1 ∷ 52 ∷ 44 ∷ 32 ∷ 55 ∷ 45 ∷ 56 ∷ [])
+    ∷ []
