@@ -1,32 +1,25 @@
--- What is laid out of an edit is read back as it.
+-- What is laid out of an edit is read back as it, and a good payload is the layout of its edit.
 use Prim.Native.Nat.{ℕ, zero, suc, _+_, _*_, _^_, _%_, _≤_, _<_}
-use mathlib.Core.Path.{_≡_, refl, sym, ap, _∙_}
+use mathlib.Core.Path.{_≡_, refl, sym, ap, ap₂, _∙_, subst}
 use mathlib.Core.Bool.{Bool, true, false, _&&_}
+use mathlib.Core.Logic.{_↔_}
 use mathlib.Core.Option.{some}
 use native.Mathlib.Omega.{arith}
-use native.Mathlib.Nat.{mod-eq-of-lt, mul-comm, pow-suc, one-le-pow}
+use native.Mathlib.Nat.{mod-eq-of-lt}
 use lib.ListN.{length}
-use lib.Arith.{mod-mul}
 use borrow.Author.Tests.{le-leb, eq-eqb}
 use Rattle.word.specs.Sets.{val}
 use Rattle.word.specs.Bits.{isOne}
+use Rattle.word.proofs.Cases.{by-lt}
 use Rattle.sheet.specs.Bytes.{number, bytes, bits}
 use Rattle.sheet.specs.Kinds.{only, unused, rowOf, sizeIn, parseBy, ruleOf, kindOf, numbered, bytesBy, payloadOf}
-use Rattle.sheet.specs.Promises.{Ranged}
+use Rattle.sheet.specs.Reads.{latest}
+use Rattle.sheet.specs.Promises.{Ranged, Laid, PayloadsExact}
 use Rattle.sheet.specs.declared.Edit.{Edit}
 use Rattle.sheet.specs.declared.Edit.the-variants.{Set, Unset, SetRegion, SetField, Shift, Rotate, Resize, Reverse, ToggleRegion, Open, Close}
-use Rattle.sheet.proofs.Tables.{Below, below-at}
-
-pub length-bytes : (n x : ℕ) → length (bytes n x) ≡ n
-unfolding bytes
-length-bytes zero x = refl
-length-bytes (suc n) x = ap suc (length-bytes n x)
-
-number-mod : (n x : ℕ) → number (bytes n x) ≡ x % 256 ^ n
-unfolding number bytes
-number-mod zero x = omega arith
-number-mod (suc n) x =
-    rw (length-bytes n x, number-mod n x, pow-suc 256 n, mul-comm (256 ^ n) 256) (sym (mod-mul x (omega arith) (one-le-pow n 256 (omega arith))))
+use Rattle.sheet.proofs.Tables.{below-at, zero-kind, past-kinds, fine}
+use Rattle.sheet.proofs.Turns.{none-some, some-inj}
+use Rattle.sheet.proofs.Rules.{length-bytes, number-mod, number-fits, bytes-number, RuleFor, each-rule}
 
 -- ---- a flag, and the fields beside it
 
@@ -160,32 +153,33 @@ pub payload-length : (e : Edit) → length (payloadOf e) ≡ bytesBy (rowOf (kin
 unfolding payloadOf
 payload-length e = length-bytes (bytesBy (rowOf (kindOf e))) (numbered e)
 
--- the latest edition has the kinds 1 to 11, with payloads of at most 13 bytes
-abbrev Fine : ℕ → Type 0
-Fine k = (sizeIn 2 (suc k) ≡ some (bytesBy (rowOf (suc k)))) × (bytesBy (rowOf (suc k)) ≤ 13)
-
-each-fine : Below Fine 11
-unfolding sizeIn rowOf
-each-fine = (
-  (
-    (
-      (
-        (((((((tt, (refl, omega arith)), (refl, omega arith)), (refl, omega arith)), (refl, omega arith)), (refl, omega arith)), (refl, omega arith)), (refl, omega arith)),
-        (refl, omega arith),
-      ),
-      (refl, omega arith),
-    ),
-    (refl, omega arith),
-  ),
-  (refl, omega arith),
-)
-
-pub fine : (k : ℕ) → 1 ≤ k → k ≤ 11 → (sizeIn 2 k ≡ some (bytesBy (rowOf k))) × (bytesBy (rowOf k) ≤ 13)
-fine zero l h = absurd (omega arith)
-fine (suc k) l h = below-at Fine 11 k each-fine (omega arith)
-
 pub payload-short : (e : Edit) → length (payloadOf e) ≤ 65_535
 payload-short e = omega (arith, payload-length e, fine (kindOf e) (kind-from e) (kind-small e) .1)
 
 pub size-latest : (e : Edit) → sizeIn 2 (kindOf e) ≡ some (length (payloadOf e))
 size-latest e = fine (kindOf e) (kind-from e) (kind-small e) .0 ∙ ap some (sym (payload-length e))
+
+-- (c) of 12
+pub payloads-exact : PayloadsExact
+unfolding ruleOf payloadOf
+payloads-exact zero p e s h = absurd (none-some (sym (zero-kind latest) ∙ s))
+payloads-exact (suc k) p e s h = by-lt k 11 here (λ l. absurd (none-some (sym (past-kinds latest (suc k) (omega arith)) ∙ s)))
+  where
+    here : k < 11 → (ruleOf (suc k) p ≡ some e) ↔ Laid (suc k) p e
+    here l = (to, back)
+      where
+        size : bytesBy (rowOf (suc k)) ≡ length p
+        size = some-inj (sym (fine (suc k) (omega arith) (omega arith) .0) ∙ s)
+
+        to : ruleOf (suc k) p ≡ some e → Laid (suc k) p e
+        to q =
+            let fits : number p < 256 ^ bytesBy (rowOf (suc k)) = subst (λ (n : ℕ). number p < 256 ^ n) (sym size) (number-fits p h) in
+            let (a, b, c) = below-at RuleFor 11 k each-rule l (number p) e fits q in
+            record {
+              kind-is = a;
+              ranged = c;
+              bytes-are = ap₂ (λ (m x : ℕ). bytes (bytesBy (rowOf m)) x) a b ∙ ap (λ (n : ℕ). bytes n (number p)) size ∙ bytes-number p h;
+            }
+
+        back : Laid (suc k) p e → ruleOf (suc k) p ≡ some e
+        back g = ap₂ ruleOf (sym (g .kind-is)) (sym (g .bytes-are)) ∙ read-back e (g .ranged)

@@ -1,55 +1,69 @@
 -- What is asked of the writer: its checks are the plain sheet's tests, and what they let pass fits its frame.
 use Prim.Native.Nat.{ℕ, zero, suc, _≤_}
 use mathlib.Core.Path.{_≡_, refl, sym, ap, _∙_, subst}
-use mathlib.Core.Bool.{Bool, true, false}
+use mathlib.Core.Bool.{Bool, true, false, _||_}
 use mathlib.Core.List.{List, [], _∷_}
 use mathlib.Core.Option.{Option, none, some}
 use native.Mathlib.Omega.{arith}
 use lib.ListN.{length, getElem?}
-use lib.Dec.{ltb}
+use lib.Dec.{ltb, eqb}
 use borrow.Author.Tests.{lt-ltb, ne-eqb}
 use Rattle.word.specs.Sets.{choose}
-use Rattle.word.proofs.Cases.{by-lt}
+use Rattle.word.proofs.Cases.{by-lt, or-true}
 use Rattle.storage.specs.declared.Refusal.{Refusal}
 use Rattle.storage.specs.declared.Refusal.the-variants.{WidthOver, IndexOver, BadPayload, NewerKind}
 use Rattle.sheet.specs.Kinds.{kindOf}
-use Rattle.sheet.specs.Writer.{Request, duty, remark, Entry, edit, note, Checked, bad, good, makers, madeBy, checkedOf}
-use Rattle.sheet.specs.Plain.{refusalOf, entryBy, entryOf, Typed}
-use Rattle.sheet.specs.declared.Edit.{Edit}
+use Rattle.sheet.specs.Writer.{Request, duty, remark, Entry, note, Checked, bad, good, makers, madeBy, checkedOf}
+use Rattle.sheet.specs.Plain.{wrongKind, refusalOf, editFor, entryOf, Typed}
 use Rattle.sheet.specs.declared.Fields.{Fields}
 use Rattle.sheet.proofs.Tables.{Below, below-at, past-end}
+use Rattle.sheet.proofs.Turns.{none-some, take-true}
 use Rattle.sheet.proofs.Laid.{Proper}
 
 -- ---- the same tests
 
-abbrev pub verdict : Checked → Option Refusal → Checked
-verdict c (some e) = bad e
-verdict c none = good (entryBy c)
+abbrev pub verdict : Request → Option Refusal → Checked
+verdict q (some e) = bad e
+verdict q none = good (entryOf q)
 
-by-limit : (t : Bool) (r : Refusal) (e : Entry) → choose t (bad r) (good e) ≡ verdict (choose t (bad r) (good e)) (choose t (some r) none)
-by-limit true r e = refl
-by-limit false r e = refl
+by-limit : (t : Bool) (r : Refusal) (q : Request) → choose t (bad r) (good (entryOf q)) ≡ verdict q (choose t (some r) none)
+by-limit true r q = refl
+by-limit false r q = refl
 
 abbrev SameFor : Fields → ℕ → Type 0
-SameFor f k = checkedOf (duty k f) ≡ verdict (checkedOf (duty k f)) (refusalOf (duty k f))
+SameFor f k = checkedOf (duty k f) ≡ verdict (duty k f) (refusalOf (duty k f))
 
 same-kinds : (f : Fields) → Below (SameFor f) 12
-unfolding checkedOf refusalOf
-same-kinds f =
-    ((((((((((((tt, refl), refl), refl), refl), by-limit (ltb 64 (f .width)) WidthOver _), refl), refl), by-limit (ltb 4_294_967_296 (f .size)) IndexOver _), refl), refl), refl), refl)
+unfolding checkedOf refusalOf entryOf
+same-kinds f = (
+  (
+    (
+      (
+        (
+          (((((((tt, refl), refl), refl), refl), by-limit (ltb 64 (f .width)) WidthOver (duty 4 f)), refl), refl),
+          by-limit (ltb 4_294_967_296 (f .size)) IndexOver (duty 7 f),
+        ),
+        refl,
+      ),
+      refl,
+    ),
+    refl,
+  ),
+  refl,
+)
 
 same-past : (f : Fields) (k : ℕ) → 12 ≤ k → SameFor f k
 unfolding checkedOf refusalOf
 same-past f zero h = absurd (omega arith)
 same-past f (suc k) h = rw (past-end makers k (omega arith), lt-ltb 11 (suc k) (omega arith), ne-eqb (suc k) 0 (omega arith)) refl
 
-pub same-checks : (q : Request) → checkedOf q ≡ verdict (checkedOf q) (refusalOf q)
-unfolding checkedOf refusalOf
+pub same-checks : (q : Request) → checkedOf q ≡ verdict q (refusalOf q)
+unfolding checkedOf refusalOf entryOf
 same-checks (duty k f) = by-lt k 12 (λ l. below-at (SameFor f) 12 k (same-kinds f) l) (λ l. same-past f k l)
 same-checks (remark k p) = go (ltb 127 k) (ltb 65_535 (length p))
   where
     go : (x y : Bool) → choose x (bad NewerKind) (choose y (bad BadPayload) (good (note k p)))
-        ≡ verdict (choose x (bad NewerKind) (choose y (bad BadPayload) (good (note k p)))) (choose x (some NewerKind) (choose y (some BadPayload) none))
+        ≡ verdict (remark k p) (choose x (some NewerKind) (choose y (some BadPayload) none))
     go true y = refl
     go false true = refl
     go false false = refl
@@ -120,56 +134,32 @@ checked-proper (remark k p) t = go (ltb 127 k) refl
 -- a request with nothing wrong asks for a record that fits its frame
 pub proper-entry : (q : Request) → TypedQ q → refusalOf q ≡ none → Proper (entryOf q)
 proper-entry q t e =
-    subst ProperC (same-checks q ∙ ap (verdict (checkedOf q)) e) (checked-proper q t)
+    subst ProperC (same-checks q ∙ ap (verdict q) e) (checked-proper q t)
 
 -- ---- the kind asked for
 
-by-good : (x e : Edit) → good (edit x) ≡ good (edit e) → kindOf e ≡ kindOf x
-by-good x e q = let y : e ≡ x = cc in ap kindOf y
-
-by-limited : (t : Bool) (r : Refusal) (x e : Edit) → choose t (bad r) (good (edit x)) ≡ good (edit e) → kindOf e ≡ kindOf x
-by-limited true r x e q = absurd (let z : _≡_ {A = ℕ} 0 1 = cc in omega arith)
-by-limited false r x e q = by-good x e q
-
-not-good : {r : Refusal} {e : Entry} → bad r ≡ good e → ⊥
-not-good q = let z : _≡_ {A = ℕ} 0 1 = cc in omega arith
-
 abbrev KindFor : Fields → ℕ → Type 0
-KindFor f k = (e : Edit) → checkedOf (duty k f) ≡ good (edit e) → kindOf e ≡ k
+KindFor f k = refusalOf (duty k f) ≡ none → kindOf (editFor k f) ≡ k
 
 kind-each : (f : Fields) → Below (KindFor f) 12
-unfolding checkedOf kindOf
+unfolding refusalOf editFor kindOf
 kind-each f = (
   (
     (
-      (
-        (
-          (
-            (
-              (
-                ((((tt, (λ e q. absurd (not-good q))), (λ e q. by-good _ e q)), (λ e q. by-good _ e q)), (λ e q. by-good _ e q)),
-                (λ e q. by-limited (ltb 64 (f .width)) WidthOver _ e q),
-              ),
-              (λ e q. by-good _ e q),
-            ),
-            (λ e q. by-good _ e q),
-          ),
-          (λ e q. by-limited (ltb 4_294_967_296 (f .size)) IndexOver _ e q),
-        ),
-        (λ e q. by-good _ e q),
-      ),
-      (λ e q. by-good _ e q),
+      (((((((((tt, (λ q. absurd (none-some (sym q)))), (λ q. refl)), (λ q. refl)), (λ q. refl)), (λ q. refl)), (λ q. refl)), (λ q. refl)), (λ q. refl)), (λ q. refl)),
+      (λ q. refl),
     ),
-    (λ e q. by-good _ e q),
+    (λ q. refl),
   ),
-  (λ e q. by-good _ e q),
+  (λ q. refl),
 )
 
 -- the record asked for has the kind asked for
-pub kind-kept : (f : Fields) (k : ℕ) (e : Edit) → checkedOf (duty k f) ≡ good (edit e) → kindOf e ≡ k
-unfolding checkedOf
-kind-kept f k e q = by-lt k 12 (λ l. below-at (KindFor f) 12 k (kind-each f) l e q) (λ l. past k l q)
+pub kind-kept : (f : Fields) (k : ℕ) → refusalOf (duty k f) ≡ none → kindOf (editFor k f) ≡ k
+unfolding refusalOf
+kind-kept f k q = by-lt k 12 (λ l. below-at (KindFor f) 12 k (kind-each f) l q) (λ l. absurd (past k l q))
   where
-    past : (k : ℕ) → 12 ≤ k → checkedOf (duty k f) ≡ good (edit e) → kindOf e ≡ k
-    past zero l p = absurd (omega arith)
-    past (suc k) l p = absurd (not-good (sym (ap (λ (o : Option (Fields → Checked)). madeBy o f) (past-end makers k (omega arith))) ∙ p))
+    past : (k : ℕ) → 12 ≤ k → refusalOf (duty k f) ≡ none → ⊥
+    past k l q =
+        let w : wrongKind (duty k f) ≡ true = ap (λ (t : Bool). eqb k 0 || t) (lt-ltb 11 k (omega arith)) ∙ or-true (eqb k 0) in
+        none-some (sym q ∙ take-true _ _ w)

@@ -1,29 +1,37 @@
--- A payload is good exactly where it is the layout of an edit of its kind whose fields are in their ranges.
+-- What a payload's rule lets pass is laid out as it was, with fields in their ranges.
 use Prim.Native.Nat.{ℕ, zero, suc, _+_, _*_, _^_, _/_, _%_, _≤_, _<_}
 use mathlib.Core.Path.{_≡_, refl, sym, ap, ap₂, _∙_, subst}
 use mathlib.Core.Bool.{Bool, true, false, _&&_}
 use mathlib.Core.List.{List, [], _∷_}
-use mathlib.Core.Logic.{_↔_}
 use mathlib.Core.Option.{some}
 use native.Mathlib.Omega.{arith}
 use native.Mathlib.Nat.{mod-eq-of-lt, mod-lt, mul-comm, mul-assoc, add-comm, add-mul-div-right, pow-suc, one-le-pow}
 use lib.ListN.{length, getD}
-use lib.Arith.{digits-lt, digits-div}
+use lib.Arith.{digits-lt, digits-div, mod-mul}
 use lib.Pow.{pow-pos, shr-shr, split, recompose}
 use lib.Dec.{leb, eqb, eqb→eq, leb→le}
 use Rattle.word.specs.Sets.{val}
 use Rattle.word.specs.Bits.{isOne}
-use Rattle.word.proofs.Cases.{by-lt, and-true}
+use Rattle.word.proofs.Cases.{and-true}
 use Rattle.sheet.specs.Bytes.{number, bytes, bits}
-use Rattle.sheet.specs.Kinds.{only, unused, rowOf, parseBy, ruleOf, kindOf, numbered, bytesBy, payloadOf}
-use Rattle.sheet.specs.Reads.{latest}
-use Rattle.sheet.specs.Promises.{Ranged, Laid, PayloadsExact}
+use Rattle.sheet.specs.Kinds.{only, unused, rowOf, parseBy, kindOf, numbered, bytesBy}
+use Rattle.sheet.specs.Promises.{Ranged}
 use Rattle.sheet.specs.declared.Edit.{Edit}
-use Rattle.sheet.proofs.Tables.{Below, below-at, zero-kind, past-kinds}
+use Rattle.sheet.proofs.Tables.{Below}
 use Rattle.sheet.proofs.Turns.{none-some, some-inj}
-use Rattle.sheet.proofs.Payloads.{read-back, fine}
 
 -- ---- bytes and their number
+
+pub length-bytes : (n x : ℕ) → length (bytes n x) ≡ n
+unfolding bytes
+length-bytes zero x = refl
+length-bytes (suc n) x = ap suc (length-bytes n x)
+
+pub number-mod : (n x : ℕ) → number (bytes n x) ≡ x % 256 ^ n
+unfolding number bytes
+number-mod zero x = omega arith
+number-mod (suc n) x =
+    rw (length-bytes n x, number-mod n x, pow-suc 256 n, mul-comm (256 ^ n) 256) (sym (mod-mul x (omega arith) (one-le-pow n 256 (omega arith))))
 
 bytes-again : (n a x : ℕ) → bytes n (a * 256 ^ n + x) ≡ bytes n x
 unfolding bytes
@@ -43,17 +51,17 @@ bytes-again (suc n) a x = ap₂ (λ (b : ℕ) (l : List ℕ). b ∷ l) first (ap
         low : (y a : ℕ) → (y + a * 256) % 256 ≡ y % 256
         low y a = omega arith
 
-abbrev AllBytes : List ℕ → Type 0
+abbrev pub AllBytes : List ℕ → Type 0
 AllBytes p = (i : ℕ) → getD p i 0 < 256
 
-number-fits : (p : List ℕ) → AllBytes p → number p < 256 ^ length p
+pub number-fits : (p : List ℕ) → AllBytes p → number p < 256 ^ length p
 unfolding number
 number-fits [] h = omega arith
 number-fits (b ∷ p) h =
     subst (λ (x : ℕ). b * 256 ^ length p + number p < x) (mul-comm 256 (256 ^ length p) ∙ sym (pow-suc 256 (length p)))
     (digits-lt (h 0) (number-fits p (λ i. h (suc i))))
 
-bytes-number : (p : List ℕ) → AllBytes p → bytes (length p) (number p) ≡ p
+pub bytes-number : (p : List ℕ) → AllBytes p → bytes (length p) (number p) ≡ p
 unfolding number bytes
 bytes-number [] h = refl
 bytes-number (b ∷ p) h =
@@ -109,10 +117,10 @@ from-only false x e q = absurd (none-some q)
 
 -- ---- each kind
 
-abbrev Parsed : ℕ → ℕ → Edit → Type 0
+abbrev pub Parsed : ℕ → ℕ → Edit → Type 0
 Parsed k x e = (kindOf e ≡ k) × (numbered e ≡ x) × Ranged e
 
-abbrev RuleFor : ℕ → Type 0
+abbrev pub RuleFor : ℕ → Type 0
 RuleFor k = (x : ℕ) (e : Edit) → x < 256 ^ bytesBy (rowOf (suc k)) → parseBy (rowOf (suc k)) x ≡ some e → Parsed (suc k) x e
 
 is-zero : (x : ℕ) → eqb x 0 ≡ true → x ≡ 0
@@ -184,30 +192,5 @@ rule-11 : RuleFor 10
 unfolding rowOf kindOf numbered
 rule-11 x e l q = subst (Parsed 11 x) (some-inj q) (refl, pair-back x l, (field-small 32 32 x, field-small 0 32 x))
 
-each-rule : Below RuleFor 11
+pub each-rule : Below RuleFor 11
 each-rule = (((((((((((tt, rule-1), rule-2), rule-3), rule-4), rule-5), rule-6), rule-7), rule-8), rule-9), rule-10), rule-11)
-
--- (c) of 12
-pub payloads-exact : PayloadsExact
-unfolding ruleOf payloadOf
-payloads-exact zero p e s h = absurd (none-some (sym (zero-kind latest) ∙ s))
-payloads-exact (suc k) p e s h = by-lt k 11 here (λ l. absurd (none-some (sym (past-kinds latest (suc k) (omega arith)) ∙ s)))
-  where
-    here : k < 11 → (ruleOf (suc k) p ≡ some e) ↔ Laid (suc k) p e
-    here l = (to, back)
-      where
-        size : bytesBy (rowOf (suc k)) ≡ length p
-        size = some-inj (sym (fine (suc k) (omega arith) (omega arith) .0) ∙ s)
-
-        to : ruleOf (suc k) p ≡ some e → Laid (suc k) p e
-        to q =
-            let fits : number p < 256 ^ bytesBy (rowOf (suc k)) = subst (λ (n : ℕ). number p < 256 ^ n) (sym size) (number-fits p h) in
-            let (a, b, c) = below-at RuleFor 11 k each-rule l (number p) e fits q in
-            record {
-              kind-is = a;
-              ranged = c;
-              bytes-are = ap₂ (λ (m x : ℕ). bytes (bytesBy (rowOf m)) x) a b ∙ ap (λ (n : ℕ). bytes n (number p)) size ∙ bytes-number p h;
-            }
-
-        back : Laid (suc k) p e → ruleOf (suc k) p ≡ some e
-        back g = ap₂ ruleOf (sym (g .kind-is)) (sym (g .bytes-are)) ∙ read-back e (g .ranged)

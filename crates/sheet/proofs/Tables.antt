@@ -10,7 +10,7 @@ use lib.ListN.{length, getD, getElem?}
 use lib.Dec.{leb}
 use borrow.Author.Tests.{le-leb, lt-leb}
 use Rattle.word.specs.Sets.{choose}
-use Rattle.sheet.specs.Kinds.{table, sizeIn}
+use Rattle.sheet.specs.Kinds.{table, rowOf, sizeIn, bytesBy}
 use Rattle.sheet.specs.Kernels.{known}
 use Rattle.sheet.specs.declared.Kind.{Kind}
 use Rattle.sheet.specs.declared.Known.{Known}
@@ -85,3 +85,27 @@ row-newer e k n l h = sym (ap (λ (t : Bool). choose t (Bytes (getD rows k (kind
 
 pub row-bytes : (e k : ℕ) → (k ≡ 0 → ⊥) → k < 12 → getD rows k (kind 0 0) .since ≤ e → Bytes (getD rows k (kind 0 0) .bytes) ≡ known (sizeIn e k)
 row-bytes e k n l h = sym (ap (λ (t : Bool). choose t (Bytes (getD rows k (kind 0 0) .bytes)) Newer) (le-leb (getD rows k (kind 0 0) .since) e h)) ∙ row-of e k n l
+
+-- the latest edition has the kinds 1 to 11, with payloads of at most 13 bytes
+abbrev Fine : ℕ → Type 0
+Fine k = (sizeIn 2 (suc k) ≡ some (bytesBy (rowOf (suc k)))) × (bytesBy (rowOf (suc k)) ≤ 13)
+
+each-fine : Below Fine 11
+unfolding sizeIn rowOf
+each-fine = (
+  (
+    (
+      (
+        (((((((tt, (refl, omega arith)), (refl, omega arith)), (refl, omega arith)), (refl, omega arith)), (refl, omega arith)), (refl, omega arith)), (refl, omega arith)),
+        (refl, omega arith),
+      ),
+      (refl, omega arith),
+    ),
+    (refl, omega arith),
+  ),
+  (refl, omega arith),
+)
+
+pub fine : (k : ℕ) → 1 ≤ k → k ≤ 11 → (sizeIn 2 k ≡ some (bytesBy (rowOf k))) × (bytesBy (rowOf k) ≤ 13)
+fine zero l h = absurd (omega arith)
+fine (suc k) l h = below-at Fine 11 k each-fine (omega arith)

@@ -22,14 +22,14 @@ use Rattle.sheet.specs.Bytes.{bytes}
 use Rattle.sheet.specs.Reader.{done, countIn, endAt, read}
 use Rattle.sheet.specs.Meaning.{Header, start, Whole}
 use Rattle.sheet.specs.Reads.{editionOf, fitting, Course, went, course, readAnswer, readStore}
-use Rattle.sheet.specs.Writer.{Request, requested, Entry, checkedOf, bytesOf, framesFault, sheetFault, Left, refuse, started, placed, placedBy, judged, added, Writes, Starts, Adds}
+use Rattle.sheet.specs.Writer.{Request, requested, Entry, bytesOf, framesFault, sheetFault, Left, refuse, started, placed, placedBy, judged, added, Writes, Starts, Adds}
 use Rattle.sheet.specs.Plain.{refusalOf, entryOf, answers, lastLength, lastBuffer, plainAnswers, lastPlain}
 use Rattle.sheet.specs.Promises.{SheetGets, no-header, cut, remain, nothing, AddGets, over, fault, wrong, full, fine, Leaves, AddMeans, StartMeans, WholeLists}
 use Rattle.sheet.specs.declared.Fields.{Fields}
 use Rattle.sheet.specs.declared.Added.{Added}
 use Rattle.sheet.specs.declared.Added.the-variants.{Done, Refused}
 use Rattle.sheet.proofs.Turns.{none-some, take-true, take-false, header?, headed-true, headed-false}
-use Rattle.sheet.proofs.Payloads.{length-bytes}
+use Rattle.sheet.proofs.Rules.{length-bytes}
 use Rattle.sheet.proofs.Laid.{read-sheet, in-latest}
 use Rattle.sheet.proofs.Readings.{course-passes}
 use Rattle.sheet.proofs.Requests.{verdict, same-checks, kind-kept}
@@ -115,8 +115,8 @@ module _ (buf : List ℕ) (len : ℕ) (q : Request) where
   unfolding added
   by-fault l o e = take-false _ _ (le-ltb (length buf) len l) ∙ ap (judged buf len q) e
 
-  by-request : len ≤ length buf → sheetFault (take len buf) ≡ none → (o : Option Refusal) → refusalOf q ≡ o → added buf len q ≡ placedBy buf len (verdict (checkedOf q) o)
-  by-request l e o r = by-fault l none e ∙ ap (placedBy buf len) (same-checks q ∙ ap (verdict (checkedOf q)) r)
+  by-request : len ≤ length buf → sheetFault (take len buf) ≡ none → (o : Option Refusal) → refusalOf q ≡ o → added buf len q ≡ placedBy buf len (verdict q o)
+  by-request l e o r = by-fault l none e ∙ ap (placedBy buf len) (same-checks q ∙ ap (verdict q) r)
 
   no-room : (e : Entry) → (65_535 ≤ countIn buf) ⊎ (length buf < len + length (bytesOf e)) → placed buf len e ≡ refuse NoSpace buf
   unfolding placed
@@ -234,7 +234,7 @@ pub adding-means : (buf : List ℕ) (len : ℕ) (d : Bool) (kind : ℕ) (f : Fie
 adding-means buf len d kind f payload r buf' w = record {
   exact = λ x. ((λ e. subst (AddGets buf len q) (sym (w .answers) ∙ e) (gets buf len q)), λ g. w .answers ∙ given buf len q x g);
   leaves = leaves-by buf (added buf len q) r buf' w (add-leaves buf len q);
-  kind = λ k g e x y. kind-kept g k e (sym (ap checkedOf x) ∙ y);
+  kind = λ k g x y. kind-kept g k (sym (ap refusalOf x) ∙ y);
 }
   where
     q : Request

@@ -15,7 +15,7 @@ use Rattle.storage.specs.declared.Refusal.{Refusal}
 use Rattle.storage.specs.declared.Refusal.the-variants.{NoSpace, NotSheet}
 use Rattle.sheet.specs.Bytes.{bytes}
 use Rattle.sheet.specs.Reader.{countIn}
-use Rattle.sheet.specs.Writer.{Request, requested, Entry, checkedOf, bytesOf, sheetFault, Left, refuse, started, placed, placedBy, judged, added, Writes}
+use Rattle.sheet.specs.Writer.{Request, requested, Entry, bytesOf, sheetFault, Left, refuse, started, placed, placedBy, judged, added, Writes}
 use Rattle.sheet.specs.Plain.{Plain, body, sheetOf, noRoom, refusalOf, entryOf, Answered, refusing, holding, Ask, start, addition, answered, Call, Typed, Went, lengthAfter, InRow, answers, lastLength, lastBuffer, plainAnswers, lastPlain}
 use Rattle.sheet.specs.declared.Fields.{Fields}
 use Rattle.sheet.specs.declared.Added.{Added}
@@ -141,14 +141,14 @@ module _ (buf : List ℕ) (len : ℕ) (es : List Entry) (h : Fronts buf len (som
           by-lt (length buf) (len + length (bytesOf e)) (λ l. absurd (let z : true ≡ false = sym (lt-ltb (length buf) (len + length (bytesOf e)) l) ∙ b in let y : _≡_ {A = ℕ} 0 1 = cc in omega arith)) (λ l. l) in
           (ap Done (sym (longer e)), (sym (longer e), stored e l₂, omega (arith, counted, length-snoc es e), proper-snoc es e (h .3) p))
 
-  agree-checked : (q : Request) → TypedQ q → (o : Option Refusal) → refusalOf q ≡ o → Agrees len (placedBy buf len (verdict (checkedOf q) o)) (holding (length buf) es (entryOf q) o)
+  agree-checked : (q : Request) → TypedQ q → (o : Option Refusal) → refusalOf q ≡ o → Agrees len (placedBy buf len (verdict q o)) (holding (length buf) es (entryOf q) o)
   agree-checked q t (some e) r = (refl, h)
   agree-checked q t none r = agree-room (entryOf q) (proper-entry q t r)
 
   agree-addition : (q : Request) → TypedQ q → Agrees len (added buf len q) (holding (length buf) es (entryOf q) (refusalOf q))
   unfolding added
   agree-addition q t =
-      let e : added buf len q ≡ placedBy buf len (verdict (checkedOf q) (refusalOf q)) =
+      let e : added buf len q ≡ placedBy buf len (verdict q (refusalOf q)) =
       take-false _ _ (le-ltb (length buf) len in-buffer) ∙ ap (judged buf len q) (ap sheetFault (h .1) ∙ no-fault es (h .2) (h .3)) ∙ ap (placedBy buf len) (same-checks q) in
       subst (λ (l : Left). Agrees len l (holding (length buf) es (entryOf q) (refusalOf q))) (sym e) (agree-checked q t (refusalOf q) refl)
 

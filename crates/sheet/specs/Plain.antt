@@ -10,8 +10,9 @@ use Rattle.word.specs.Sets.{choose}
 use Rattle.storage.specs.declared.Refusal.{Refusal}
 use Rattle.storage.specs.declared.Refusal.the-variants.{WidthOver, IndexOver, NoSpace, NotSheet, BadPayload, NewerKind}
 use Rattle.sheet.specs.Bytes.{bytes}
-use Rattle.sheet.specs.Writer.{Request, duty, remark, requested, Entry, edit, note, Checked, bad, good, checkedOf, bytesOf, Starts, Adds}
+use Rattle.sheet.specs.Writer.{Request, duty, remark, requested, Entry, edit, note, bytesOf, Starts, Adds}
 use Rattle.sheet.specs.declared.Edit.{Edit}
+use Rattle.sheet.specs.declared.Edit.the-variants.{Set, Unset, SetRegion, SetField, Shift, Rotate, Resize, Reverse, ToggleRegion, Open, Close}
 use Rattle.sheet.specs.declared.Fields.{Fields}
 use Rattle.sheet.specs.declared.Added.{Added}
 use Rattle.sheet.specs.declared.Added.the-variants.{Done, Refused}
@@ -69,13 +70,19 @@ unfoldable pub refusalOf : Request → Option Refusal
 unfolding firstOf
 refusalOf q = firstOf ((wrongKind q, NewerKind) ∷ (wrongWidth q, WidthOver) ∷ (wrongSize q, IndexOver) ∷ (wrongPayload q, BadPayload) ∷ [])
 
-abbrev pub entryBy : Checked → Entry
-entryBy (bad e) = note 0 []
-entryBy (good e) = e
+-- the edit of a kind by its fields, 1 to 11
+unfoldable pub editFor : ℕ → Fields → Edit
+editFor k f =
+    choose (eqb k 1) (Set (f .p)) (choose (eqb k 2) (Unset (f .p)) (choose (eqb k 3) (SetRegion (f .flag) (f .p) (f .k))
+    (choose (eqb k 4) (SetField (f .p) (f .width) (f .value)) (choose (eqb k 5) (Shift (f .flag) (f .k)) (choose (eqb k 6) (Rotate (f .flag) (f .k))
+    (choose (eqb k 7) (Resize (f .size)) (choose (eqb k 8) Reverse (choose (eqb k 9) (ToggleRegion (f .p) (f .k))
+    (choose (eqb k 10) (Open (f .p) (f .k)) (Close (f .p) (f .k)))))))))))
 
 -- the record that a good request asks for
-abbrev pub entryOf : Request → Entry
-entryOf q = entryBy (checkedOf q)
+unfoldable pub entryOf : Request → Entry
+unfolding editFor
+entryOf (duty k f) = edit (editFor k f)
+entryOf (remark k p) = note k p
 
 -- its answer, and what it holds then
 pub record Answered : Type 0 where

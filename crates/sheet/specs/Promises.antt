@@ -14,8 +14,8 @@ use Rattle.sheet.specs.Kinds.{sizeIn, ruleOf, kindOf, payloadOf}
 use Rattle.sheet.specs.Reader.{Edition, refused, done, countIn, read}
 use Rattle.sheet.specs.Meaning.{Header, start, Whole, effect, AtRecord, Newer, Applies, Accepted}
 use Rattle.sheet.specs.Reads.{step, editionOf, latest, fitting, Reads}
-use Rattle.sheet.specs.Writer.{Request, duty, Entry, edit, good, checkedOf, bytesOf}
-use Rattle.sheet.specs.Plain.{sheetOf, editsIn, refusalOf, entryOf, Call, InRow, answers, lastLength, lastBuffer, plainAnswers, lastPlain}
+use Rattle.sheet.specs.Writer.{Request, duty, Entry, bytesOf}
+use Rattle.sheet.specs.Plain.{sheetOf, editsIn, refusalOf, editFor, entryOf, Call, InRow, answers, lastLength, lastBuffer, plainAnswers, lastPlain}
 use Rattle.sheet.specs.declared.Edit.{Edit}
 use Rattle.sheet.specs.declared.Edit.the-variants.{Set, Unset, SetRegion, SetField, Shift, Rotate, Resize, Reverse, ToggleRegion, Open, Close}
 use Rattle.sheet.specs.declared.Fields.{Fields}
@@ -145,7 +145,7 @@ pub record AddMeans (buf : List ℕ) (len : ℕ) (q : Request) (r : Added) (buf'
   pub exact : (x : Added) → (r ≡ x) ↔ AddGets buf len q x
   pub leaves : Leaves buf r buf'
   -- the record asked for has the kind asked for
-  pub kind : (k : ℕ) (f : Fields) (e : Edit) → q ≡ duty k f → checkedOf q ≡ good (edit e) → kindOf e ≡ k
+  pub kind : (k : ℕ) (f : Fields) → q ≡ duty k f → refusalOf q ≡ none → kindOf (editFor k f) ≡ k
 
 pub record StartMeans (buf : List ℕ) (r : Added) (buf' : List ℕ) : Type 0 where
   pub short : (e : Refusal) → (r ≡ Added.Refused e) ↔ ((length buf < 4) × (e ≡ NoSpace))
