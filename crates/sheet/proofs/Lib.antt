@@ -1,4 +1,3 @@
-pub mod Cases
 pub mod Tables
 pub mod Turns
 pub mod Exact
