@@ -12,7 +12,7 @@ use Rattle.storage.specs.declared.Refusal.{Refusal}
 use Rattle.storage.specs.declared.Refusal.the-variants.{StoreTooLong, CountOverStore, WidthOver, IndexOver, PastLength, NoSpace, NotList, NotAscii, NotSheet, CutRecord, BytesRemain, BadPayload, NewerKind, NoEdition}
 use Rattle.sheet.specs.Reader.{Edition, Answer, refused, done, Turn, stop, next, countIn, endAt, act, then, records, copied, read}
 use Rattle.sheet.specs.Meaning.{Header, start, Whole, item, onward, editOf, effect, Sound, edits, Reached, AtRecord, Newer, Bad, Full, Means}
-use Rattle.sheet.proofs.Turns.{none-some, some-inj, take-true, take-false, header?, headed-true, headed-false, does, effect-append, Did, did, act-did, record-whole, record-cut, all-read, bytes-left}
+use Rattle.sheet.proofs.Turns.{none-some, some-inj, take-true, take-false, header?, headed-true, headed-false, does, effect-append, Did, went, newer, bad, full, did, act-did, record-whole, record-cut, all-read, bytes-left}
 
 module _ {A S : Type 0} (E : Edition A S) (sheet : List ℕ) where
   -- the first i records are sound and applied, and make s of s₀
@@ -56,7 +56,7 @@ module _ {A S : Type 0} (E : Edition A S) (sheet : List ℕ) where
   advance s₀ zero n s h = ap (λ (m : ℕ). records E sheet m 0 4 s₀) (zero-add n) ∙ ap (records E sheet n 0 4) (some-inj (h .1))
   advance s₀ (suc i) n t h =
       let (s, r, g, q) = reaches-pred s₀ i t h in
-      ap (λ (m : ℕ). records E sheet m 0 4 s₀) (suc-add i n ∙ sym (add-suc i n)) ∙ advance s₀ i (suc n) s r ∙ turned n i s (g .0) (next t) (g .1, q)
+      ap (λ (m : ℕ). records E sheet m 0 4 s₀) (suc-add i n ∙ sym (add-suc i n)) ∙ advance s₀ i (suc n) s r ∙ turned n i s (g .0) (next t) (went t (g .1) q refl)
 
   module _ (old : Option S) (good : Header sheet) (s₀ : S) (fits : old ≡ some s₀) where
     abbrev reached : (i : ℕ) (s : S) → Reaches s₀ i s → Reached E sheet old i
@@ -79,22 +79,14 @@ module _ {A S : Type 0} (E : Edition A S) (sheet : List ℕ) where
         here : (P : S → ℕ → Type 0) → P s i → AtRecord E sheet old (suc i) P
         here P p = record { index = i; numbered = refl; within = omega arith; reached = reached i s h; here = p }
 
+        after : Turn S → Type 0
+        after o = Means E sheet old (then E (records E sheet n (suc i) (start sheet (suc i))) (suc i) o)
+
         on : Whole sheet i → ((t : S) → Reaches s₀ (suc i) t → Means E sheet old (records E sheet n (suc i) (start sheet (suc i)) t)) → (o : Turn S) → Did E s (item sheet i) o → Means E sheet old (then E (records E sheet n (suc i) (start sheet (suc i))) (suc i) o)
-        on w k (next t) d = k t (reaches-suc s₀ i s t h (w, d .0) (d .1))
-        on w k (stop NoSpace) d = inr (here (Full E sheet) (w, d .0, d .1, d .2))
-        on w k (stop BadPayload) d = here (Bad E sheet) (w, d .0, d .1, d .2, d .3)
-        on w k (stop NewerKind) d = here (Newer E sheet) (w, d .0, d .1)
-        on w k (stop NotSheet) d = absurd d
-        on w k (stop CutRecord) d = absurd d
-        on w k (stop BytesRemain) d = absurd d
-        on w k (stop StoreTooLong) d = absurd d
-        on w k (stop CountOverStore) d = absurd d
-        on w k (stop WidthOver) d = absurd d
-        on w k (stop IndexOver) d = absurd d
-        on w k (stop PastLength) d = absurd d
-        on w k (stop NotList) d = absurd d
-        on w k (stop NotAscii) d = absurd d
-        on w k (stop NoEdition) d = absurd d
+        on w k o (went t g d q) = subst after (sym q) (k t (reaches-suc s₀ i s t h (w, g) d))
+        on w k o (newer d p q) = subst after (sym q) (here (Newer E sheet) (w, d, p))
+        on w k o (bad d m p x q) = subst after (sym q) (here (Bad E sheet) (w, d, m, p, x))
+        on w k o (full e p x q) = subst after (sym q) (inr (here (Full E sheet) (w, e, p, x)))
 
         go : Dec (Whole sheet i) → ((t : S) → Reaches s₀ (suc i) t → Means E sheet old (records E sheet n (suc i) (start sheet (suc i)) t)) → Means E sheet old (records E sheet (suc n) i (start sheet i) s)
         go (yes w) k =
@@ -135,10 +127,10 @@ module _ {A S : Type 0} (E : Edition A S) (sheet : List ℕ) where
     unfolding read
     backward (refused NotSheet k) h = take-false _ _ (headed-false sheet (h .1)) ∙ ap (refused NotSheet) (sym (h .0))
     backward (refused NoSpace k) (inl h) = take-true _ _ (headed-true sheet (h .1)) ∙ ap (copied E sheet) (h .2) ∙ ap (refused NoSpace) (sym (h .0))
-    backward (refused NoSpace k) (inr a) = let h = a .here in stops (Full E sheet) k a NoSpace (h .0) (h .1, h .2, h .3)
+    backward (refused NoSpace k) (inr a) = let h = a .here in stops (Full E sheet) k a NoSpace (h .0) (full (h .1) (h .2) (h .3) refl)
     backward (refused CutRecord k) a = cut k a
-    backward (refused NewerKind k) a = let h = a .here in stops (Newer E sheet) k a NewerKind (h .0) (h .1, h .2)
-    backward (refused BadPayload k) a = let h = a .here in stops (Bad E sheet) k a BadPayload (h .0) (h .1, h .2, h .3, h .4)
+    backward (refused NewerKind k) a = let h = a .here in stops (Newer E sheet) k a NewerKind (h .0) (newer (h .1) (h .2) refl)
+    backward (refused BadPayload k) a = let h = a .here in stops (Bad E sheet) k a BadPayload (h .0) (bad (h .1) (h .2) (h .3) (h .4) refl)
     backward (refused BytesRemain k) h = finish (h .1) ∙ bytes-left E sheet (countIn sheet) (start sheet (countIn sheet)) (h .1 .state) (h .2) ∙ ap (refused BytesRemain) (sym (h .0))
     backward (done k s) h =
         finish (h .reached) ∙ all-read E sheet (countIn sheet) (start sheet (countIn sheet)) (h .reached .state) (h .ends)

@@ -21,7 +21,7 @@ use Rattle.storage.specs.declared.Refusal.{Refusal}
 use Rattle.storage.specs.declared.Refusal.the-variants.{StoreTooLong, CountOverStore, NewerKind, NoEdition}
 use Rattle.storage.proofs.Checks.{checked-ok, checked-long, checked-over}
 use Rattle.storage.proofs.Stores.{length-zeroed, zeroed-in}
-use Rattle.storage.proofs.Views.{bounded-view}
+use Rattle.storage.proofs.Views.{bounded-view, view-count}
 use Rattle.storage.proofs.Promises.{space-rules}
 use Rattle.sheet.specs.Kinds.{Row, rowOf, sizeBy, sizeIn}
 use Rattle.sheet.specs.Reader.{Answer, refused, done, read}
@@ -109,11 +109,22 @@ from-done : (a : Answer Bits) (k : ℕ) (b : Bitmap) → readAnswer (went a) ≡
 from-done (refused d j) k b q = absurd (not-both q)
 from-done (done j s) k b q = let f : j ≡ k = cc in (s, ap (λ (i : ℕ). done i s) f, ap (λ (x : Bitmap). x .count) (let g : b ≡ record { count = s .count } = cc in g))
 
+-- the old bitmap, where its count is within the store, and nothing where it is not
+pub fits-old : (ws : List ℕ) (m c : ℕ) → m ≤ c → fitting c (view ws m) ≡ some (view ws m)
+fits-old ws m c l = take-true _ _ (le-leb (view ws m .count) c (subst (λ (x : ℕ). x ≤ c) (sym (view-count ws m)) l))
+
+fits-not : (ws : List ℕ) (m c : ℕ) → c < m → fitting c (view ws m) ≡ none
+fits-not ws m c l = take-false _ _ (lt-leb (view ws m .count) c (subst (λ (x : ℕ). c < x) (sym (view-count ws m)) l))
+
+fits-exact : (ws : List ℕ) (m c : ℕ) → (fitting c (view ws m) ≡ none) ↔ (c < m)
+fits-exact ws m c = ((λ q. by-lt c m (λ l. l) (λ l. absurd (none-some (sym q ∙ fits-old ws m c l)))), fits-not ws m c)
+
 kept-start : (ws : List ℕ) (m c : ℕ) (s : Bits) → fitting c (view ws m) ≡ some s → Kept c s
 kept-start ws m c s q =
-    by-lt c (view ws m .count)
-    (λ l. absurd (none-some (sym (take-false _ _ (lt-leb (view ws m .count) c l)) ∙ q)))
-    (λ l. subst (Kept c) (some-inj (sym (take-true _ _ (le-leb (view ws m .count) c l)) ∙ q)) (record { bounded = bounded-view ws m; space = l }))
+    by-lt c m
+    (λ l. absurd (none-some (sym (fits-not ws m c l) ∙ q)))
+    (λ l. subst (Kept c) (some-inj (sym (fits-old ws m c l) ∙ q))
+    (record { bounded = bounded-view ws m; space = subst (λ (x : ℕ). x ≤ c) (sym (view-count ws m)) l }))
 
 module _ (n : ℕ) (sheet ws : List ℕ) (m : ℕ) (res : List ℕ) (r : Reading) (res' : List ℕ) (h : Reads n sheet ws m res r res') where
   abbrev c : ℕ
@@ -200,6 +211,7 @@ module _ (n : ℕ) (sheet ws : List ℕ) (m : ℕ) (res : List ℕ) (r : Reading
     made = makes;
     accepts = accepts;
     exact = refused-exact;
+    fits = fits-exact ws m c;
     newer = newer-exact;
     untouched = λ e s. h .leaves ∙ ap (λ (x : Course). readStore x res) (course-stops n ws m c sheet e s);
     cleared = cleared;

@@ -10,7 +10,7 @@ use lib.ListN.{length, getD}
 use lib.Dec.{leb, eqb}
 use borrow.Author.Tests.{lt-ltb, le-ltb, le-leb, lt-leb, eq-eqb, ne-eqb}
 use Rattle.word.specs.Sets.{choose}
-use Rattle.storage.specs.declared.Refusal.the-variants.{StoreTooLong, CountOverStore, WidthOver, IndexOver, PastLength, NoSpace, NotList, NotAscii, NotSheet, CutRecord, BytesRemain, BadPayload, NewerKind, NoEdition}
+use Rattle.storage.specs.declared.Refusal.the-variants.{NoSpace, CutRecord, BytesRemain, BadPayload, NewerKind}
 use Rattle.sheet.specs.Reader.{Edition, Item, refused, done, Turn, stop, next, headed, endAt, itemAt, edit, stepped, edited, known, act, then, records}
 use Rattle.sheet.specs.Meaning.{Header, listed, onward, sized, editOf, effect}
 
@@ -74,52 +74,41 @@ module _ {A S : Type 0} (E : Edition A S) where
   -- ---- one record
 
   -- what a record's turn says of it
-  abbrev pub Did : S → Item → Turn S → Type 0
-  Did s r (next t) = (r .duty ≡ true → (e : A) × (editOf E r ≡ some e)) × (does (editOf E r) s ≡ some t)
-  Did s r (stop NoSpace) = (e : A) × (editOf E r ≡ some e) × (E .step e s ≡ none)
-  Did s r (stop BadPayload) = (r .duty ≡ true) × (n : ℕ) × (E .size (r .kind) ≡ some n) × (edit E r n ≡ none)
-  Did s r (stop NewerKind) = (r .duty ≡ true) × (E .size (r .kind) ≡ none)
-  Did s r (stop NotSheet) = ⊥
-  Did s r (stop CutRecord) = ⊥
-  Did s r (stop BytesRemain) = ⊥
-  Did s r (stop StoreTooLong) = ⊥
-  Did s r (stop CountOverStore) = ⊥
-  Did s r (stop WidthOver) = ⊥
-  Did s r (stop IndexOver) = ⊥
-  Did s r (stop PastLength) = ⊥
-  Did s r (stop NotList) = ⊥
-  Did s r (stop NotAscii) = ⊥
-  Did s r (stop NoEdition) = ⊥
+  pub data Did (s : S) (r : Item) (o : Turn S) : Type 0 where
+    went : (t : S) → (r .duty ≡ true → (e : A) × (editOf E r ≡ some e)) → does (editOf E r) s ≡ some t → o ≡ next t → Did s r o
+    newer : r .duty ≡ true → E .size (r .kind) ≡ none → o ≡ stop NewerKind → Did s r o
+    bad : r .duty ≡ true → (n : ℕ) → E .size (r .kind) ≡ some n → edit E r n ≡ none → o ≡ stop BadPayload → Did s r o
+    full : (e : A) → editOf E r ≡ some e → E .step e s ≡ none → o ≡ stop NoSpace → Did s r o
 
   module _ (r : Item) (s : S) where
     edit-known : (d : r .duty ≡ true) (n : ℕ) → E .size (r .kind) ≡ some n → editOf E r ≡ edit E r n
     edit-known d n p = take-true _ _ d ∙ ap (sized E r) p
 
     did-step : (e : A) → editOf E r ≡ some e → (o : Option S) → E .step e s ≡ o → Did s r (stepped E o)
-    did-step e p none q = (e, p, q)
-    did-step e p (some t) q = ((λ _. (e, p)), ap (λ (o : Option A). does o s) p ∙ q)
+    did-step e p none q = full e p q refl
+    did-step e p (some t) q = went t (λ _. (e, p)) (ap (λ (o : Option A). does o s) p ∙ q) refl
 
     did-edit : r .duty ≡ true → (n : ℕ) → E .size (r .kind) ≡ some n → (o : Option A) → edit E r n ≡ o → Did s r (edited E o s)
-    did-edit d n p none q = (d, n, p, q)
+    did-edit d n p none q = bad d n p q refl
     did-edit d n p (some e) q = did-step e (edit-known d n p ∙ q) (E .step e s) refl
 
     did-known : r .duty ≡ true → (o : Option ℕ) → E .size (r .kind) ≡ o → Did s r (known E r o s)
-    did-known d none p = (d, p)
+    did-known d none p = newer d p refl
     did-known d (some n) p = did-edit d n p (edit E r n) refl
 
     did-duty : (d : Bool) → r .duty ≡ d → Did s r (choose d (known E r (E .size (r .kind)) s) (next s))
     did-duty true d = did-known d (E .size (r .kind)) refl
-    did-duty false d = ((λ t. absurd (false≢true (sym d ∙ t))), ap (λ (o : Option A). does o s) (take-false _ _ d))
+    did-duty false d = went s (λ t. absurd (false≢true (sym d ∙ t))) (ap (λ (o : Option A). does o s) (take-false _ _ d)) refl
 
     pub did : Did s r (act E r s)
     unfolding act
     did = did-duty (r .duty) refl
 
-    on-duty : r .duty ≡ true → act E r s ≡ known E r (E .size (r .kind)) s
+    pub on-duty : r .duty ≡ true → act E r s ≡ known E r (E .size (r .kind)) s
     unfolding act
     on-duty d = take-true _ _ d
 
-    act-edit : (e : A) → editOf E r ≡ some e → act E r s ≡ stepped E (E .step e s)
+    pub act-edit : (e : A) → editOf E r ≡ some e → act E r s ≡ stepped E (E .step e s)
     act-edit e p = go (r .duty) refl
       where
         by-size : (o : Option ℕ) → sized E r o ≡ some e → known E r o s ≡ stepped E (E .step e s)
@@ -135,25 +124,14 @@ module _ {A S : Type 0} (E : Edition A S) where
     act-remark d = take-false _ _ d
 
     pub act-did : (o : Turn S) → Did s r o → act E r s ≡ o
-    act-did (next t) h = go (r .duty) refl
+    act-did o (went t g h q) = go (r .duty) refl ∙ sym q
       where
         go : (d : Bool) → r .duty ≡ d → act E r s ≡ next t
-        go true d = let (e, p) = h .0 d in act-edit e p ∙ ap (stepped E) (sym (ap (λ (o : Option A). does o s) p) ∙ h .1)
-        go false d = act-remark d ∙ ap next (some-inj (sym (ap (λ (o : Option A). does o s) (take-false _ _ d)) ∙ h .1))
-    act-did (stop BadPayload) h = on-duty (h .0) ∙ ap (λ (o : Option ℕ). known E r o s) (h .2) ∙ ap (λ (o : Option A). edited E o s) (h .3)
-    act-did (stop NewerKind) h = on-duty (h .0) ∙ ap (λ (o : Option ℕ). known E r o s) (h .1)
-    act-did (stop NoSpace) h = act-edit (h .0) (h .1) ∙ ap (stepped E) (h .2)
-    act-did (stop NotSheet) h = absurd h
-    act-did (stop CutRecord) h = absurd h
-    act-did (stop BytesRemain) h = absurd h
-    act-did (stop StoreTooLong) h = absurd h
-    act-did (stop CountOverStore) h = absurd h
-    act-did (stop WidthOver) h = absurd h
-    act-did (stop IndexOver) h = absurd h
-    act-did (stop PastLength) h = absurd h
-    act-did (stop NotList) h = absurd h
-    act-did (stop NotAscii) h = absurd h
-    act-did (stop NoEdition) h = absurd h
+        go true d = let (e, p) = g d in act-edit e p ∙ ap (stepped E) (sym (ap (λ (o : Option A). does o s) p) ∙ h)
+        go false d = act-remark d ∙ ap next (some-inj (sym (ap (λ (o : Option A). does o s) (take-false _ _ d)) ∙ h))
+    act-did o (newer d h q) = on-duty d ∙ ap (λ (o : Option ℕ). known E r o s) h ∙ sym q
+    act-did o (bad d n h p q) = on-duty d ∙ ap (λ (o : Option ℕ). known E r o s) h ∙ ap (λ (o : Option A). edited E o s) p ∙ sym q
+    act-did o (full e p h q) = act-edit e p ∙ ap (stepped E) h ∙ sym q
 
   -- ---- the records in order
 

@@ -17,7 +17,6 @@ use Rattle.word.proofs.Cases.{by-lt, or-true}
 use Rattle.storage.specs.Stores.{Bits, view}
 use Rattle.storage.specs.declared.Refusal.{Refusal}
 use Rattle.storage.specs.declared.Refusal.the-variants.{CountOverStore, NoSpace}
-use Rattle.storage.proofs.Views.{view-count}
 use Rattle.sheet.specs.Bytes.{bytes}
 use Rattle.sheet.specs.Reader.{done, countIn, endAt, read}
 use Rattle.sheet.specs.Meaning.{Header, start, Whole}
@@ -31,7 +30,7 @@ use Rattle.sheet.specs.declared.Added.the-variants.{Done, Refused}
 use Rattle.sheet.proofs.Turns.{none-some, take-true, take-false, header?, headed-true, headed-false}
 use Rattle.sheet.proofs.Rules.{length-bytes}
 use Rattle.sheet.proofs.Laid.{read-sheet, in-latest}
-use Rattle.sheet.proofs.Readings.{course-passes}
+use Rattle.sheet.proofs.Readings.{course-passes, fits-old}
 use Rattle.sheet.proofs.Requests.{verdict, same-checks, kind-kept}
 use Rattle.sheet.proofs.Written.{Fronts, along}
 
@@ -266,9 +265,6 @@ starting-means buf r buf' w = record {
 }
 
 -- ---- lists of calls
-
-fits-old : (ws : List ℕ) (m c : ℕ) → m ≤ c → fitting c (view ws m) ≡ some (view ws m)
-fits-old ws m c l = take-true _ _ (le-leb (view ws m .count) c (subst (λ (x : ℕ). x ≤ c) (sym (view-count ws m)) l))
 
 -- (e)
 pub whole-lists : WholeLists

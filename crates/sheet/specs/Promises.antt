@@ -97,6 +97,8 @@ pub record ReadingMeans (n : ℕ) (sheet ws : List ℕ) (m : ℕ) (res : List �
       → r ≡ Reading.Done k (record { count = s .count })
   -- (c): each number with its record, exactly where it applies
   pub exact : (e : Refusal) (k : ℕ) → (r ≡ Reading.Refused e k) ↔ Gets n sheet ws m (length res) e k
+  -- the old bitmap fits exactly where its count is within the result store
+  pub fits : (fitting (length res) (view ws m) ≡ none) ↔ (length res < m)
   -- 13 names the first duty record of a kind that the edition lacks
   pub newer : (k : ℕ) → (r ≡ Reading.Refused NewerKind k) ↔ NamesNewer n sheet ws m (length res) k
   -- 14, 1 and 2 touch nothing; any later refusal leaves zeros

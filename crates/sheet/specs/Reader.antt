@@ -58,14 +58,17 @@ module _ {A S : Type 0} (E : Edition A S) where
   abbrev pub edit : Item → ℕ → Option A
   edit r n = choose (eqb (length (r .payload)) n) (E .rule (r .kind) (r .payload)) none
 
+  -- 6 where the step is refused
   abbrev pub stepped : Option S → Turn S
   stepped none = stop NoSpace
   stepped (some s) = next s
 
+  -- 12 where the payload is bad
   abbrev pub edited : Option A → S → Turn S
   edited none s = stop BadPayload
   edited (some e) s = stepped (E .step e s)
 
+  -- 13 where the edition has not the kind
   abbrev pub known : Item → Option ℕ → S → Turn S
   known r none s = stop NewerKind
   known r (some n) s = edited (edit r n) s
@@ -74,6 +77,7 @@ module _ {A S : Type 0} (E : Edition A S) where
   unfoldable pub act : Item → S → Turn S
   act r s = choose (r .duty) (known r (E .size (r .kind)) s) (next s)
 
+  -- a stopped reading names record i, another goes on
   abbrev pub then : (S → Answer S) → ℕ → Turn S → Answer S
   then k i (stop e) = refused e i
   then k i (next s) = k s
@@ -87,6 +91,7 @@ module _ {A S : Type 0} (E : Edition A S) where
       (then (records sheet n (suc i) (endAt sheet at)) (suc i) (act (itemAt sheet at) s))
       (refused CutRecord (suc i))
 
+  -- 6 at record 0 where the old state does not fit
   abbrev pub copied : List ℕ → Option S → Answer S
   copied sheet none = refused NoSpace 0
   copied sheet (some s) = records sheet (countIn sheet) 0 4 s
