@@ -1,0 +1,7 @@
+pub mod Steps
+pub mod Heads
+pub mod Turns
+pub mod Padding
+pub mod Records
+pub mod Readings
+pub mod Courses

@@ -1,0 +1,36 @@
+-- What serves contracts of the reader's private functions.
+use Prim.Native.Nat.{ℕ, _≤_}
+use mathlib.Core.Path.{_≡_}
+use mathlib.Core.Bool.{true}
+use mathlib.Core.List.{List}
+use lib.ListN.{length, getD}
+use Rattle.storage.specs.Stores.{Bits, Outcome, refused, done, limit, written}
+use Rattle.sheet.specs.Reader.{Item, Turn, stop, next, Answer, done, act}
+use Rattle.sheet.specs.Reads.{editionOf, went, readAnswer}
+use Rattle.sheet.specs.declared.Reading.{Reading}
+
+-- a store and its count that pass 1 and 2, every word past the count zero
+pub record Padded (ws : List ℕ) (n : ℕ) : Type 0 where
+  pub short : length ws ≤ limit
+  pub inside : n ≤ length ws
+  pub zeros : (k : ℕ) → n ≤ k → getD ws k 0 ≡ 0
+
+-- what a record comes to, as an operation does
+abbrev pub outcomeOf : Turn Bits → Outcome
+outcomeOf (stop e) = refused e
+outcomeOf (next s) = Outcome.done s
+
+-- a duty record
+abbrev pub dutyItem : ℕ → List ℕ → Item
+dutyItem kind payload = record { duty = true; kind = kind; payload = payload }
+
+-- a record in an edition, on a bitmap in a store of c words
+unfoldable pub turned : ℕ → Item → ℕ → Bits → Outcome
+unfolding act editionOf
+turned edition item c b = outcomeOf (act (editionOf c edition) item b)
+
+-- a reading that came to a answers r, and where it is done leaves the bitmap's words and zeros past its count
+pub record Came (a : Answer Bits) (res : List ℕ) (r : Reading) (res' : List ℕ) : Type 0 where
+  pub long : length res' ≡ length res
+  pub answers : r ≡ readAnswer (went a)
+  pub leaves : (k : ℕ) (s : Bits) → a ≡ Answer.done k s → res' ≡ written res (length res) s

@@ -1,0 +1,197 @@
+// The reader of change sheets. The old bitmap is copied into the result store, and each record's step works on it there.
+use decode::Asked;
+use sheet::Edit;
+use sheet::LATEST;
+use sheet::LETTERS;
+use sheet::Reading;
+use storage::Bitmap;
+use storage::Change;
+use storage::Guard;
+use storage::Refusal;
+ghost use mathlib.Core.Path.{_≡_};
+ghost use Prim.Native.Nat.{_≤_, _<_};
+ghost use lib.ListN.{length, getD};
+ghost use Rattle.storage.specs.Stores.{limit, view, written, Leaves, Changes};
+ghost use Rattle.sheet.specs.Reader.{headed, endAt, itemAt, records, read};
+ghost use Rattle.sheet.specs.Reads.{step, editionOf, fitting, Reads};
+ghost use Rattle.reader.specs.Kernels.{Padded, dutyItem, turned, Came};
+
+fn wide(x: u8) -> usize
+    ensures { λ r. ⌜ (r ≡ x) × (r < 256) ⌝ }
+{
+    x as usize
+}
+
+// The byte at a place, 0 past the end.
+fn byte_at(bytes: &[u8], k: usize) -> usize
+    ensures { λ r. ⌜ (r ≡ getD (now (bytes .entry)) k 0) × (r < 256) ⌝ }
+{
+    if k < bytes.len() {
+        return wide(bytes[k]);
+    }
+    0
+}
+
+// Whether there are four bytes, the letters first.
+fn has_head(bytes: &[u8]) -> bool
+    ensures { λ r. ⌜ r ≡ headed (now (bytes .entry)) ⌝ }
+{
+    if bytes.len() < 4 {
+        return false;
+    }
+    let letters = LETTERS;
+    if bytes[0] != letters[0] {
+        return false;
+    }
+    bytes[1] == letters[1]
+}
+
+// The position after the record at a place; it is past the end where the record is cut.
+fn end_of(bytes: &[u8], at: usize) -> usize
+    requires { ⌜ at ≤ length (now bytes) ⌝ }
+    ensures { λ r. ⌜ r ≡ endAt (now (bytes .entry)) at ⌝ }
+{
+    at + 3 + (byte_at(bytes, at + 1) * 256 + byte_at(bytes, at + 2))
+}
+
+// What an edit does to a bitmap.
+fn apply(words: &mut [u64], b: Bitmap, e: Edit) -> Change
+    ensures { λ r. ⌜ Changes (step e) (now (words .entry)) b r (now (words .exit)) ⌝ }
+{
+    match e {
+        Edit::Set(p) => bitmap::set(words, b, p),
+        Edit::Unset(p) => bitmap::unset(words, b, p),
+        Edit::SetRegion(value, p, k) => bitmap::set_region(words, b, p, value, k),
+        Edit::SetField(p, width, value) => bitmap::set_field(words, b, p, value, width),
+        Edit::Shift(right, k) => {
+            if right {
+                return shape::shift_right(words, b, k);
+            }
+            shape::shift_left(words, b, k)
+        }
+        Edit::Rotate(right, k) => {
+            if right {
+                return shift::rotate_right(words, b, k);
+            }
+            shift::rotate_left(words, b, k)
+        }
+        Edit::Resize(n) => shape::resize_bits(words, b, n),
+        Edit::Reverse => bits::reverse(words, b),
+        Edit::ToggleRegion(p, k) => shape::toggle_region(words, b, p, k),
+        Edit::Open(p, k) => gap::open_gap(words, b, p, k),
+        Edit::Close(p, k) => gap::close_gap(words, b, p, k),
+    }
+}
+
+// A duty record: 13, 12, or 6 where its step is refused.
+fn perform(edition: usize, kind: usize, payload: &[u8], words: &mut [u64], b: Bitmap) -> Change
+    requires { ⌜ Padded (now words) (b .count) ⌝ }
+    ensures { λ r. ⌜ Leaves (turned edition (dutyItem kind (now (payload .entry))) (length (now (words .entry))) (view (now (words .entry)) (b .count))) (now (words .entry)) b r (now (words .exit)) ⌝ }
+{
+    match decode::edit_of(edition, kind, payload) {
+        Asked::Refused(why) => Change::Refused(why, b),
+        Asked::For(e) => match apply(words, b, e) {
+            Change::Done(after) => Change::Done(after),
+            Change::Refused(_, _) => Change::Refused(Refusal::NoSpace, b),
+        },
+    }
+}
+
+// The record at a place, its frame whole: a remark does nothing.
+fn turn(edition: usize, sheet: &[u8], at: usize, end: usize, words: &mut [u64], b: Bitmap) -> Change
+    requires { ⌜ (end ≡ endAt (now sheet) at) × (end ≤ length (now sheet)) × Padded (now words) (b .count) ⌝ }
+    ensures { λ r. ⌜ Leaves (turned edition (itemAt (now (sheet .entry)) at) (length (now (words .entry))) (view (now (words .entry)) (b .count))) (now (words .entry)) b r (now (words .exit)) ⌝ }
+{
+    let first = wide(sheet[at]);
+    if first < 128 {
+        return Change::Done(b);
+    }
+    perform(edition, first - 128, &sheet[at + 3..end], words, b)
+}
+
+// The n records from the fifth byte on. Where one is refused the store is left as it is then.
+fn each_record(edition: usize, sheet: &[u8], n: usize, words: &mut [u64], b: Bitmap) -> Reading
+    requires { ⌜ (4 ≤ length (now sheet)) × Padded (now words) (b .count) ⌝ }
+    ensures { λ r. ⌜ Came (records (editionOf (length (now (words .entry))) edition) (now (sheet .entry)) n 0 4 (view (now (words .entry)) (b .count))) (now (words .entry)) r (now (words .exit)) ⌝ }
+{
+    let mut count = b.count;
+    let mut i: usize = 0;
+    let mut at: usize = 4;
+    while i < n {
+        let end = end_of(sheet, at);
+        if end > sheet.len() {
+            return Reading::Refused(Refusal::CutRecord, i + 1);
+        }
+        match turn(edition, sheet, at, end, words, Bitmap { count: count }) {
+            Change::Refused(why, _) => return Reading::Refused(why, i + 1),
+            Change::Done(after) => {
+                count = after.count;
+            }
+        }
+        at = end;
+        i += 1;
+    }
+    if at < sheet.len() {
+        return Reading::Refused(Refusal::BytesRemain, i);
+    }
+    Reading::Done(i, Bitmap { count: count })
+}
+
+// The old words, and zeros past them.
+fn load(result: &mut [u64], words: &[u64], n: usize)
+    requires { ⌜ (n ≤ length (now result)) × (n ≤ length (now words)) ⌝ }
+    ensures { λ r. ⌜ now (result .exit) ≡ written (now (result .entry)) (length (now (result .entry))) (view (now (words .entry)) n) ⌝ }
+{
+    let mut k = 0;
+    while k < n {
+        result[k] = words[k];
+        k += 1;
+    }
+    let end = result.len();
+    storage::grow(result, n, end);
+}
+
+// 9, then 6 where the old bitmap has no space, then the records. A refusal leaves the store as it is then.
+fn read_into(edition: usize, sheet: &[u8], words: &[u64], n: usize, result: &mut [u64]) -> Reading
+    requires { ⌜ (n ≤ length (now words)) × (length (now result) ≤ limit) ⌝ }
+    ensures { λ r. ⌜ Came (read (editionOf (length (now (result .entry))) edition) (now (sheet .entry)) (fitting (length (now (result .entry))) (view (now (words .entry)) n))) (now (result .entry)) r (now (result .exit)) ⌝ }
+{
+    if !has_head(sheet) {
+        return Reading::Refused(Refusal::NotSheet, 0);
+    }
+    if n > result.len() {
+        return Reading::Refused(Refusal::NoSpace, 0);
+    }
+    load(result, words, n);
+    let count = byte_at(sheet, 2) * 256 + byte_at(sheet, 3);
+    each_record(edition, sheet, count, result, Bitmap { count: n })
+}
+
+// Reads a sheet in an edition: the old bitmap, changed by each duty record in order, into the result store, with zeros past its words.
+// 14, then 1 and 2 for the old store and 1 for the result store, touch nothing; any later refusal leaves the result store all zero.
+pub fn read(edition: usize, sheet: &[u8], words: &[u64], b: Bitmap, result: &mut [u64]) -> Reading
+    ensures { λ r. ⌜ Reads edition (now (sheet .entry)) (now (words .entry)) (b .count) (now (result .entry)) r (now (result .exit)) ⌝ }
+{
+    if edition < 1 {
+        return Reading::Refused(Refusal::NoEdition, 0);
+    }
+    if edition > LATEST {
+        return Reading::Refused(Refusal::NoEdition, 0);
+    }
+    match storage::check(words.len(), b.count) {
+        Guard::Stop(e) => return Reading::Refused(e, 0),
+        Guard::Pass => {}
+    }
+    let end = result.len();
+    match storage::check(end, 0) {
+        Guard::Stop(e) => return Reading::Refused(e, 0),
+        Guard::Pass => {}
+    }
+    match read_into(edition, sheet, words, b.count, result) {
+        Reading::Done(n, after) => Reading::Done(n, after),
+        Reading::Refused(why, k) => {
+            storage::grow(result, 0, end);
+            Reading::Refused(why, k)
+        }
+    }
+}
