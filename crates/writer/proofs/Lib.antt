@@ -1,0 +1,10 @@
+pub mod Adds
+pub mod Answers
+pub mod Bytes
+pub mod Cases
+pub mod Duties
+pub mod Places
+pub mod Puts
+pub mod Requests
+pub mod Sizes
+pub mod Walks

@@ -1,0 +1,113 @@
+-- What a duty record is asked for, kind by kind: its refusal, or its payload as a number in two parts.
+use Prim.Native.Nat.{ℕ, zero, suc, _+_, _*_, _^_, _/_, _%_, _≤_, _<_}
+use mathlib.Core.Path.{_≡_, refl, sym, ap, ap₂, _∙_, subst}
+use mathlib.Core.Option.{Option}
+use native.Mathlib.Omega.{arith}
+use native.Mathlib.Decide.{decLe, ℕ-discrete}
+use lib.Dec.{ltb}
+use borrow.Author.Tests.{lt-ltb, le-ltb}
+use Rattle.word.specs.Sets.{val}
+use Rattle.storage.specs.declared.Refusal.the-variants.{WidthOver, IndexOver, NewerKind}
+use Rattle.sheet.specs.declared.Fields.{Fields}
+use Rattle.sheet.specs.declared.Edit.the-variants.{SetField, Resize}
+use Rattle.sheet.specs.Writer.{Checked, bad, good, edit, checkedOf, duty, makers, madeBy}
+use Rattle.sheet.proofs.Tables.{past-end}
+use Rattle.writer.specs.Kernels.{partsOf}
+use Rattle.writer.specs.declared.Parts.{Parts}
+use Rattle.writer.specs.declared.Parts.the-variants.{Are, Refused}
+use Rattle.writer.proofs.Answers.{where-true, where-false}
+
+-- one of two kinds, or of three
+pair-of : (P : ℕ → Type 0) (k a : ℕ) → P a → P (a + 1) → a ≤ k → k ≤ a + 1 → P k
+pair-of P k a x y l h = go (ℕ-discrete a k)
+  where
+    go : Dec (a ≡ k) → P k
+    go (yes e) = subst P e x
+    go (no e) = let d : a + 1 ≡ k = omega arith in subst P d y
+
+module _ (f : Fields) where
+  abbrev pub Gets : Parts → ℕ → Type 0
+  Gets r kind = r ≡ partsOf (checkedOf (duty kind f))
+
+  gets-at : (r : Parts) (kind k : ℕ) → kind ≡ k → Gets r k → Gets r kind
+  gets-at r kind k e g = subst (Gets r) (sym e) g
+
+  pub gets-single : (kind : ℕ) → f .p < 2 ^ 32 → 1 ≤ kind → kind ≤ 2 → Gets (Are 0 (f .p)) kind
+  unfolding partsOf checkedOf
+  gets-single kind b l h = pair-of (Gets (Are 0 (f .p))) kind 1 whole whole l h
+    where
+      whole : Are 0 (f .p) ≡ Are (f .p / 2 ^ 64) (f .p % 2 ^ 64)
+      whole = ap₂ Are (omega arith) (omega arith)
+
+  pub gets-both : (kind : ℕ) → f .p < 2 ^ 32 → f .k < 2 ^ 32 → 9 ≤ kind → kind ≤ 11 → Gets (Are 0 (f .p * 2 ^ 32 + f .k)) kind
+  unfolding partsOf checkedOf
+  gets-both kind b c l h = go (decLe kind 10)
+    where
+      whole : Are 0 (f .p * 2 ^ 32 + f .k) ≡ Are ((f .p * 2 ^ 32 + f .k) / 2 ^ 64) ((f .p * 2 ^ 32 + f .k) % 2 ^ 64)
+      whole = ap₂ Are (omega arith) (omega arith)
+
+      go : Dec (kind ≤ 10) → Gets (Are 0 (f .p * 2 ^ 32 + f .k)) kind
+      go (yes m) = pair-of (Gets (Are 0 (f .p * 2 ^ 32 + f .k))) kind 9 whole whole l m
+      go (no m) = gets-at (Are 0 (f .p * 2 ^ 32 + f .k)) kind 11 (omega arith) whole
+
+  pub gets-nothing : (kind : ℕ) → kind ≡ 8 → Gets (Are 0 0) kind
+  unfolding partsOf checkedOf
+  gets-nothing kind e = gets-at (Are 0 0) kind 8 e refl
+
+  module _ (d : ℕ) (e : d ≡ val (f .flag)) (s : d < 2) (c : f .k < 2 ^ 32) where
+    pub gets-directed : (kind : ℕ) → 5 ≤ kind → kind ≤ 6 → Gets (Are 0 (d * 2 ^ 39 + f .k * 2 ^ 7)) kind
+    unfolding partsOf checkedOf
+    gets-directed kind l h = pair-of (Gets (Are 0 (d * 2 ^ 39 + f .k * 2 ^ 7))) kind 5 whole whole l h
+      where
+        parts : (v : ℕ) → d ≡ v → Are 0 (d * 2 ^ 39 + f .k * 2 ^ 7) ≡ Are (((v * 2 ^ 32 + f .k) * 2 ^ 7) / 2 ^ 64) (((v * 2 ^ 32 + f .k) * 2 ^ 7) % 2 ^ 64)
+        parts v e = ap₂ Are (omega arith) (omega arith)
+
+        whole : Are 0 (d * 2 ^ 39 + f .k * 2 ^ 7) ≡ Are (((val (f .flag) * 2 ^ 32 + f .k) * 2 ^ 7) / 2 ^ 64) (((val (f .flag) * 2 ^ 32 + f .k) * 2 ^ 7) % 2 ^ 64)
+        whole = parts (val (f .flag)) e
+
+    pub gets-region : (kind : ℕ) → f .p < 2 ^ 32 → kind ≡ 3 → Gets (Are (d * 128 + f .p / 2 ^ 25) (f .p % 2 ^ 25 * 2 ^ 39 + f .k * 128)) kind
+    unfolding partsOf checkedOf
+    gets-region kind b q = gets-at (Are (d * 128 + f .p / 2 ^ 25) (f .p % 2 ^ 25 * 2 ^ 39 + f .k * 128)) kind 3 q (parts (val (f .flag)) e)
+      where
+        parts : (v : ℕ) → d ≡ v
+            → Are (d * 128 + f .p / 2 ^ 25) (f .p % 2 ^ 25 * 2 ^ 39 + f .k * 128)
+            ≡ Are ((((v * 2 ^ 32 + f .p) * 2 ^ 32 + f .k) * 2 ^ 7) / 2 ^ 64) ((((v * 2 ^ 32 + f .p) * 2 ^ 32 + f .k) * 2 ^ 7) % 2 ^ 64)
+        parts v e = ap₂ Are (omega arith) (omega arith)
+
+  module _ (kind : ℕ) (q : kind ≡ 4) where
+    pub gets-3 : 64 < f .width → Gets (Refused WidthOver) kind
+    unfolding partsOf checkedOf
+    gets-3 h = gets-at (Refused WidthOver) kind 4 q (ap partsOf (sym (where-true (ltb 64 (f .width)) (bad WidthOver) (good (edit (SetField (f .p) (f .width) (f .value)))) (lt-ltb 64 (f .width) h))))
+
+    pub gets-field : f .p < 2 ^ 32 → f .value < 2 ^ 64 → f .width ≤ 64 → Gets (Are (f .p * 256 + f .width * 2 + f .value / 2 ^ 63) (f .value % 2 ^ 63 * 2)) kind
+    unfolding partsOf checkedOf
+    gets-field b v h =
+        gets-at (Are (f .p * 256 + f .width * 2 + f .value / 2 ^ 63) (f .value % 2 ^ 63 * 2)) kind 4 q
+        (whole ∙ ap partsOf (sym (where-false (ltb 64 (f .width)) (bad WidthOver) (good (edit (SetField (f .p) (f .width) (f .value)))) (le-ltb 64 (f .width) h))))
+      where
+        whole : Are (f .p * 256 + f .width * 2 + f .value / 2 ^ 63) (f .value % 2 ^ 63 * 2)
+            ≡ Are ((((f .p * 2 ^ 7 + f .width) * 2 ^ 64 + f .value) * 2 ^ 1) / 2 ^ 64) ((((f .p * 2 ^ 7 + f .width) * 2 ^ 64 + f .value) * 2 ^ 1) % 2 ^ 64)
+        whole = ap₂ Are (omega arith) (omega arith)
+
+  module _ (kind : ℕ) (q : kind ≡ 7) where
+    pub gets-4 : 4_294_967_296 < f .size → Gets (Refused IndexOver) kind
+    unfolding partsOf checkedOf
+    gets-4 h = gets-at (Refused IndexOver) kind 7 q (ap partsOf (sym (where-true (ltb 4_294_967_296 (f .size)) (bad IndexOver) (good (edit (Resize (f .size)))) (lt-ltb 4_294_967_296 (f .size) h))))
+
+    pub gets-resize : f .size ≤ 4_294_967_296 → Gets (Are 0 (f .size * 128)) kind
+    unfolding partsOf checkedOf
+    gets-resize h =
+        gets-at (Are 0 (f .size * 128)) kind 7 q
+        (whole ∙ ap partsOf (sym (where-false (ltb 4_294_967_296 (f .size)) (bad IndexOver) (good (edit (Resize (f .size)))) (le-ltb 4_294_967_296 (f .size) h))))
+      where
+        whole : Are 0 (f .size * 128) ≡ Are ((f .size * 2 ^ 7) / 2 ^ 64) ((f .size * 2 ^ 7) % 2 ^ 64)
+        whole = ap₂ Are (omega arith) (omega arith)
+
+  pub gets-13-zero : (kind : ℕ) → kind ≡ 0 → Gets (Refused NewerKind) kind
+  unfolding partsOf checkedOf
+  gets-13-zero kind e = gets-at (Refused NewerKind) kind 0 e refl
+
+  pub gets-13-past : (kind : ℕ) → 12 ≤ kind → Gets (Refused NewerKind) kind
+  unfolding partsOf checkedOf
+  gets-13-past zero h = absurd (omega arith)
+  gets-13-past (suc k) h = ap (λ (m : Option (Fields → Checked)). partsOf (madeBy m f)) (sym (past-end makers k (omega arith)))

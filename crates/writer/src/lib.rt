@@ -1,0 +1,291 @@
+// The writer of change sheets: a start, and a record at the end. Nothing is written before every check has passed.
+use sheet::Added;
+use sheet::Fields;
+use sheet::Known;
+use storage::Guard;
+use storage::Refusal;
+ghost use mathlib.Core.Path.{_≡_};
+ghost use mathlib.Core.List.{_∷_};
+ghost use Prim.Native.Nat.{_+_, _*_, _^_, _<_, _≤_};
+ghost use lib.ListN.{length, getD};
+ghost use lib.Seq.{sets};
+ghost use Rattle.word.specs.Sets.{val};
+ghost use Rattle.sheet.specs.Bytes.{bytes};
+ghost use Rattle.sheet.specs.Kinds.{sizeIn};
+ghost use Rattle.sheet.specs.Reader.{countIn};
+ghost use Rattle.sheet.specs.Writer.{framesFault, sheetFault, checkedOf, placedBy, duty, remark, Writes, Starts, Adds};
+ghost use Rattle.writer.specs.Kernels.{Given, endIn, guardBy, orZero, partsOf, roomlessIn};
+
+// The weight of a field that has so many bits after it.
+const AT_1: u64 = 1 << 1;
+
+const AT_7: u64 = 1 << 7;
+
+const AT_8: u64 = 1 << 8;
+
+const AT_25: u64 = 1 << 25;
+
+const AT_32: u64 = 1 << 32;
+
+const AT_39: u64 = 1 << 39;
+
+const AT_63: u64 = 1 << 63;
+
+// A duty record's payload as one number, what is over 64 bits apart; or its refusal.
+enum Parts {
+    Are(u64, u64),
+    Refused(Refusal),
+}
+
+// A sheet of no records at the front of the buffer.
+pub fn start(buffer: &mut [u8]) -> Added
+    ensures { λ r. ⌜ Starts (now (buffer .entry)) r (now (buffer .exit)) ⌝ }
+{
+    if buffer.len() < 4 {
+        return Added::Refused(Refusal::NoSpace);
+    }
+    let letters = sheet::LETTERS;
+    buffer[0] = letters[0];
+    buffer[1] = letters[1];
+    buffer[2] = 0;
+    buffer[3] = 0;
+    Added::Done(4)
+}
+
+fn wide(b: u8) -> usize
+    ensures { λ r. ⌜ (r ≡ b) × (r < 256) ⌝ }
+{
+    b as usize
+}
+
+// The number in the two bytes at a position.
+fn pair(sheet: &[u8], at: usize) -> usize
+    requires { do ⌜ at + 1 < (← ⟦sheet.len()⟧) ⌝ }
+    ensures { λ r. ⌜ (r ≡ getD (now (sheet .entry)) at 0 * 256 + getD (now (sheet .entry)) (at + 1) 0) × (r ≤ 65535) ⌝ }
+{
+    wide(sheet[at]) * 256 + wide(sheet[at + 1])
+}
+
+// The n low bytes of x at a position.
+fn put(buffer: &mut [u8], at: usize, n: usize, x: u64)
+    requires { do ⌜ at + n ≤ (← ⟦buffer.len()⟧) ⌝ }
+    ensures { λ _. ⌜ now (buffer .exit) ≡ sets (now (buffer .entry)) at (bytes n x) ⌝ }
+{
+    let mut left = x;
+    let mut i = n;
+    while i > 0 {
+        i -= 1;
+        buffer[at + i] = (left % 256) as u8;
+        left = left / 256;
+    }
+}
+
+// The n low bytes of a number of two parts at a position.
+fn put_parts(buffer: &mut [u8], at: usize, n: usize, high: u64, low: u64)
+    requires { do ⌜ at + n ≤ (← ⟦buffer.len()⟧) ⌝ }
+    ensures { λ _. ⌜ now (buffer .exit) ≡ sets (now (buffer .entry)) at (bytes n (high * 2 ^ 64 + low)) ⌝ }
+{
+    let over = word::max(n, 8) - 8;
+    put(buffer, at, over, high);
+    put(buffer, at + over, n - over, low);
+}
+
+// A payload at a position.
+fn copy(buffer: &mut [u8], at: usize, payload: &[u8])
+    requires { do ⌜ at + (← ⟦payload.len()⟧) ≤ (← ⟦buffer.len()⟧) ⌝ }
+    ensures { λ _. ⌜ now (buffer .exit) ≡ sets (now (buffer .entry)) at (now (payload .entry)) ⌝ }
+{
+    let mut i: usize = 0;
+    while i < payload.len() {
+        buffer[at + i] = payload[i];
+        i += 1;
+    }
+}
+
+// Where the frame at a position ends, 0 where it is not whole.
+fn frame_end(sheet: &[u8], at: usize) -> usize
+    requires { do ⌜ at ≤ (← ⟦sheet.len()⟧) ⌝ }
+    ensures { λ r. ⌜ r ≡ endIn (now (sheet .entry)) at ⌝ }
+{
+    if sheet.len() - at < 3 {
+        return 0;
+    }
+    let n = pair(sheet, at + 1);
+    if sheet.len() - at - 3 < n {
+        return 0;
+    }
+    at + 3 + n
+}
+
+// 10 or 11 of the n records after the header.
+fn frames(sheet: &[u8], n: usize) -> Guard
+    requires { do ⌜ 4 ≤ (← ⟦sheet.len()⟧) ⌝ }
+    ensures { λ r. ⌜ r ≡ guardBy (framesFault (now (sheet .entry)) n 4) ⌝ }
+{
+    let mut at: usize = 4;
+    let mut i: usize = 0;
+    while i < n {
+        let end = frame_end(sheet, at);
+        if end == 0 {
+            return Guard::Stop(Refusal::CutRecord);
+        }
+        at = end;
+        i += 1;
+    }
+    if at < sheet.len() {
+        return Guard::Stop(Refusal::BytesRemain);
+    }
+    Guard::Pass
+}
+
+// 9, 10 or 11 of the sheet given.
+fn fault(sheet: &[u8]) -> Guard
+    ensures { λ r. ⌜ r ≡ guardBy (sheetFault (now (sheet .entry))) ⌝ }
+{
+    if sheet.len() < 4 {
+        return Guard::Stop(Refusal::NotSheet);
+    }
+    let letters = sheet::LETTERS;
+    if sheet[0] != letters[0] {
+        return Guard::Stop(Refusal::NotSheet);
+    }
+    if sheet[1] != letters[1] {
+        return Guard::Stop(Refusal::NotSheet);
+    }
+    frames(sheet, pair(sheet, 2))
+}
+
+fn digit(flag: bool) -> u64
+    ensures { λ r. ⌜ (r ≡ val flag) × (r < 2) ⌝ }
+{
+    if flag { 1 } else { 0 }
+}
+
+// 13, 3 or 4 of a duty record, or its payload's parts.
+fn payload_parts(kind: usize, f: Fields) -> Parts
+    ensures { λ r. ⌜ r ≡ partsOf (checkedOf (duty kind f)) ⌝ }
+{
+    let p = f.p as u64;
+    let k = f.k as u64;
+    let flag = digit(f.flag);
+    match kind {
+        1 | 2 => Parts::Are(0, p),
+        3 => Parts::Are(flag * AT_7 + p / AT_25, p % AT_25 * AT_39 + k * AT_7),
+        4 => {
+            if f.width > 64 {
+                return Parts::Refused(Refusal::WidthOver);
+            }
+            let v = f.value;
+            Parts::Are(
+                p * AT_8 + f.width as u64 * AT_1 + v / AT_63,
+                v % AT_63 * AT_1,
+            )
+        }
+        5 | 6 => Parts::Are(0, flag * AT_39 + k * AT_7),
+        7 => {
+            if f.size > sheet::MOST_BITS {
+                return Parts::Refused(Refusal::IndexOver);
+            }
+            Parts::Are(0, f.size as u64 * AT_7)
+        }
+        8 => Parts::Are(0, 0),
+        9..=11 => Parts::Are(0, p * AT_32 + k),
+        _ => Parts::Refused(Refusal::NewerKind),
+    }
+}
+
+// The bytes of a kind's payload.
+fn payload_size(kind: usize) -> usize
+    ensures { λ r. ⌜ r ≡ orZero (sizeIn 2 kind) ⌝ }
+{
+    match sheet::payload_bytes(sheet::LATEST, kind) {
+        Known::Bytes(n) => n,
+        Known::Newer => 0,
+    }
+}
+
+// Whether a record with n bytes of payload has no room, or is one too many.
+fn roomless(buffer: &[u8], length: usize, n: usize) -> bool
+    requires { ⌜ Given (now buffer) length ⌝ }
+    requires { ⌜ n ≤ 65535 ⌝ }
+    ensures { λ r. ⌜ r ≡ roomlessIn (now (buffer .entry)) length n ⌝ }
+{
+    if pair(buffer, 2) >= sheet::MOST {
+        return true;
+    }
+    buffer.len() - length < 3 + n
+}
+
+// R raised, and the first three bytes of the record at the end.
+fn put_head(buffer: &mut [u8], length: usize, first: usize, n: usize)
+    requires { do ⌜ (4 ≤ length) × (length + 3 ≤ (← ⟦buffer.len()⟧)) × (first < 256) ⌝ }
+    ensures { λ _. ⌜ now (buffer .exit) ≡ sets (sets (now (buffer .entry)) 2 (bytes 2 (countIn (now (buffer .entry)) + 1))) length (first ∷ bytes 2 n) ⌝ }
+{
+    let count = pair(buffer, 2);
+    put(buffer, 2, 2, (count + 1) as u64);
+    buffer[length] = first as u8;
+    put(buffer, length + 1, 2, n as u64);
+}
+
+// A remark at the end of the sheet.
+fn add_remark(buffer: &mut [u8], length: usize, kind: usize, payload: &[u8]) -> Added
+    requires { ⌜ Given (now buffer) length ⌝ }
+    ensures { λ r. ⌜ Writes (placedBy (now (buffer .entry)) length (checkedOf (remark kind (now (payload .entry))))) r (now (buffer .exit)) ⌝ }
+{
+    if kind > 127 {
+        return Added::Refused(Refusal::NewerKind);
+    }
+    let n = payload.len();
+    if n > sheet::MOST {
+        return Added::Refused(Refusal::BadPayload);
+    }
+    if roomless(buffer, length, n) {
+        return Added::Refused(Refusal::NoSpace);
+    }
+    put_head(buffer, length, kind, n);
+    copy(buffer, length + 3, payload);
+    Added::Done(length + 3 + n)
+}
+
+// A duty record at the end of the sheet.
+fn add_duty(buffer: &mut [u8], length: usize, kind: usize, f: Fields) -> Added
+    requires { ⌜ Given (now buffer) length ⌝ }
+    ensures { λ r. ⌜ Writes (placedBy (now (buffer .entry)) length (checkedOf (duty kind f))) r (now (buffer .exit)) ⌝ }
+{
+    match payload_parts(kind, f) {
+        Parts::Refused(e) => Added::Refused(e),
+        Parts::Are(high, low) => {
+            let n = payload_size(kind);
+            if roomless(buffer, length, n) {
+                return Added::Refused(Refusal::NoSpace);
+            }
+            put_head(buffer, length, 128 + kind, n);
+            put_parts(buffer, length + 3, n, high, low);
+            Added::Done(length + 3 + n)
+        }
+    }
+}
+
+// Adds a record at the end of the sheet that is the buffer's first `length` bytes, and raises R.
+pub fn add(
+    buffer: &mut [u8],
+    length: usize,
+    duty: bool,
+    kind: usize,
+    fields: Fields,
+    payload: &[u8],
+) -> Added
+    ensures { λ r. ⌜ Adds (now (buffer .entry)) length duty kind fields (now (payload .entry)) r (now (buffer .exit)) ⌝ }
+{
+    if length > buffer.len() {
+        return Added::Refused(Refusal::CountOverStore);
+    }
+    match fault(&buffer[..length]) {
+        Guard::Stop(e) => return Added::Refused(e),
+        Guard::Pass => {}
+    }
+    if duty {
+        return add_duty(buffer, length, kind, fields);
+    }
+    add_remark(buffer, length, kind, payload)
+}
