@@ -1,0 +1,28 @@
+-- A text that was written fits its buffer. Assumes nothing.
+use mathlib.Core.Path.{_≡_, sym, ap, _∙_}
+use mathlib.Core.Bool.{Bool}
+use mathlib.Core.List.{List}
+use Prim.Native.Nat.{ℕ, _≤_}
+use native.Mathlib.Omega.{arith}
+use lib.ListN.{length}
+use lib.Dec.{leb}
+use borrow.Author.Tests.{leb-true}
+use Rattle.word.specs.Sets.{choose}
+use Rattle.word.proofs.Cases.{by-test}
+use Rattle.storage.specs.Stores.{view}
+use Rattle.storage.specs.declared.Number.{Number}
+use Rattle.storage.specs.declared.Number.the-variants.{Is, Refused}
+use Rattle.storage.specs.declared.Refusal.the-variants.{NoSpace}
+use Rattle.storage.proofs.Checks.{told}
+use Rattle.text.specs.Texts.{textOf, fitted, Prints}
+
+same : {a b : ℕ} → Number.Is a ≡ Number.Is b → a ≡ b
+same e = cc
+
+pub fits : (ws : List ℕ) (n : ℕ) (out : List ℕ) (k : ℕ) (r : Number) (out' : List ℕ) → r ≡ Number.Is k → Prints ws n out r out' → k ≤ length out
+fits ws n out k r out' e p =
+    let t : List ℕ = textOf (view ws n) in
+    let a = told ws n Number.Refused (λ s. fitted (textOf s) out) r (λ d q. absurd (let z : _≡_ {A = ℕ} 0 1 = cc in omega arith)) (p .answers) in
+    by-test (leb (length t) (length out))
+    (λ y. omega (arith, leb-true (length t) (length out) y, same (sym e ∙ a .1 ∙ ap (λ (x : Bool). choose x (Is (length t)) (Refused NoSpace)) y)))
+    (λ y. let q : Number.Is k ≡ Number.Refused NoSpace = sym e ∙ a .1 ∙ ap (λ (x : Bool). choose x (Is (length t)) (Refused NoSpace)) y in absurd (let z : _≡_ {A = ℕ} 0 1 = cc in omega arith))
