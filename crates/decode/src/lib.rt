@@ -18,12 +18,6 @@ pub enum Asked {
     Refused(Refusal),
 }
 
-fn wide(x: u8) -> usize
-    ensures { λ r. ⌜ (r ≡ x) × (r < 256) ⌝ }
-{
-    x as usize
-}
-
 // The number whose bytes are given, the most significant first.
 fn number_of(bytes: &[u8]) -> usize
     requires { ⌜ length (now bytes) ≤ 8 ⌝ }
@@ -32,7 +26,7 @@ fn number_of(bytes: &[u8]) -> usize
     let mut x: usize = 0;
     let mut i: usize = 0;
     while i < bytes.len() {
-        x = x * 256 + wide(bytes[i]);
+        x = x * 256 + bytes[i] as usize;
         i += 1;
     }
     x

@@ -1,4 +1,3 @@
-pub mod Steps
 pub mod Heads
 pub mod Turns
 pub mod Padding

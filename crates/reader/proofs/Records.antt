@@ -1,17 +1,17 @@
 -- The loop over the records: what is left to be read decides. Assumes nothing.
-use Prim.Native.Nat.{ℕ, zero, suc, _+_, _-_, _*_, _%_, _≤_, _<_}
+use Prim.Native.Nat.{ℕ, suc, _+_, _-_, _≤_, _<_}
 use mathlib.Core.Path.{_≡_, refl, sym, ap, _∙_, subst}
 use mathlib.Core.Bool.{Bool, true, false}
 use mathlib.Core.List.{List}
 use mathlib.Core.Option.{Option, none, some}
 use native.Mathlib.Omega.{arith}
 use native.Mathlib.Numerals.{add-one}
-use lib.ListN.{length, getD}
+use lib.ListN.{length}
 use lib.Dec.{leb, ltb}
 use borrow.Author.Tests.{le-leb, lt-leb, lt-ltb, le-ltb}
 use Rattle.word.specs.Sets.{choose}
 use Rattle.word.proofs.Lists.{Fit}
-use Rattle.storage.specs.Stores.{Bits, Bounded, Outcome, Op, refused, done, view, written, answer, store, Leaves}
+use Rattle.storage.specs.Stores.{Bits, refused, done, view, written, answer, store, Leaves}
 use Rattle.storage.specs.declared.Bitmap.{Bitmap}
 use Rattle.storage.specs.declared.Refusal.{Refusal}
 use Rattle.storage.specs.declared.Refusal.the-variants.{CutRecord, BytesRemain}
@@ -19,13 +19,12 @@ use Rattle.storage.specs.declared.Change.{Change}
 use Rattle.storage.specs.declared.Change.the-variants.{Done, Refused}
 use Rattle.storage.proofs.Views.{view-count, bounded-view}
 use Rattle.storage.proofs.Stores.{view-written, length-written}
-use Rattle.sheet.specs.Kinds.{sizeIn}
 use Rattle.sheet.specs.Reader.{Edition, Item, Turn, stop, next, Answer, refused, done, act, known, edit, edited, stepped, then, records, endAt, itemAt}
 use Rattle.sheet.specs.Reads.{step, made, editionOf, went, readAnswer}
 use Rattle.sheet.specs.declared.Edit.{Edit}
 use Rattle.sheet.specs.declared.Reading.the-variants as reading
 use Rattle.reader.specs.Kernels.{Padded, outcomeOf, turned, Came}
-use Rattle.reader.proofs.Steps.{step-sound}
+use Rattle.sheet.proofs.Steps.{Kept, step-kept}
 use Rattle.reader.proofs.Padding.{padded-written, written-fit, written-padded}
 
 -- ---- what a record makes has space, and no member past its words
@@ -36,31 +35,26 @@ stop-next p = let z : _≡_ {A = ℕ} 0 1 = cc in omega arith
 one-next : {b s : Bits} → next b ≡ next s → b ≡ s
 one-next p = cc
 
-module _ (edition c : ℕ) (b s : Bits) (h : Bounded b) (l : b .count ≤ c) where
-  abbrev Room : Type 0
-  Room = (s .count ≤ c) × Bounded s
-
-  step-room : (e : Edit) (o : Outcome) → step e c b ≡ o → stepped (editionOf c edition) (made o) ≡ next s → Room
-  step-room e (refused x) q p = absurd (stop-next p)
-  step-room e (Outcome.done t) q p =
-      let r : step e c b ≡ Outcome.done s = q ∙ ap Outcome.done (one-next p) in (step-sound e .space c b s h l r, step-sound e .bound c b s h l r)
-
-  edit-room : (u : Option Edit) → edited (editionOf c edition) u b ≡ next s → Room
-  unfolding editionOf
-  edit-room none p = absurd (stop-next p)
-  edit-room (some e) p = step-room e (step e c b) refl p
-
-  size-room : (r : Item) (o : Option ℕ) → known (editionOf c edition) r o b ≡ next s → Room
-  size-room r none p = absurd (stop-next p)
-  size-room r (some n) p = edit-room (edit (editionOf c edition) r n) p
-
-  act-room : (r : Item) → act (editionOf c edition) r b ≡ next s → Room
-  unfolding act editionOf
-  act-room r p = go (r .duty) p
+module _ (edition c : ℕ) (b s : Bits) (h : Kept c b) where
+  edit-kept : (u : Option Edit) → edited (editionOf c edition) u b ≡ next s → Kept c s
+  edit-kept none p = absurd (stop-next p)
+  edit-kept (some e) p = go (editionOf c edition .step e b) refl p
     where
-      go : (t : Bool) → choose t (known (editionOf c edition) r (sizeIn edition (r .kind)) b) (next b) ≡ next s → Room
-      go true q = size-room r (sizeIn edition (r .kind)) q
-      go false q = let e : b ≡ s = one-next q in (subst (λ (x : Bits). x .count ≤ c) e l, subst Bounded e h)
+      go : (o : Option Bits) → editionOf c edition .step e b ≡ o → stepped (editionOf c edition) o ≡ next s → Kept c s
+      go none q r = absurd (stop-next r)
+      go (some t) q r = subst (Kept c) (one-next r) (step-kept c edition e b t h q)
+
+  size-kept : (r : Item) (o : Option ℕ) → known (editionOf c edition) r o b ≡ next s → Kept c s
+  size-kept r none p = absurd (stop-next p)
+  size-kept r (some n) p = edit-kept (edit (editionOf c edition) r n) p
+
+  act-kept : (r : Item) → act (editionOf c edition) r b ≡ next s → Kept c s
+  unfolding act
+  act-kept r p = go (r .duty) p
+    where
+      go : (t : Bool) → choose t (known (editionOf c edition) r (editionOf c edition .size (r .kind)) b) (next b) ≡ next s → Kept c s
+      go true q = size-kept r (editionOf c edition .size (r .kind)) q
+      go false q = subst (Kept c) (one-next q) h
 
 -- ---- what a turn's answer tells
 
@@ -166,17 +160,19 @@ module _ (edition : ℕ) (sheet : List ℕ) (n : ℕ) (ws₀ : List ℕ) (n₀ :
           y : Made (act E (itemAt sheet at) (view ws m)) ws ws' (record { count = m }) after s
           y = found .1
 
-          both : (s .count ≤ length ws₀) × Bounded s
-          both = act-room edition (length ws₀) (view ws m) s (bounded-view ws m) (omega (arith, view-count ws m, g .padded .inside, g .long)) (itemAt sheet at) (y .is)
+          kept : Kept (length ws₀) s
+          kept =
+              act-kept edition (length ws₀) (view ws m) s
+              (record { bounded = bounded-view ws m; space = omega (arith, view-count ws m, g .padded .inside, g .long) }) (itemAt sheet at) (y .is)
 
           room : s .count ≤ length ws
-          room = omega (arith, both .0, g .long)
+          room = omega (arith, kept .space, g .long)
 
           long : length ws' ≡ length ws₀
           long = ap length (y .leaves) ∙ length-written ws m s ∙ g .long
 
           seen : view ws' (after .count) ≡ s
-          seen = ap (view ws') (y .count) ∙ ap (λ (x : List ℕ). view x (s .count)) (y .leaves) ∙ view-written ws m s room (g .padded .inside) (both .1)
+          seen = ap (view ws') (y .count) ∙ ap (λ (x : List ℕ). view x (s .count)) (y .leaves) ∙ view-written ws m s room (g .padded .inside) (kept .bounded)
 
   module _ (ws : List ℕ) (m i at : ℕ) (g : Going ws m i at) (over : n ≤ i) where
     last : whole ≡ choose (ltb at (length sheet)) (refused BytesRemain i) (Answer.done i (view ws m))

@@ -1,16 +1,16 @@
 -- What one record does to the bitmap in a store. Assumes nothing.
-use Prim.Native.Nat.{ℕ, _+_, _-_, _*_, _%_, _≤_, _<_}
+use Prim.Native.Nat.{ℕ, _+_, _-_, _%_, _≤_, _<_}
 use mathlib.Core.Path.{_≡_, refl, sym, ap, _∙_, subst}
 use mathlib.Core.Bool.{Bool, true, false}
 use mathlib.Core.List.{List}
 use mathlib.Core.Option.{Option, none, some}
 use native.Mathlib.Omega.{arith}
 use lib.ListN.{length, getD, take, drop}
-use lib.Dec.{eqb, leb}
+use lib.Dec.{eqb}
 use borrow.Author.Tests.{le-leb, lt-leb}
 use Rattle.word.specs.Sets.{choose}
 use Rattle.word.proofs.Lists.{Fit}
-use Rattle.storage.specs.Stores.{Bits, Bounded, Outcome, refused, done, view, answer, store, Leaves, outcome, Changes}
+use Rattle.storage.specs.Stores.{Bits, Outcome, refused, done, view, answer, store, Leaves, outcome, Changes}
 use Rattle.storage.specs.declared.Bitmap.{Bitmap}
 use Rattle.storage.specs.declared.Refusal.{Refusal}
 use Rattle.storage.specs.declared.Refusal.the-variants.{NoSpace, BadPayload}
@@ -18,13 +18,17 @@ use Rattle.storage.specs.declared.Change.{Change}
 use Rattle.storage.specs.declared.Change.the-variants.{Done, Refused}
 use Rattle.storage.proofs.Stores.{leaves-refused, outcome-ok, written-view}
 use Rattle.sheet.specs.Kinds.{sizeIn, ruleOf}
-use Rattle.sheet.specs.Reader.{Item, stop, next, act, known, edited, stepped, sizeAt, endAt, itemAt}
+use Rattle.sheet.specs.Reader.{Item, next, known, edited, stepped, sizeAt, endAt, itemAt}
 use Rattle.sheet.specs.Reads.{step, made, editionOf}
 use Rattle.sheet.specs.declared.Edit.{Edit}
 use Rattle.decode.specs.declared.Asked.{Asked}
 use Rattle.decode.specs.declared.Asked.the-variants.{For, Refused}
 use Rattle.decode.specs.Asks.{asks, askedBy, askedFor}
 use Rattle.reader.specs.Kernels.{Padded, outcomeOf, dutyItem, turned}
+
+-- the step of an edit that is known
+pub step-of : {e f : Edit} {ws ws' : List ℕ} {b : Bitmap} {r : Change} → e ≡ f → Changes (step f) ws b r ws' → Changes (step e) ws b r ws'
+step-of {e} {f} {ws} {ws'} {b} {r} q h = subst (λ (x : Edit). Changes (step x) ws b r ws') (sym q) h
 
 -- what the step that is asked for comes to: any refusal of it is 6
 abbrev stepMade : Outcome → Outcome

@@ -16,18 +16,12 @@ ghost use Rattle.sheet.specs.Reader.{headed, endAt, itemAt, records, read};
 ghost use Rattle.sheet.specs.Reads.{step, editionOf, fitting, Reads};
 ghost use Rattle.reader.specs.Kernels.{Padded, dutyItem, turned, Came};
 
-fn wide(x: u8) -> usize
-    ensures { λ r. ⌜ (r ≡ x) × (r < 256) ⌝ }
-{
-    x as usize
-}
-
 // The byte at a place, 0 past the end.
 fn byte_at(bytes: &[u8], k: usize) -> usize
     ensures { λ r. ⌜ (r ≡ getD (now (bytes .entry)) k 0) × (r < 256) ⌝ }
 {
     if k < bytes.len() {
-        return wide(bytes[k]);
+        return bytes[k] as usize;
     }
     0
 }
@@ -102,7 +96,7 @@ fn turn(edition: usize, sheet: &[u8], at: usize, end: usize, words: &mut [u64], 
     requires { ⌜ (end ≡ endAt (now sheet) at) × (end ≤ length (now sheet)) × Padded (now words) (b .count) ⌝ }
     ensures { λ r. ⌜ Leaves (turned edition (itemAt (now (sheet .entry)) at) (length (now (words .entry))) (view (now (words .entry)) (b .count))) (now (words .entry)) b r (now (words .exit)) ⌝ }
 {
-    let first = wide(sheet[at]);
+    let first = byte_at(sheet, at);
     if first < 128 {
         return Change::Done(b);
     }

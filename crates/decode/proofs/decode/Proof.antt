@@ -4,64 +4,43 @@ use Rattle.decode.proofs.Lengths.{of-kind, as-kind, of-place, of-region
 use borrow.Author.Needs.{needs}
 use Rattle.decode.proofs.decode.Statement.{statement}
 use Rattle.decode.proofs.decode.Tie as tie
-use Rattle.decode.proofs.decode.Reads as reads
-use Rattle.decode.proofs.decode.Lts as lts
-use Rattle.decode.proofs.field.Reads as field-reads
-use Rattle.decode.proofs.pair.Reads as pair-reads
-use Rattle.decode.proofs.place.Reads as place-reads
-use Rattle.decode.proofs.region.Reads as region-reads
-use Rattle.decode.proofs.size.Reads as size-reads
-use Rattle.decode.proofs.turn.Reads as turn-reads
 
--- src/lib.rt:141:9
 place-requires : tie.Need-place-requires
 place-requires c κs = omega (arith, of-place (c .before .before .args .kind) (omega arith) (omega arith))
 
--- src/lib.rt:141:9
 returns : tie.Need-returns
 returns c = search needs
 
--- src/lib.rt:144:9
 region-requires : tie.Need-region-requires
 region-requires c κs = omega (arith, of-kind (c .before .before .before .args .kind) 3 9 of-region (omega arith))
 
--- src/lib.rt:144:9
 returns-2 : tie.Need-returns-2
 returns-2 c = as-kind (c .before .before .before .before .args .kind) 3 (c .before .before .before .before .args .payload .now) (c .region .result) (omega arith) (c .region .ensures)
 
--- src/lib.rt:147:9
 field-requires : tie.Need-field-requires
 field-requires c κs = omega (arith, of-kind (c .before .before .before .before .args .kind) 4 13 of-field (omega arith))
 
--- src/lib.rt:147:9
 returns-3 : tie.Need-returns-3
 returns-3 c = as-kind (c .before .before .before .before .before .args .kind) 4 (c .before .before .before .before .before .args .payload .now) (c .field .result) (omega arith) (c .field .ensures)
 
--- src/lib.rt:150:9
 turn-requires : tie.Need-turn-requires
 turn-requires c κs = omega (arith, of-turn (c .before .before .before .before .before .args .kind) (omega arith) (omega arith))
 
--- src/lib.rt:150:9
 returns-4 : tie.Need-returns-4
 returns-4 c = search needs
 
--- src/lib.rt:153:9
 size-requires : tie.Need-size-requires
 size-requires c κs = omega (arith, of-kind (c .before .before .before .before .before .before .args .kind) 7 5 of-size (omega arith))
 
--- src/lib.rt:153:9
 returns-5 : tie.Need-returns-5
 returns-5 c = as-kind (c .before .before .before .before .before .before .before .args .kind) 7 (c .before .before .before .before .before .before .before .args .payload .now) (c .size .result) (omega arith) (c .size .ensures)
 
--- src/lib.rt:156:9
 returns-6 : tie.Need-returns-6
 returns-6 c = just-reverse (c .before .before .before .before .before .before .before .args .kind) (c .before .before .before .before .before .before .before .args .payload .now) (omega arith)
 
--- src/lib.rt:158:5
 pair-requires : tie.Need-pair-requires
 pair-requires c κs = omega (arith, of-pair (c .before .before .before .before .before .before .before .args .kind) (omega arith) (omega arith))
 
--- src/lib.rt:136:1
 returns-7 : tie.Need-returns-7
 returns-7 c = search needs
 

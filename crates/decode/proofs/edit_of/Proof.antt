@@ -4,36 +4,25 @@ use Rattle.decode.proofs.Lengths.{held, asked-newer, asked-long, asked-
 use borrow.Author.Needs.{needs}
 use Rattle.decode.proofs.edit_of.Statement.{statement}
 use Rattle.decode.proofs.edit_of.Tie as tie
-use Rattle.decode.proofs.edit_of.Reads as reads
-use Rattle.decode.proofs.edit_of.Lts as lts
-use Rattle.decode.proofs.decode.Reads as decode-reads
-use Rattle.sheet.proofs.payload_bytes.Reads as payload-bytes-reads
 
--- src/lib.rt:165:11
 payload-bytes-requires : tie.Need-payload-bytes-requires
 payload-bytes-requires c κs = search needs
 
--- src/lib.rt:166:40
 enum-told : tie.Need-enum-told
 enum-told c = search needs
 
--- src/lib.rt:167:22
 enum-known-n : tie.Need-enum-known-n
 enum-known-n c = search needs
 
--- src/lib.rt:169:17
 returns : tie.Need-returns
 returns c = asked-long (c .before .before .before .before .before .before .args .edition) (c .before .before .before .before .before .before .args .kind) (c .before .before .before .before .before .before .args .payload .now) (c .before .before .n .given .0 .0) (sym (c .before .before .n .given .1) ∙ c .before .before .before .before .payload-bytes .ensures) (omega arith)
 
--- src/lib.rt:171:13
 decode-requires : tie.Need-decode-requires
 decode-requires c κs = let h = held (c .before .before .before .before .before .before .args .edition) (c .before .before .before .before .before .before .args .kind) (c .before .before .n .given .0 .0) (sym (c .before .before .n .given .1) ∙ c .before .before .before .before .payload-bytes .ensures) in (omega (arith, h .bytes), h .low, h .high)
 
--- src/lib.rt:162:1
 returns-2 : tie.Need-returns-2
 returns-2 c = asked-newer (c .before .before .before .before .args .edition) (c .before .before .before .before .args .kind) (c .before .before .before .before .args .payload .now) (sym (c .enum-told .given .1) ∙ c .before .before .payload-bytes .ensures)
 
--- src/lib.rt:162:1
 returns-3 : tie.Need-returns-3
 returns-3 c = asked-edit (c .before .before .before .before .before .before .before .args .edition) (c .before .before .before .before .before .before .before .args .kind) (c .before .before .before .before .before .before .before .args .payload .now) (c .before .before .before .n .given .0 .0) (sym (c .before .before .before .n .given .1) ∙ c .before .before .before .before .before .payload-bytes .ensures) (c .decode .result) (omega arith) (c .decode .ensures)
 

@@ -5,67 +5,49 @@ use Rattle.decode.proofs.Payloads.{rest, field-odd, field-wide, field-g
 use borrow.Author.Needs.{needs}
 use Rattle.decode.proofs.field.Statement.{statement}
 use Rattle.decode.proofs.field.Tie as tie
-use Rattle.decode.proofs.field.Reads as reads
-use Rattle.decode.proofs.field.Lts as lts
-use Rattle.decode.proofs.number_of.Reads as number-of-reads
 
--- src/lib.rt:73:23
 slice-aggregate-number-of : tie.Need-slice-aggregate-number-of
 slice-aggregate-number-of c = sym (length-take-le 4 (c .before .before .args .payload .now) (omega arith))
 
--- src/lib.rt:73:9
 number-of-requires : tie.Need-number-of-requires
 number-of-requires c κs = omega (arith, length-take-le 4 (c .before .before .args .payload .now) (omega arith))
 
--- src/lib.rt:74:23
 sub-number-of : tie.Need-sub-number-of
 sub-number-of c = search needs
 
--- src/lib.rt:74:23
 part-number-of-start : tie.Need-part-number-of-start
 part-number-of-start c = search needs
 
--- src/lib.rt:74:23
 part-number-of-end : tie.Need-part-number-of-end
 part-number-of-end c = search needs
 
--- src/lib.rt:74:9
 number-of-requires-2 : tie.Need-number-of-requires-2
 number-of-requires-2 c κs = search needs
 
--- src/lib.rt:75:23
 sub-number-of-2 : tie.Need-sub-number-of-2
 sub-number-of-2 c = search needs
 
--- src/lib.rt:75:23
 part-number-of-start-2 : tie.Need-part-number-of-start-2
 part-number-of-start-2 c = search needs
 
--- src/lib.rt:75:23
 part-number-of-end-2 : tie.Need-part-number-of-end-2
 part-number-of-end-2 c = search needs
 
--- src/lib.rt:75:9
 number-of-requires-3 : tie.Need-number-of-requires-3
 number-of-requires-3 c κs = search needs
 
--- src/lib.rt:77:9
 returns : tie.Need-returns
 returns c = field-odd (c .before .before .before .before .before .before .before .before .args .payload .now) (c .before .before .before .before .before .number-of .result) (c .before .before .before .number-of2 .result) (c .before .number-of3 .result) (omega arith) (c .before .before .before .before .before .number-of .ensures) (c .before .before .before .number-of2 .ensures) (rest 5 (c .before .before .before .before .before .before .before .before .args .payload .now) (c .before .number-of3 .result) (c .before .number-of3 .ensures)) (omega arith)
 
--- src/lib.rt:80:9
 returns-2 : tie.Need-returns-2
 returns-2 c = field-wide (c .before .before .before .before .before .before .before .before .before .args .payload .now) (c .before .before .before .before .before .before .number-of .result) (c .before .before .before .before .number-of2 .result) (c .before .before .number-of3 .result) (omega arith) (c .before .before .before .before .before .before .number-of .ensures) (c .before .before .before .before .number-of2 .ensures) (rest 5 (c .before .before .before .before .before .before .before .before .before .args .payload .now) (c .before .before .number-of3 .result) (c .before .before .number-of3 .ensures)) (omega arith)
 
--- src/lib.rt:82:17
 mul-value : tie.Need-mul-value
 mul-value c = search needs
 
--- src/lib.rt:82:17
 add-value : tie.Need-add-value
 add-value c = record { fits = value-fits (c .before .before .before .before .before .before .before .before .before .args .payload .now) (c .before .before .before .before .before .before .number-of .result) (c .before .before .before .before .number-of2 .result) (c .before .before .number-of3 .result) (omega arith) (c .before .before .before .before .before .before .number-of .ensures) (c .before .before .before .before .number-of2 .ensures) (rest 5 (c .before .before .before .before .before .before .before .before .before .args .payload .now) (c .before .before .number-of3 .result) (c .before .before .number-of3 .ensures)) }
 
--- src/lib.rt:69:1
 returns-3 : tie.Need-returns-3
 returns-3 c = field-good (c .before .before .before .before .before .before .before .before .before .args .payload .now) (c .before .before .before .before .before .before .number-of .result) (c .before .before .before .before .number-of2 .result) (c .before .before .number-of3 .result) (omega arith) (c .before .before .before .before .before .before .number-of .ensures) (c .before .before .before .before .number-of2 .ensures) (rest 5 (c .before .before .before .before .before .before .before .before .before .args .payload .now) (c .before .before .number-of3 .result) (c .before .before .number-of3 .ensures)) (omega arith) (omega arith)
 

@@ -3,23 +3,16 @@ use Rattle.decode.proofs.Payloads.{size-bad, size-over, size-good}
 use borrow.Author.Needs.{needs}
 use Rattle.decode.proofs.size.Statement.{statement}
 use Rattle.decode.proofs.size.Tie as tie
-use Rattle.decode.proofs.size.Reads as reads
-use Rattle.decode.proofs.size.Lts as lts
-use Rattle.decode.proofs.number_of.Reads as number-of-reads
 
--- src/lib.rt:108:9
 number-of-requires : tie.Need-number-of-requires
 number-of-requires c κs = search needs
 
--- src/lib.rt:110:9
 returns : tie.Need-returns
 returns c = size-bad (c .before .before .before .args .payload .now) (c .before .number-of .result) (omega arith) (c .before .number-of .ensures) (omega arith)
 
--- src/lib.rt:113:9
 returns-2 : tie.Need-returns-2
 returns-2 c = size-over (c .before .before .before .before .args .payload .now) (c .before .before .number-of .result) (omega arith) (c .before .before .number-of .ensures) (omega arith)
 
--- src/lib.rt:104:1
 returns-3 : tie.Need-returns-3
 returns-3 c = size-good (c .before .before .before .before .args .payload .now) (c .before .before .number-of .result) (omega arith) (c .before .before .number-of .ensures) (omega arith) (omega arith)
 

@@ -2,235 +2,170 @@ use mathlib.Core.Path.{ap, _∙_}
 use mathlib.Core.Bool.{Bool}
 use Rattle.sheet.specs.Reads.{step}
 use Rattle.sheet.specs.declared.Edit.the-variants.{Shift, Rotate}
-use Rattle.reader.proofs.Steps.{step-of}
+use Rattle.reader.proofs.Turns.{step-of}
 use borrow.Author.Needs.{needs}
 use Rattle.reader.proofs.apply.Statement.{statement}
 use Rattle.reader.proofs.apply.Tie as tie
-use Rattle.reader.proofs.apply.Reads as reads
-use Rattle.reader.proofs.apply.Lts as lts
-use Rattle.bitmap.proofs.set.Reads as set-reads
-use Rattle.bitmap.proofs.set_field.Reads as set-field-reads
-use Rattle.bitmap.proofs.set_region.Reads as set-region-reads
-use Rattle.bitmap.proofs.unset.Reads as unset-reads
-use Rattle.bits.proofs.reverse.Reads as reverse-reads
-use Rattle.gap.proofs.close_gap.Reads as close-gap-reads
-use Rattle.gap.proofs.open_gap.Reads as open-gap-reads
-use Rattle.shape.proofs.resize_bits.Reads as resize-bits-reads
-use Rattle.shape.proofs.shift_left.Reads as shift-left-reads
-use Rattle.shape.proofs.shift_right.Reads as shift-right-reads
-use Rattle.shape.proofs.toggle_region.Reads as toggle-region-reads
-use Rattle.shift.proofs.rotate_left.Reads as rotate-left-reads
-use Rattle.shift.proofs.rotate_right.Reads as rotate-right-reads
 
--- src/lib.rt:13:19
 enum-known-e : tie.Need-enum-known-e
 enum-known-e c = search needs
 
--- src/lib.rt:13:25
 set-requires : tie.Need-set-requires
 set-requires c κs = search needs
 
--- src/lib.rt:14:21
 enum-known-e-2 : tie.Need-enum-known-e-2
 enum-known-e-2 c = search needs
 
--- src/lib.rt:14:27
 unset-requires : tie.Need-unset-requires
 unset-requires c κs = search needs
 
--- src/lib.rt:15:25
 enum-known-e-3 : tie.Need-enum-known-e-3
 enum-known-e-3 c = search needs
 
--- src/lib.rt:15:41
 set-region-requires : tie.Need-set-region-requires
 set-region-requires c κs = search needs
 
--- src/lib.rt:16:24
 enum-known-e-4 : tie.Need-enum-known-e-4
 enum-known-e-4 c = search needs
 
--- src/lib.rt:16:44
 set-field-requires : tie.Need-set-field-requires
 set-field-requires c κs = search needs
 
--- src/lib.rt:17:21
 enum-known-e-5 : tie.Need-enum-known-e-5
 enum-known-e-5 c = search needs
 
--- src/lib.rt:19:17
 shift-right-requires : tie.Need-shift-right-requires
 shift-right-requires c κs = search needs
 
--- src/lib.rt:19:17
 same-length : tie.Need-same-length
 same-length c = search needs
 
--- src/lib.rt:19:17
 returns : tie.Need-returns
 unfolding step
 returns c = step-of (c .before .before .before .before .before .before .e5 .given .1 ∙ ap (λ (t : Bool). Shift t (c .before .before .before .before .before .before .e5 .given .0 .1 .0)) (c .before .before .before .before .if1 .taken)) (c .before .before .shift-right .ensures)
 
--- src/lib.rt:21:13
 shift-left-requires : tie.Need-shift-left-requires
 shift-left-requires c κs = search needs
 
--- src/lib.rt:23:22
 enum-known-e-6 : tie.Need-enum-known-e-6
 enum-known-e-6 c = search needs
 
--- src/lib.rt:25:17
 rotate-right-requires : tie.Need-rotate-right-requires
 rotate-right-requires c κs = search needs
 
--- src/lib.rt:25:17
 same-length-2 : tie.Need-same-length-2
 same-length-2 c = search needs
 
--- src/lib.rt:25:17
 returns-2 : tie.Need-returns-2
 unfolding step
 returns-2 c = step-of (c .before .before .before .before .before .before .e6 .given .1 ∙ ap (λ (t : Bool). Rotate t (c .before .before .before .before .before .before .e6 .given .0 .1 .0)) (c .before .before .before .before .if2 .taken)) (c .before .before .rotate-right .ensures)
 
--- src/lib.rt:27:13
 rotate-left-requires : tie.Need-rotate-left-requires
 rotate-left-requires c κs = search needs
 
--- src/lib.rt:29:22
 enum-known-e-7 : tie.Need-enum-known-e-7
 enum-known-e-7 c = search needs
 
--- src/lib.rt:29:28
 resize-bits-requires : tie.Need-resize-bits-requires
 resize-bits-requires c κs = search needs
 
--- src/lib.rt:30:40
 enum-told : tie.Need-enum-told
 enum-told c = search needs
 
--- src/lib.rt:30:26
 reverse-requires : tie.Need-reverse-requires
 reverse-requires c κs = search needs
 
--- src/lib.rt:31:28
 enum-known-e-8 : tie.Need-enum-known-e-8
 enum-known-e-8 c = search needs
 
--- src/lib.rt:31:37
 toggle-region-requires : tie.Need-toggle-region-requires
 toggle-region-requires c κs = search needs
 
--- src/lib.rt:32:20
 enum-known-e-9 : tie.Need-enum-known-e-9
 enum-known-e-9 c = search needs
 
--- src/lib.rt:32:29
 open-gap-requires : tie.Need-open-gap-requires
 open-gap-requires c κs = search needs
 
--- src/lib.rt:33:21
 enum-known-e-10 : tie.Need-enum-known-e-10
 enum-known-e-10 c = search needs
 
--- src/lib.rt:33:30
 close-gap-requires : tie.Need-close-gap-requires
 close-gap-requires c κs = search needs
 
--- src/lib.rt:9:1
 same-length-3 : tie.Need-same-length-3
 same-length-3 c = search needs
 
--- src/lib.rt:9:1
 returns-3 : tie.Need-returns-3
 unfolding step
 returns-3 c = step-of (c .before .before .before .before .before .e .given .1) (c .before .before .set .ensures)
 
--- src/lib.rt:9:1
 same-length-4 : tie.Need-same-length-4
 same-length-4 c = search needs
 
--- src/lib.rt:9:1
 returns-4 : tie.Need-returns-4
 unfolding step
 returns-4 c = step-of (c .before .before .before .before .before .e2 .given .1) (c .before .before .unset .ensures)
 
--- src/lib.rt:9:1
 same-length-5 : tie.Need-same-length-5
 same-length-5 c = search needs
 
--- src/lib.rt:9:1
 returns-5 : tie.Need-returns-5
 unfolding step
 returns-5 c = step-of (c .before .before .before .before .before .e3 .given .1) (c .before .before .set-region .ensures)
 
--- src/lib.rt:9:1
 same-length-6 : tie.Need-same-length-6
 same-length-6 c = search needs
 
--- src/lib.rt:9:1
 returns-6 : tie.Need-returns-6
 unfolding step
 returns-6 c = step-of (c .before .before .before .before .before .e4 .given .1) (c .before .before .set-field .ensures)
 
--- src/lib.rt:9:1
 same-length-7 : tie.Need-same-length-7
 same-length-7 c = search needs
 
--- src/lib.rt:9:1
 returns-7 : tie.Need-returns-7
 unfolding step
 returns-7 c = step-of (c .before .before .before .before .before .before .e5 .given .1 ∙ ap (λ (t : Bool). Shift t (c .before .before .before .before .before .before .e5 .given .0 .1 .0)) (c .before .before .before .before .if1 .left)) (c .before .before .shift-left .ensures)
 
--- src/lib.rt:9:1
 same-length-8 : tie.Need-same-length-8
 same-length-8 c = search needs
 
--- src/lib.rt:9:1
 returns-8 : tie.Need-returns-8
 unfolding step
 returns-8 c = step-of (c .before .before .before .before .before .before .e6 .given .1 ∙ ap (λ (t : Bool). Rotate t (c .before .before .before .before .before .before .e6 .given .0 .1 .0)) (c .before .before .before .before .if2 .left)) (c .before .before .rotate-left .ensures)
 
--- src/lib.rt:9:1
 same-length-9 : tie.Need-same-length-9
 same-length-9 c = search needs
 
--- src/lib.rt:9:1
 returns-9 : tie.Need-returns-9
 unfolding step
 returns-9 c = step-of (c .before .before .before .before .before .e7 .given .1) (c .before .before .resize-bits .ensures)
 
--- src/lib.rt:9:1
 same-length-10 : tie.Need-same-length-10
 same-length-10 c = search needs
 
--- src/lib.rt:9:1
 returns-10 : tie.Need-returns-10
 unfolding step
 returns-10 c = step-of (c .before .before .before .before .enum-told .given .1) (c .before .before .reverse .ensures)
 
--- src/lib.rt:9:1
 same-length-11 : tie.Need-same-length-11
 same-length-11 c = search needs
 
--- src/lib.rt:9:1
 returns-11 : tie.Need-returns-11
 unfolding step
 returns-11 c = step-of (c .before .before .before .before .before .e8 .given .1) (c .before .before .toggle-region .ensures)
 
--- src/lib.rt:9:1
 same-length-12 : tie.Need-same-length-12
 same-length-12 c = search needs
 
--- src/lib.rt:9:1
 returns-12 : tie.Need-returns-12
 unfolding step
 returns-12 c = step-of (c .before .before .before .before .before .e9 .given .1) (c .before .before .open-gap .ensures)
 
--- src/lib.rt:9:1
 same-length-13 : tie.Need-same-length-13
 same-length-13 c = search needs
 
--- src/lib.rt:9:1
 returns-13 : tie.Need-returns-13
 unfolding step
 returns-13 c = step-of (c .before .before .before .before .before .e10 .given .1) (c .before .before .close-gap .ensures)

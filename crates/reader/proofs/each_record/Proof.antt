@@ -1,18 +1,10 @@
-use lib.ListN.{length}
-use Rattle.storage.specs.Stores.{view}
-use Rattle.sheet.specs.Reader.{records}
-use Rattle.sheet.specs.Reads.{editionOf}
 use Prim.Native.Nat.{_-_}
-use mathlib.Core.Path.{sym, _∙_}
+use mathlib.Core.Path.{_∙_}
 use native.Mathlib.Omega.{arith}
 use borrow.Author.Needs.{needs}
 use Rattle.reader.proofs.Records.{Going, begins, cut, stops, goes-on, remain, finished, came-refused, came-done}
 use Rattle.reader.proofs.each_record.Statement.{statement}
 use Rattle.reader.proofs.each_record.Tie as tie
-use Rattle.reader.proofs.each_record.Reads as reads
-use Rattle.reader.proofs.each_record.Lts as lts
-use Rattle.reader.proofs.end_of.Reads as end-of-reads
-use Rattle.reader.proofs.turn.Reads as turn-reads
 
 abbrev Inv-loop : tie.InvT-loop
 Inv-loop edition sheet n words₀ count₀ i₀ at₀ words count i at = Going edition sheet n words₀ count₀ words count i at
@@ -20,75 +12,57 @@ Inv-loop edition sheet n words₀ count₀ i₀ at₀ words count i at = Going e
 abbrev μ-loop : tie.MeasureT-loop
 μ-loop edition sheet n words₀ count₀ i₀ at₀ words count i at = n - i
 
--- src/lib.rt:118:5
 loop-holds : tie.Need-loop-holds Inv-loop μ-loop
 loop-holds c = let a = c .before .before .args in begins (a .edition) (a .sheet .now) (a .n) (a .words .now) (a .b .count) (c .before .before .pre .0) (λ k. omega (arith, c .slice-known .given k)) (c .before .before .pre .1)
 
--- src/lib.rt:119:13
 end-of-requires : tie.Need-end-of-requires Inv-loop μ-loop
 end-of-requires c κs = c .before .loop .inv .inside
 
--- src/lib.rt:121:57
 add-t15 : tie.Need-add-t15 Inv-loop μ-loop
 add-t15 c = omega arith
 
--- src/lib.rt:121:13
 same-length : tie.Need-same-length Inv-loop μ-loop
 same-length c = c .before .before .before .loop .inv .long
 
--- src/lib.rt:121:13
 returns : tie.Need-returns Inv-loop μ-loop
 returns c = let l = c .before .before .before .loop in let a = c .before .before .before .before .before .before .args in came-refused _ _ _ _ _ (l .inv .long) (cut (a .edition) (a .sheet .now) (a .n) (a .words .now) (a .b .count) (l .words) (l .count) (l .i) (l .at) (l .inv) (omega arith) (c .before .end-of .result) (c .before .end-of .ensures) (omega arith))
 
--- src/lib.rt:123:15
 turn-requires : tie.Need-turn-requires Inv-loop μ-loop
 turn-requires c κs = (c .before .before .end-of .ensures, omega arith, c .before .before .before .before .loop .inv .padded)
 
--- src/lib.rt:124:29
 enum-known-why : tie.Need-enum-known-why Inv-loop μ-loop
 enum-known-why c = search needs
 
--- src/lib.rt:124:69
 add-t20 : tie.Need-add-t20 Inv-loop μ-loop
 add-t20 c = omega arith
 
--- src/lib.rt:124:40
 same-length-2 : tie.Need-same-length-2 Inv-loop μ-loop
 same-length-2 c = c .before .before .before .before .words .given ∙ c .before .before .before .before .before .before .before .before .before .before .loop .inv .long
 
--- src/lib.rt:124:40
 returns-2 : tie.Need-returns-2 Inv-loop μ-loop
 returns-2 c = let l = c .before .before .before .before .before .before .before .before .before .before .loop in let a = c .before .before .before .before .before .before .before .before .before .before .before .before .before .args in came-refused _ _ _ _ _ (c .before .before .before .before .words .given ∙ l .inv .long) (stops (a .edition) (a .sheet .now) (a .n) (a .words .now) (a .b .count) (l .words) (l .count) (l .i) (l .at) (l .inv) (omega arith) (c .before .before .before .before .before .before .before .before .end-of .result) (c .before .before .before .before .before .before .before .before .end-of .ensures) (omega arith) (c .before .before .before .before .before .turn .result) (c .before .before .before .before .before .turn .last .1 .1 .1 .1 .0) (c .before .why .given .0 .0) (c .before .why .given .0 .1 .0) (c .before .why .given .1) (c .before .before .before .before .before .turn .ensures))
 
--- src/lib.rt:125:26
 enum-known-after : tie.Need-enum-known-after Inv-loop μ-loop
 enum-known-after c = search needs
 
--- src/lib.rt:130:9
 add-i : tie.Need-add-i Inv-loop μ-loop
 add-i c = omega arith
 
--- src/lib.rt:118:5
 loop-less : tie.Need-loop-less Inv-loop μ-loop
 loop-less c = omega arith
 
--- src/lib.rt:118:5
 loop-again : tie.Need-loop-again Inv-loop μ-loop
 loop-again c = let l = c .before .before .before .before .before .before .before .before .before .before .loop in let a = c .before .before .before .before .before .before .before .before .before .before .before .before .before .args in goes-on (a .edition) (a .sheet .now) (a .n) (a .words .now) (a .b .count) (l .words) (l .count) (l .i) (l .at) (l .inv) (omega arith) (c .before .before .before .before .before .before .before .before .end-of .result) (c .before .before .before .before .before .before .before .before .end-of .ensures) (omega arith) (c .before .before .before .before .before .turn .result) (c .before .before .before .before .before .turn .last .1 .1 .1 .1 .0) (c .before .after .given .0 .0) (c .before .after .given .1) (c .before .before .before .before .before .turn .ensures)
 
--- src/lib.rt:133:9
 same-length-3 : tie.Need-same-length-3 Inv-loop μ-loop
 same-length-3 c = c .before .before .loop .inv .long
 
--- src/lib.rt:133:9
 returns-3 : tie.Need-returns-3 Inv-loop μ-loop
 returns-3 c = let l = c .before .before .loop in let a = c .before .before .before .before .before .args in came-refused _ _ _ _ _ (l .inv .long) (remain (a .edition) (a .sheet .now) (a .n) (a .words .now) (a .b .count) (l .words) (l .count) (l .i) (l .at) (l .inv) (omega arith) (omega arith))
 
--- src/lib.rt:111:1
 same-length-4 : tie.Need-same-length-4 Inv-loop μ-loop
 same-length-4 c = c .before .before .loop .inv .long
 
--- src/lib.rt:111:1
 returns-4 : tie.Need-returns-4 Inv-loop μ-loop
 returns-4 c = let l = c .before .before .loop in let a = c .before .before .before .before .before .args in came-done _ _ _ _ _ (l .inv .long) (l .inv .fit) (l .inv .padded) (finished (a .edition) (a .sheet .now) (a .n) (a .words .now) (a .b .count) (l .words) (l .count) (l .i) (l .at) (l .inv) (omega arith) (omega arith))
 

@@ -3,34 +3,25 @@ use Rattle.reader.proofs.Heads.{head-short, head-first, head-second}
 use borrow.Author.Needs.{needs}
 use Rattle.reader.proofs.has_head.Statement.{statement}
 use Rattle.reader.proofs.has_head.Tie as tie
-use Rattle.reader.proofs.has_head.Reads as reads
-use Rattle.reader.proofs.has_head.Lts as lts
 
--- src/lib.rt:37:9
 returns : tie.Need-returns
 returns c = head-short (c .before .args .bytes .now) (omega arith)
 
--- src/lib.rt:40:8
 shared-slice-read-if2 : tie.Need-shared-slice-read-if2
 shared-slice-read-if2 c = search needs
 
--- src/lib.rt:40:20
 array-read-if2 : tie.Need-array-read-if2
 array-read-if2 c = search needs
 
--- src/lib.rt:41:9
 returns-2 : tie.Need-returns-2
 returns-2 c = head-first (c .before .before .before .args .bytes .now) (omega arith) (omega arith)
 
--- src/lib.rt:43:5
 shared-slice-read-result : tie.Need-shared-slice-read-result
 shared-slice-read-result c = search needs
 
--- src/lib.rt:43:17
 array-read-result : tie.Need-array-read-result
 array-read-result c = search needs
 
--- src/lib.rt:33:1
 returns-3 : tie.Need-returns-3
 returns-3 c = head-second (c .before .before .before .before .args .bytes .now) (omega arith) (omega arith)
 
