@@ -1,25 +1,25 @@
 -- An addition: the sheet's refusals, the request's, and the record.
 use Prim.Native.Nat.{ℕ, _≤_, _<_}
 use mathlib.Core.Path.{_≡_, refl, sym, ap, _∙_, subst}
-use mathlib.Core.Bool.{Bool, true, false, _&&_}
+use mathlib.Core.Bool.{Bool, true, false}
 use mathlib.Core.List.{List}
 use mathlib.Core.Option.{Option, none, some}
 use native.Mathlib.Omega.{arith}
 use lib.ListN.{length, take, length-take}
-use lib.Dec.{leb, ltb}
-use borrow.Author.Tests.{lt-ltb, le-ltb, leb-true}
-use Rattle.word.specs.Sets.{choose}
+use borrow.Author.Tests.{lt-ltb, le-ltb}
 use Rattle.storage.specs.declared.Refusal.{Refusal}
 use Rattle.storage.specs.declared.Refusal.the-variants.{CountOverStore, NotSheet, BadPayload, NewerKind}
 use Rattle.storage.specs.declared.Guard.{Guard}
 use Rattle.storage.specs.declared.Guard.the-variants.{Pass, Stop}
 use Rattle.sheet.specs.declared.Added.{Added}
 use Rattle.sheet.specs.declared.Added.the-variants.{Refused}
-use Rattle.sheet.specs.Reader.{headed}
+use Rattle.sheet.specs.Reader.{countIn}
 use Rattle.sheet.specs.declared.Fields.{Fields}
-use Rattle.sheet.specs.Writer.{Request, duty, remark, requested, Checked, bad, good, Entry, note, checkedOf, bytesOf, sheetFault, Left, refuse, placed, placedBy, judged, added, Writes, Adds}
+use Rattle.sheet.specs.Writer.{Request, duty, remark, requested, Checked, bad, good, Entry, note, checkedOf, bytesOf, framesFault, sheetFault, Left, refuse, placed, placedBy, judged, added, Writes, Adds}
+use Rattle.sheet.specs.Meaning.{Header}
+use Rattle.sheet.proofs.Turns.{none-some, take-true, take-false, header?, headed-false}
 use Rattle.writer.specs.Kernels.{Given, guardBy}
-use Rattle.writer.proofs.Answers.{where-true, where-false, writes}
+use Rattle.writer.proofs.Answers.{writes}
 use Rattle.writer.proofs.Places.{Laid}
 
 -- what is asked comes to a refusal, or to a record
@@ -33,16 +33,16 @@ module _ (buf : List ℕ) (len : ℕ) (c : Checked) where
 module _ (kind : ℕ) (p : List ℕ) where
   pub remark-13 : 127 < kind → checkedOf (remark kind p) ≡ bad NewerKind
   unfolding checkedOf
-  remark-13 h = where-true (ltb 127 kind) _ _ (lt-ltb 127 kind h)
+  remark-13 h = take-true _ _ (lt-ltb 127 kind h)
 
   module _ (k : kind ≤ 127) where
     pub remark-12 : 65_535 < length p → checkedOf (remark kind p) ≡ bad BadPayload
     unfolding checkedOf
-    remark-12 h = where-false (ltb 127 kind) _ _ (le-ltb 127 kind k) ∙ where-true (ltb 65_535 (length p)) _ _ (lt-ltb 65_535 (length p) h)
+    remark-12 h = take-false _ _ (le-ltb 127 kind k) ∙ take-true _ _ (lt-ltb 65_535 (length p) h)
 
     pub remark-good : length p ≤ 65_535 → checkedOf (remark kind p) ≡ good (note kind p)
     unfolding checkedOf
-    remark-good h = where-false (ltb 127 kind) _ _ (le-ltb 127 kind k) ∙ where-false (ltb 65_535 (length p)) _ _ (le-ltb 65_535 (length p) h)
+    remark-good h = take-false _ _ (le-ltb 127 kind k) ∙ take-false _ _ (le-ltb 65_535 (length p) h)
 
   pub remark-laid : Laid (note kind p) kind p (length p)
   unfolding bytesOf
@@ -51,12 +51,12 @@ module _ (kind : ℕ) (p : List ℕ) where
 module _ (buf : List ℕ) (len : ℕ) where
   pub adds-2 : (q : Request) → length buf < len → Writes (added buf len q) (Refused CountOverStore) buf
   unfolding added
-  adds-2 q h = writes _ (refuse CountOverStore buf) (where-true (ltb (length buf) len) _ _ (lt-ltb (length buf) len h))
+  adds-2 q h = writes _ (refuse CountOverStore buf) (take-true _ _ (lt-ltb (length buf) len h))
 
   module _ (l : len ≤ length buf) (g : Guard) (told : g ≡ guardBy (sheetFault (take len buf))) where
     looked : (q : Request) → added buf len q ≡ judged buf len q (sheetFault (take len buf))
     unfolding added
-    looked q = where-false (ltb (length buf) len) _ _ (le-ltb (length buf) len l)
+    looked q = take-false _ _ (le-ltb (length buf) len l)
 
     pub adds-fault : (q : Request) (e : Refusal) → g ≡ Stop e → Writes (added buf len q) (Refused e) buf
     adds-fault q e s = writes _ (refuse e buf) (looked q ∙ go (sheetFault (take len buf)) (sym told ∙ s))
@@ -78,11 +78,11 @@ module _ (buf : List ℕ) (len : ℕ) where
       adds-given = record { headed = omega (arith, rw length-take at long); inside = l }
         where
           long : 4 ≤ length (take len buf)
-          long = go (leb 4 (length (take len buf))) refl _ _ sound
+          long = go (header? (take len buf))
             where
-              go : (t : Bool) → leb 4 (length (take len buf)) ≡ t → (u : Bool) (o : Option Refusal) → choose (t && u) o (some NotSheet) ≡ none → 4 ≤ length (take len buf)
-              go true e u o z = leb-true 4 (length (take len buf)) e
-              go false e u o z = absurd (let v : _≡_ {A = ℕ} 0 1 = cc in omega arith)
+              go : Dec (Header (take len buf)) → 4 ≤ length (take len buf)
+              go (yes h) = h .0
+              go (no h) = absurd (none-some (sym sound ∙ take-false (framesFault (take len buf) (countIn (take len buf)) 4) (some NotSheet) (headed-false (take len buf) h)))
 
       asked : (q : Request) → added buf len q ≡ placedBy buf len (checkedOf q)
       asked q = looked q ∙ ap (judged buf len q) sound

@@ -1,22 +1,14 @@
 -- What the writer answers and leaves, where it does.
 use Prim.Native.Nat.{ℕ, _≤_, _<_}
 use mathlib.Core.Path.{_≡_, sym, ap}
-use mathlib.Core.Bool.{Bool, true, false}
 use mathlib.Core.List.{List, [], _∷_}
 use lib.ListN.{length}
 use lib.Seq.{sets}
-use lib.Dec.{ltb}
 use borrow.Author.Tests.{lt-ltb, le-ltb}
-use Rattle.word.specs.Sets.{choose}
 use Rattle.storage.specs.declared.Refusal.the-variants.{NoSpace}
 use Rattle.sheet.specs.declared.Added.the-variants.{Done, Refused}
 use Rattle.sheet.specs.Writer.{Left, Writes, Starts, started, refuse}
-
-pub where-true : {A : Type 0} (t : Bool) (x y : A) → t ≡ true → choose t x y ≡ x
-where-true t x y e = ap (λ (t : Bool). choose t x y) e
-
-pub where-false : {A : Type 0} (t : Bool) (x y : A) → t ≡ false → choose t x y ≡ y
-where-false t x y e = ap (λ (t : Bool). choose t x y) e
+use Rattle.sheet.proofs.Turns.{take-true, take-false}
 
 pub writes : (l m : Left) → l ≡ m → Writes l (m .answer) (m .buffer)
 writes l m e = record { answers = ap (λ (x : Left). x .answer) (sym e); leaves = ap (λ (x : Left). x .buffer) (sym e) }
@@ -24,8 +16,8 @@ writes l m e = record { answers = ap (λ (x : Left). x .answer) (sym e); leaves 
 module _ (buf : List ℕ) where
   pub starts-small : length buf < 4 → Starts buf (Refused NoSpace) buf
   unfolding started
-  starts-small h = writes _ (refuse NoSpace buf) (where-true (ltb (length buf) 4) _ _ (lt-ltb (length buf) 4 h))
+  starts-small h = writes _ (refuse NoSpace buf) (take-true _ _ (lt-ltb (length buf) 4 h))
 
   pub starts : 4 ≤ length buf → Starts buf (Done 4) (sets buf 0 (78 ∷ 83 ∷ 0 ∷ 0 ∷ []))
   unfolding started
-  starts h = writes _ (record { answer = Done 4; buffer = sets buf 0 (78 ∷ 83 ∷ 0 ∷ 0 ∷ []) }) (where-false (ltb (length buf) 4) _ _ (le-ltb (length buf) 4 h))
+  starts h = writes _ (record { answer = Done 4; buffer = sets buf 0 (78 ∷ 83 ∷ 0 ∷ 0 ∷ []) }) (take-false _ _ (le-ltb (length buf) 4 h))

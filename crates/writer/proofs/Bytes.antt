@@ -5,16 +5,11 @@ use mathlib.Core.List.{List, _∷_, _++_}
 use native.Mathlib.Omega.{arith}
 use native.Mathlib.Nat.{suc-add, pow-suc, mul-assoc, div-div-eq-div-mul}
 use native.Mathlib.Decide.{decLe}
-use lib.ListN.{length}
 use lib.Seq.{sets}
 use Rattle.sheet.specs.Bytes.{bytes}
+use Rattle.sheet.proofs.Rules.{length-bytes}
 use Rattle.sheet.proofs.Tables.{Below, below-at}
 use Rattle.writer.proofs.Puts.{sets-append}
-
-pub length-bytes : (n x : ℕ) → length (bytes n x) ≡ n
-unfolding bytes
-length-bytes zero x = refl
-length-bytes (suc n) x = ap suc (length-bytes n x)
 
 module _ (h l : ℕ) where
   abbrev Low : ℕ → Type 0

@@ -6,22 +6,22 @@ use mathlib.Core.List.{List}
 use mathlib.Core.Option.{Option}
 use native.Mathlib.Omega.{arith}
 use native.Mathlib.Decide.{decLe}
-use lib.ListN.{getElem?}
+use lib.ListN.{length, getElem?}
 use lib.Dec.{ltb}
 use Rattle.word.specs.Sets.{choose}
 use Rattle.storage.specs.declared.Refusal.{Refusal}
 use Rattle.storage.specs.declared.Refusal.the-variants.{WidthOver, IndexOver, NewerKind}
 use Rattle.sheet.specs.declared.Fields.{Fields}
 use Rattle.sheet.specs.declared.Edit.{Edit}
-use Rattle.sheet.specs.declared.Edit.the-variants.{Set, Unset, SetRegion, SetField, Shift, Rotate, Resize, Reverse, ToggleRegion, Open, Close}
 use Rattle.sheet.specs.Bytes.{bytes}
-use Rattle.sheet.specs.Kinds.{rowOf, sizeIn, kindOf, numbered, bytesBy}
+use Rattle.sheet.specs.Kinds.{rowOf, sizeIn, kindOf, numbered, bytesBy, payloadOf}
 use Rattle.sheet.specs.Writer.{Checked, bad, good, Entry, edit, checkedOf, duty, makers, madeBy, laid, bytesOf}
+use Rattle.sheet.proofs.Payloads.{kind-small, payload-length, payload-short, size-latest}
+use Rattle.sheet.proofs.Rules.{length-bytes}
 use Rattle.sheet.proofs.Tables.{Below, below-at, past-end}
 use Rattle.writer.specs.Kernels.{orZero, partsOf}
 use Rattle.writer.specs.declared.Parts.{Parts}
 use Rattle.writer.specs.declared.Parts.the-variants.{Are, Refused}
-use Rattle.writer.proofs.Bytes.{length-bytes}
 use Rattle.writer.proofs.Places.{Laid}
 
 -- a kind is refused, or makes an edit of that kind
@@ -47,32 +47,12 @@ made (suc k) f = go (decLe 11 k)
     go (yes h) = subst (λ (m : Option (Fields → Checked)). Made (suc k) (madeBy m f)) (sym (past-end makers k h)) (stops NewerKind)
     go (no h) = below-at (λ k. Made (suc k) (madeBy (getElem? makers k) f)) 11 k (each-kind f) (omega arith)
 
--- the row of an edit's kind
-record Rowed (e : Edit) : Type 0 where
-  same : orZero (sizeIn 2 (kindOf e)) ≡ bytesBy (rowOf (kindOf e))
-  small : bytesBy (rowOf (kindOf e)) ≤ 13
-  kinds : kindOf e ≤ 11
-
-rowed : (e : Edit) → Rowed e
-unfolding sizeIn kindOf
-rowed (Set p) = record { same = refl; small = omega arith; kinds = omega arith }
-rowed (Unset p) = record { same = refl; small = omega arith; kinds = omega arith }
-rowed (SetRegion v p k) = record { same = refl; small = omega arith; kinds = omega arith }
-rowed (SetField p w v) = record { same = refl; small = omega arith; kinds = omega arith }
-rowed (Shift d k) = record { same = refl; small = omega arith; kinds = omega arith }
-rowed (Rotate d k) = record { same = refl; small = omega arith; kinds = omega arith }
-rowed (Resize n) = record { same = refl; small = omega arith; kinds = omega arith }
-rowed Reverse = record { same = refl; small = omega arith; kinds = omega arith }
-rowed (ToggleRegion p k) = record { same = refl; small = omega arith; kinds = omega arith }
-rowed (Open p k) = record { same = refl; small = omega arith; kinds = omega arith }
-rowed (Close p k) = record { same = refl; small = omega arith; kinds = omega arith }
-
 -- what is asked is a record of this kind, whose payload is the n bytes of two parts
 pub record Duty (kind h l n : ℕ) (c : Checked) : Type 0 where
   pub entry : Entry
   pub asked : c ≡ good entry
   pub laid-out : Laid entry (128 + kind) (bytes n (h * 2 ^ 64 + l)) n
-  pub small : n ≤ 13
+  pub small : n ≤ 65_535
   pub kinds : kind ≤ 11
 
 module _ (kind : ℕ) (f : Fields) (r : Parts) (told : r ≡ partsOf (checkedOf (duty kind f))) where
@@ -85,19 +65,19 @@ module _ (kind : ℕ) (f : Fields) (r : Parts) (told : r ≡ partsOf (checkedOf 
       go c (makes x k) q = absurd (let v : _≡_ {A = ℕ} 0 1 = cc in omega arith)
 
   pub duty-good : (h l n : ℕ) → r ≡ Are h l → n ≡ orZero (sizeIn 2 kind) → Duty kind h l n (checkedOf (duty kind f))
-  unfolding partsOf bytesOf
+  unfolding partsOf bytesOf payloadOf
   duty-good h l n p s = go (checkedOf (duty kind f)) (made kind f) (sym told ∙ p)
     where
       go : (c : Checked) → Made kind c → partsOf c ≡ Are h l → Duty kind h l n c
       go c (stops d) q = absurd (let v : _≡_ {A = ℕ} 0 1 = cc in omega arith)
       go c (makes e k) q =
-          let w = rowed e in
           let a : numbered e / 2 ^ 64 ≡ h = cc in
           let b : numbered e % 2 ^ 64 ≡ l = cc in
           let x : numbered e ≡ h * 2 ^ 64 + l = omega arith in
-          let m : bytesBy (rowOf (kindOf e)) ≡ n = sym (w .same) ∙ ap (λ (k : ℕ). orZero (sizeIn 2 k)) k ∙ sym s in
-          let i = w .small in
-          let j = w .kinds in
+          let s' : length (payloadOf e) ≡ n = ap orZero (sym (size-latest e)) ∙ ap (λ (k : ℕ). orZero (sizeIn 2 k)) k ∙ sym s in
+          let m : bytesBy (rowOf (kindOf e)) ≡ n = sym (payload-length e) ∙ s' in
+          let i = payload-short e in
+          let j = kind-small e in
           record {
             entry = edit e;
             asked = refl;

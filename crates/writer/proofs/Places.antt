@@ -15,10 +15,11 @@ use Rattle.sheet.specs.declared.Added.the-variants.{Done, Refused}
 use Rattle.sheet.specs.Bytes.{bytes}
 use Rattle.sheet.specs.Reader.{countIn}
 use Rattle.sheet.specs.Writer.{Entry, bytesOf, laid, Left, refuse, placed, Writes}
+use Rattle.sheet.proofs.Rules.{length-bytes}
+use Rattle.sheet.proofs.Turns.{take-true, take-false}
 use Rattle.writer.specs.Kernels.{roomlessIn}
-use Rattle.writer.proofs.Answers.{where-true, where-false, writes}
+use Rattle.writer.proofs.Answers.{writes}
 use Rattle.writer.proofs.Puts.{sets-append}
-use Rattle.writer.proofs.Bytes.{length-bytes}
 
 module _ (buf : List ℕ) (len n : ℕ) where
   pub one-too-many : (r : ℕ) → r ≡ countIn buf → 65_535 ≤ r → true ≡ roomlessIn buf len n
@@ -69,7 +70,7 @@ module _ (buf : List ℕ) (len : ℕ) (e : Entry) (first : ℕ) (body : List ℕ
   unfolding placed roomlessIn
   refused t p q =
       let end : len + 3 + n ≡ len + length (bytesOf e) = omega (arith, long) in
-      writes _ (refuse NoSpace buf) (where-true _ _ _ (ap (λ (k : ℕ). leb 65_535 (countIn buf) || ltb (length buf) k) (sym end) ∙ sym p ∙ q))
+      writes _ (refuse NoSpace buf) (take-true _ _ (ap (λ (k : ℕ). leb 65_535 (countIn buf) || ltb (length buf) k) (sym end) ∙ sym p ∙ q))
 
   pub done : (b₁ b₂ : List ℕ) → Room buf len n → b₁ ≡ sets (sets buf 2 (bytes 2 (countIn buf + 1))) len (first ∷ bytes 2 n) → b₂ ≡ sets b₁ (len + 3) body
       → Writes (placed buf len e) (Done (len + 3 + n)) b₂
@@ -79,7 +80,7 @@ module _ (buf : List ℕ) (len : ℕ) (e : Entry) (first : ℕ) (body : List ℕ
       let room = r .fits in
       let end : len + length (bytesOf e) ≡ len + 3 + n = omega (arith, long) in
       let none : leb 65_535 (countIn buf) || ltb (length buf) (len + length (bytesOf e)) ≡ false = rw few (le-ltb (length buf) (len + length (bytesOf e)) (omega arith)) in
-      let l : placed buf len e ≡ record { answer = Done (len + length (bytesOf e)); buffer = sets base len (bytesOf e) } = where-false _ _ _ none in
+      let l : placed buf len e ≡ record { answer = Done (len + length (bytesOf e)); buffer = sets base len (bytesOf e) } = take-false _ _ none in
       record { answers = ap Done (sym end) ∙ ap (λ (x : Left). x .answer) (sym l); leaves = stored ∙ ap (λ (x : Left). x .buffer) (sym l) }
     where
       base : List ℕ

@@ -4,7 +4,6 @@ use mathlib.Core.Path.{_≡_, refl, sym, ap, ap₂, _∙_, subst}
 use mathlib.Core.Option.{Option}
 use native.Mathlib.Omega.{arith}
 use native.Mathlib.Decide.{decLe, ℕ-discrete}
-use lib.Dec.{ltb}
 use borrow.Author.Tests.{lt-ltb, le-ltb}
 use Rattle.word.specs.Sets.{val}
 use Rattle.storage.specs.declared.Refusal.the-variants.{WidthOver, IndexOver, NewerKind}
@@ -12,12 +11,12 @@ use Rattle.sheet.specs.declared.Fields.{Fields}
 use Rattle.sheet.specs.declared.Edit.the-variants.{SetField, Resize}
 use Rattle.sheet.specs.Writer.{Checked, bad, good, edit, checkedOf, duty, makers, madeBy}
 use Rattle.sheet.proofs.Tables.{past-end}
+use Rattle.sheet.proofs.Turns.{take-true, take-false}
 use Rattle.writer.specs.Kernels.{partsOf}
 use Rattle.writer.specs.declared.Parts.{Parts}
 use Rattle.writer.specs.declared.Parts.the-variants.{Are, Refused}
-use Rattle.writer.proofs.Answers.{where-true, where-false}
 
--- one of two kinds, or of three
+-- one of two kinds in a row
 pair-of : (P : ℕ → Type 0) (k a : ℕ) → P a → P (a + 1) → a ≤ k → k ≤ a + 1 → P k
 pair-of P k a x y l h = go (ℕ-discrete a k)
   where
@@ -77,13 +76,13 @@ module _ (f : Fields) where
   module _ (kind : ℕ) (q : kind ≡ 4) where
     pub gets-3 : 64 < f .width → Gets (Refused WidthOver) kind
     unfolding partsOf checkedOf
-    gets-3 h = gets-at (Refused WidthOver) kind 4 q (ap partsOf (sym (where-true (ltb 64 (f .width)) (bad WidthOver) (good (edit (SetField (f .p) (f .width) (f .value)))) (lt-ltb 64 (f .width) h))))
+    gets-3 h = gets-at (Refused WidthOver) kind 4 q (ap partsOf (sym (take-true (bad WidthOver) (good (edit (SetField (f .p) (f .width) (f .value)))) (lt-ltb 64 (f .width) h))))
 
     pub gets-field : f .p < 2 ^ 32 → f .value < 2 ^ 64 → f .width ≤ 64 → Gets (Are (f .p * 256 + f .width * 2 + f .value / 2 ^ 63) (f .value % 2 ^ 63 * 2)) kind
     unfolding partsOf checkedOf
     gets-field b v h =
         gets-at (Are (f .p * 256 + f .width * 2 + f .value / 2 ^ 63) (f .value % 2 ^ 63 * 2)) kind 4 q
-        (whole ∙ ap partsOf (sym (where-false (ltb 64 (f .width)) (bad WidthOver) (good (edit (SetField (f .p) (f .width) (f .value)))) (le-ltb 64 (f .width) h))))
+        (whole ∙ ap partsOf (sym (take-false (bad WidthOver) (good (edit (SetField (f .p) (f .width) (f .value)))) (le-ltb 64 (f .width) h))))
       where
         whole : Are (f .p * 256 + f .width * 2 + f .value / 2 ^ 63) (f .value % 2 ^ 63 * 2)
             ≡ Are ((((f .p * 2 ^ 7 + f .width) * 2 ^ 64 + f .value) * 2 ^ 1) / 2 ^ 64) ((((f .p * 2 ^ 7 + f .width) * 2 ^ 64 + f .value) * 2 ^ 1) % 2 ^ 64)
@@ -92,13 +91,13 @@ module _ (f : Fields) where
   module _ (kind : ℕ) (q : kind ≡ 7) where
     pub gets-4 : 4_294_967_296 < f .size → Gets (Refused IndexOver) kind
     unfolding partsOf checkedOf
-    gets-4 h = gets-at (Refused IndexOver) kind 7 q (ap partsOf (sym (where-true (ltb 4_294_967_296 (f .size)) (bad IndexOver) (good (edit (Resize (f .size)))) (lt-ltb 4_294_967_296 (f .size) h))))
+    gets-4 h = gets-at (Refused IndexOver) kind 7 q (ap partsOf (sym (take-true (bad IndexOver) (good (edit (Resize (f .size)))) (lt-ltb 4_294_967_296 (f .size) h))))
 
     pub gets-resize : f .size ≤ 4_294_967_296 → Gets (Are 0 (f .size * 128)) kind
     unfolding partsOf checkedOf
     gets-resize h =
         gets-at (Are 0 (f .size * 128)) kind 7 q
-        (whole ∙ ap partsOf (sym (where-false (ltb 4_294_967_296 (f .size)) (bad IndexOver) (good (edit (Resize (f .size)))) (le-ltb 4_294_967_296 (f .size) h))))
+        (whole ∙ ap partsOf (sym (take-false (bad IndexOver) (good (edit (Resize (f .size)))) (le-ltb 4_294_967_296 (f .size) h))))
       where
         whole : Are 0 (f .size * 128) ≡ Are ((f .size * 2 ^ 7) / 2 ^ 64) ((f .size * 2 ^ 7) % 2 ^ 64)
         whole = ap₂ Are (omega arith) (omega arith)

@@ -1,31 +1,31 @@
 -- The walk over the frames of the sheet given.
 use Prim.Native.Nat.{ℕ, suc, _+_, _*_, _-_, _≤_, _<_}
-use mathlib.Core.Path.{_≡_, refl, sym, ap, _∙_}
-use mathlib.Core.Bool.{true, false}
+use mathlib.Core.Path.{_≡_, sym, ap, _∙_}
 use mathlib.Core.List.{List}
 use mathlib.Core.Option.{none, some}
 use native.Mathlib.Omega.{arith}
 use native.Mathlib.Decide.{decLe}
 use lib.ListN.{length, getD}
-use lib.Dec.{leb, ltb}
-use borrow.Author.Tests.{le-leb, lt-leb, lt-ltb, le-ltb, eq-eqb, ne-eqb}
+use lib.Dec.{ltb}
+use borrow.Author.Tests.{le-leb, lt-leb, lt-ltb, le-ltb}
 use Rattle.word.specs.Sets.{choose}
 use Rattle.storage.specs.declared.Refusal.the-variants.{NotSheet, CutRecord, BytesRemain}
 use Rattle.storage.specs.declared.Guard.{Guard}
 use Rattle.storage.specs.declared.Guard.the-variants.{Pass, Stop}
-use Rattle.sheet.specs.Reader.{headed, countIn, sizeAt, endAt}
+use Rattle.sheet.specs.Reader.{countIn, sizeAt, endAt}
 use Rattle.sheet.specs.Writer.{framesFault, sheetFault}
+use Rattle.sheet.specs.Meaning.{Header}
+use Rattle.sheet.proofs.Turns.{take-true, take-false, headed-true, headed-false}
 use Rattle.writer.specs.Kernels.{endIn, guardBy}
-use Rattle.writer.proofs.Answers.{where-true, where-false}
 
 module _ (s : List ℕ) (at : ℕ) where
   torn : length s < endAt s at → 0 ≡ endIn s at
   unfolding endIn
-  torn h = sym (where-false (leb (endAt s at) (length s)) (endAt s at) 0 (lt-leb (endAt s at) (length s) h))
+  torn h = sym (take-false (endAt s at) 0 (lt-leb (endAt s at) (length s) h))
 
   whole : endAt s at ≤ length s → endAt s at ≡ endIn s at
   unfolding endIn
-  whole h = sym (where-true (leb (endAt s at) (length s)) (endAt s at) 0 (le-leb (endAt s at) (length s) h))
+  whole h = sym (take-true (endAt s at) 0 (le-leb (endAt s at) (length s) h))
 
   pub end-short : at ≤ length s → length s - at < 3 → 0 ≡ endIn s at
   end-short l h = torn (omega arith)
@@ -54,7 +54,7 @@ module _ (s : List ℕ) (at : ℕ) where
           let q : e ≡ endAt s at = p ∙ sym (whole h) in
           record {
             inside = omega arith;
-            goes = λ m. where-true (leb (endAt s at) (length s)) (framesFault s m (endAt s at)) (some CutRecord) (le-leb (endAt s at) (length s) h) ∙ ap (framesFault s m) (sym q);
+            goes = λ m. take-true (framesFault s m (endAt s at)) (some CutRecord) (le-leb (endAt s at) (length s) h) ∙ ap (framesFault s m) (sym q);
           }
       go (no h) = absurd (z (p ∙ sym (torn (omega arith))))
 
@@ -64,7 +64,7 @@ module _ (s : List ℕ) (at : ℕ) where
     where
       go : Dec (endAt s at ≤ length s) → framesFault s (suc m) at ≡ some CutRecord
       go (yes h) = absurd (let q : e ≡ endAt s at = p ∙ sym (whole h) in omega arith)
-      go (no h) = where-false (leb (endAt s at) (length s)) (framesFault s m (endAt s at)) (some CutRecord) (lt-leb (endAt s at) (length s) (omega arith))
+      go (no h) = take-false (framesFault s m (endAt s at)) (some CutRecord) (lt-leb (endAt s at) (length s) (omega arith))
 
 -- after i of n records: what is left decides
 pub record Walking (s : List ℕ) (n at i : ℕ) : Type 0 where
@@ -93,30 +93,18 @@ module _ (s : List ℕ) (n : ℕ) where
     ended h = let e : n - i ≡ 0 = omega arith in w .decides ∙ ap (λ (m : ℕ). framesFault s m at) e
 
     pub gets-11 : n ≤ i → at < length s → Stop BytesRemain ≡ guardBy (framesFault s n 4)
-    gets-11 h l = ap guardBy (sym (ended h ∙ where-true (ltb at (length s)) (some BytesRemain) none (lt-ltb at (length s) l)))
+    gets-11 h l = ap guardBy (sym (ended h ∙ take-true (some BytesRemain) none (lt-ltb at (length s) l)))
 
     pub gets-none : n ≤ i → length s ≤ at → Pass ≡ guardBy (framesFault s n 4)
-    gets-none h l = ap guardBy (sym (ended h ∙ where-false (ltb at (length s)) (some BytesRemain) none (le-ltb at (length s) l)))
+    gets-none h l = ap guardBy (sym (ended h ∙ take-false (some BytesRemain) none (le-ltb at (length s) l)))
 
--- the header: 9 for each of its three tests
+-- the header
 module _ (s : List ℕ) where
-  headless : headed s ≡ false → Stop NotSheet ≡ guardBy (sheetFault s)
+  pub gets-9 : ¬ Header s → Stop NotSheet ≡ guardBy (sheetFault s)
   unfolding sheetFault
-  headless e = ap guardBy (sym (where-false (headed s) (framesFault s (countIn s) 4) (some NotSheet) e))
+  gets-9 h = ap guardBy (sym (take-false (framesFault s (countIn s) 4) (some NotSheet) (headed-false s h)))
 
-  pub gets-9-short : length s < 4 → Stop NotSheet ≡ guardBy (sheetFault s)
-  gets-9-short h = headless (rw (lt-leb 4 (length s) h) refl)
-
-  module _ (l : 4 ≤ length s) where
-    pub gets-9-first : (getD s 0 0 ≡ 78 → ⊥) → Stop NotSheet ≡ guardBy (sheetFault s)
-    gets-9-first n = headless (rw (le-leb 4 (length s) l, ne-eqb (getD s 0 0) 78 n) refl)
-
-    module _ (f : getD s 0 0 ≡ 78) where
-      pub gets-9-second : (getD s 1 0 ≡ 83 → ⊥) → Stop NotSheet ≡ guardBy (sheetFault s)
-      gets-9-second n = headless (rw (le-leb 4 (length s) l, eq-eqb (getD s 0 0) 78 f, ne-eqb (getD s 1 0) 83 n) refl)
-
-      pub header-good : (n : ℕ) (r : Guard) → getD s 1 0 ≡ 83 → n ≡ countIn s → r ≡ guardBy (framesFault s n 4) → r ≡ guardBy (sheetFault s)
-      unfolding sheetFault
-      header-good n r g c e =
-          let h : headed s ≡ true = rw (le-leb 4 (length s) l, eq-eqb (getD s 0 0) 78 f, eq-eqb (getD s 1 0) 83 g) refl in
-          e ∙ ap (λ (m : ℕ). guardBy (framesFault s m 4)) c ∙ ap guardBy (sym (where-true (headed s) (framesFault s (countIn s) 4) (some NotSheet) h))
+  pub header-good : (n : ℕ) (r : Guard) → Header s → n ≡ countIn s → r ≡ guardBy (framesFault s n 4) → r ≡ guardBy (sheetFault s)
+  unfolding sheetFault
+  header-good n r h c e =
+      e ∙ ap (λ (m : ℕ). guardBy (framesFault s m 4)) c ∙ ap guardBy (sym (take-true (framesFault s (countIn s) 4) (some NotSheet) (headed-true s h)))

@@ -155,6 +155,7 @@ fn fault(sheet: &[u8]) -> Guard
     frames(sheet, pair(sheet, 2))
 }
 
+// 1 for true.
 fn digit(flag: bool) -> u64
     ensures { λ r. ⌜ (r ≡ val flag) × (r < 2) ⌝ }
 {

@@ -1,11 +1,11 @@
 use borrow.Author.Needs.{needs}
 use native.Mathlib.Omega.{arith}
-use Rattle.writer.proofs.Walks.{gets-9-short, gets-9-first, gets-9-second, header-good}
+use Rattle.writer.proofs.Walks.{gets-9, header-good}
 use Rattle.writer.proofs.fault.Statement.{statement}
 use Rattle.writer.proofs.fault.Tie as tie
 
 returns : tie.Need-returns
-returns c = gets-9-short _ (omega arith)
+returns c = gets-9 _ (λ h. omega arith)
 
 shared-slice-read-if2 : tie.Need-shared-slice-read-if2
 shared-slice-read-if2 c = search needs
@@ -14,7 +14,7 @@ array-read-if2 : tie.Need-array-read-if2
 array-read-if2 c = search needs
 
 returns-2 : tie.Need-returns-2
-returns-2 c = gets-9-first _ (omega arith) (λ e. omega arith)
+returns-2 c = gets-9 _ (λ h. omega arith)
 
 shared-slice-read-if3 : tie.Need-shared-slice-read-if3
 shared-slice-read-if3 c = search needs
@@ -23,7 +23,7 @@ array-read-if3 : tie.Need-array-read-if3
 array-read-if3 c = search needs
 
 returns-3 : tie.Need-returns-3
-returns-3 c = gets-9-second _ (omega arith) (omega arith) (λ e. omega arith)
+returns-3 c = gets-9 _ (λ h. omega arith)
 
 pair-requires : tie.Need-pair-requires
 pair-requires c κs = search needs
@@ -32,7 +32,7 @@ frames-requires : tie.Need-frames-requires
 frames-requires c κs = search needs
 
 returns-4 : tie.Need-returns-4
-returns-4 c = header-good _ (omega arith) (omega arith) _ _ (omega arith) (c .before .pair .ensures .0) (c .frames .ensures)
+returns-4 c = header-good _ _ _ (omega arith, omega arith, omega arith) (c .before .pair .ensures .0) (c .frames .ensures)
 
 pub fault-spec : {M : Type 1} → statement M
 fault-spec =
