@@ -11,8 +11,7 @@ use borrow.Author.Tests.{eq-eqb, ne-eqb}
 use Rattle.word.specs.Sets.{choose}
 use Rattle.word.proofs.Cases.{by-lt}
 use Rattle.storage.specs.declared.Refusal.the-variants.{BadPayload, NewerKind}
-use Rattle.sheet.specs.Kinds.{Row, rowOf, sizeBy, sizeIn, bytesBy, ruleOf}
-use Rattle.sheet.specs.Kernels.{known}
+use Rattle.sheet.specs.Kinds.{Row, rowOf, sizeBy, sizeIn, bytesBy, ruleOf, known}
 use Rattle.sheet.specs.declared.Known.the-variants.{Bytes, Newer}
 use Rattle.sheet.proofs.Tables.{past-kinds}
 use Rattle.decode.specs.declared.Asked.{Asked}

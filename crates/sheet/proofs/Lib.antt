@@ -1,3 +1,4 @@
+pub mod Meant
 pub mod Tables
 pub mod Turns
 pub mod Exact

@@ -10,8 +10,7 @@ use lib.ListN.{length, getD, getElem?}
 use lib.Dec.{leb}
 use borrow.Author.Tests.{le-leb, lt-leb}
 use Rattle.word.specs.Sets.{choose}
-use Rattle.sheet.specs.Kinds.{table, rowOf, sizeIn, bytesBy}
-use Rattle.sheet.specs.Kernels.{known}
+use Rattle.sheet.specs.Kinds.{table, rowOf, sizeIn, bytesBy, known}
 use Rattle.sheet.specs.declared.Kind.{Kind}
 use Rattle.sheet.specs.declared.Known.{Known}
 use Rattle.sheet.specs.declared.Known.the-variants.{Bytes, Newer}

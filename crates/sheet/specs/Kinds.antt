@@ -8,6 +8,8 @@ use lib.Dec.{leb, eqb}
 use Rattle.word.specs.Sets.{choose, val}
 use Rattle.word.specs.Bits.{isOne}
 use Rattle.sheet.specs.Bytes.{number, bytes, bits}
+use Rattle.sheet.specs.declared.Known.{Known}
+use Rattle.sheet.specs.declared.Known.the-variants.{Bytes, Newer}
 use Rattle.sheet.specs.declared.Edit.{Edit}
 use Rattle.sheet.specs.declared.Edit.the-variants.{Set, Unset, SetRegion, SetField, Shift, Rotate, Resize, Reverse, ToggleRegion, Open, Close}
 
@@ -61,6 +63,11 @@ sizeBy edition (some r) = choose (leb (r .since) edition) (some (r .bytes)) none
 unfoldable pub sizeIn : ℕ → ℕ → Option ℕ
 unfolding rowOf
 sizeIn edition kind = sizeBy edition (rowOf kind)
+
+-- the bytes, where a kind has some
+abbrev pub known : Option ℕ → Known
+known none = Newer
+known (some n) = Bytes n
 
 abbrev pub parseBy : Option Row → ℕ → Option Edit
 parseBy none x = none

@@ -6,4 +6,3 @@ pub mod Meaning
 pub mod Writer
 pub mod Plain
 pub mod Promises
-pub mod Kernels

@@ -1,6 +1,7 @@
 -- What the sheet promises (demand 3), of the contracts of its calls and at real bitmaps. Proved in proofs/Readings and proofs/Writings.
 use Prim.Native.Nat.{ℕ, _+_, _*_, _^_, _≤_, _<_}
 use mathlib.Core.Path.{_≡_}
+use mathlib.Core.Bool.{true, false}
 use mathlib.Core.List.{List}
 use mathlib.Core.Logic.{_↔_, _⊎_}
 use mathlib.Core.Option.{Option, none, some}
@@ -10,6 +11,11 @@ use Rattle.storage.specs.Stores.{Bits, Bounded, Outcome, limit, view, written}
 use Rattle.storage.specs.declared.Bitmap.{Bitmap}
 use Rattle.storage.specs.declared.Refusal.{Refusal}
 use Rattle.storage.specs.declared.Refusal.the-variants.{StoreTooLong, CountOverStore, NoSpace, NotSheet, CutRecord, BytesRemain, NewerKind, NoEdition}
+use Rattle.bits.specs.Promises.{Reversed}
+use Rattle.shift.specs.Promises.{RotatedLeft, RotatedRight}
+use Rattle.bitmap.specs.Promises.{WithBit, WithoutBit, WithRegion, WithField}
+use Rattle.shape.specs.Promises.{FlippedFrom, RaisedBy, LoweredBy, ResizedTo}
+use Rattle.gap.specs.Promises.{Opens, Closes}
 use Rattle.sheet.specs.Kinds.{sizeIn, ruleOf, kindOf, payloadOf}
 use Rattle.sheet.specs.Reader.{Edition, refused, done, countIn, read}
 use Rattle.sheet.specs.Meaning.{Header, start, Whole, effect, AtRecord, Newer, Applies, Accepted}
@@ -35,6 +41,25 @@ Ranged Reverse = Unit {0}
 Ranged (ToggleRegion p k) = (p < 2 ^ 32) × (k < 2 ^ 32)
 Ranged (Open p k) = (p < 2 ^ 32) × (k < 2 ^ 32)
 Ranged (Close p k) = (p < 2 ^ 32) × (k < 2 ^ 32)
+
+-- what each edit makes of a bitmap, as sets of numbers: direction false is left, true is right; no numbers and no digits change nothing
+abbrev pub Means : Edit → Bits → Bits → Type 0
+Means (Set p) b s = WithBit p b s
+Means (Unset p) b s = WithoutBit p b s
+Means (SetRegion v p k) b s = (k ≡ 0 → s ≡ b) × ((k ≡ 0 → ⊥) → WithRegion p v k b s)
+Means (SetField p w v) b s = (w ≡ 0 → s ≡ b) × ((w ≡ 0 → ⊥) → WithField p v w b s)
+Means (Shift false k) b s = RaisedBy k b s
+Means (Shift true k) b s = LoweredBy k b s
+Means (Rotate false k) b s = (s .count ≡ b .count) × RotatedLeft k (64 * b .count) (b .members) (s .members)
+Means (Rotate true k) b s = (s .count ≡ b .count) × RotatedRight k (64 * b .count) (b .members) (s .members)
+Means (Resize n) b s = ResizedTo n b s
+Means Reverse b s = Reversed b s
+Means (ToggleRegion p k) b s = (k ≡ 0 → s ≡ b) × ((k ≡ 0 → ⊥) → FlippedFrom p k b s)
+Means (Open p k) b s = Opens p k b s
+Means (Close p k) b s = Closes p k b s
+
+abbrev pub StepsMean : Type 0
+StepsMean = (e : Edit) (c : ℕ) (b s : Bits) → Bounded b → step e c b ≡ Outcome.done s → Means e b s
 
 -- the payload p is the layout of the edit
 pub record Laid (kind : ℕ) (p : List ℕ) (e : Edit) : Type 0 where

@@ -2,8 +2,7 @@
 use storage::Bitmap;
 use storage::Refusal;
 ghost use mathlib.Core.Path.{_≡_};
-ghost use Rattle.sheet.specs.Kinds.{sizeIn};
-ghost use Rattle.sheet.specs.Kernels.{known};
+ghost use Rattle.sheet.specs.Kinds.{sizeIn, known};
 
 // The first two bytes of a sheet.
 pub const LETTERS: [u8; 2] = *b"NS";

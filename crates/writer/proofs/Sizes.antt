@@ -5,8 +5,8 @@ use mathlib.Core.Option.{Option, none, some}
 use native.Mathlib.Omega.{arith}
 use Rattle.sheet.specs.declared.Known.{Known}
 use Rattle.sheet.specs.declared.Known.the-variants.{Bytes, Newer}
-use Rattle.sheet.specs.Kernels.{known}
 use Rattle.writer.specs.Kernels.{orZero}
+use Rattle.sheet.specs.Kinds.{known}
 
 pub size-known : (o : Option ℕ) (k : Known) (n : ℕ) → k ≡ known o → k ≡ Bytes n → n ≡ orZero o
 size-known none k n p q = absurd (let v : _≡_ {A = ℕ} 0 1 = cc in omega arith)

@@ -1,12 +1,12 @@
 use mathlib.Core.Path.{sym, ap}
 use native.Mathlib.Omega.{arith}
 use borrow.Author.Needs.{needs}
-use Rattle.sheet.specs.Kernels.{known}
 use Rattle.sheet.proofs.Tables.{no-kind, past-kinds, row-newer, row-bytes}
 use Rattle.sheet.proofs.payload_bytes.Statement.{statement}
 use Rattle.sheet.proofs.payload_bytes.Tie as tie
 use Rattle.sheet.proofs.payload_bytes.Reads as reads
 use Rattle.sheet.proofs.payload_bytes.Lts as lts
+use Rattle.sheet.specs.Kinds.{known}
 
 -- src/lib.rt:90:9
 returns : tie.Need-returns
