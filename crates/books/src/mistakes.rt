@@ -1,0 +1,93 @@
+// The mistakes that invite themselves, by document 01: what the mistaken way would have made, beside what is right.
+use crate::show;
+use sheet::Reading;
+use storage::Bitmap;
+
+// `append` starts at a word boundary: it undoes `split_off` at a multiple of 64 only.
+fn append_after_split(at: usize) {
+    let mut store: [u64; 4] = [0; 4];
+    let mut tail: [u64; 4] = [0; 4];
+    let whole = show::record(bitmap::set_many(&mut store, Bitmap { count: 0 }, &[3, 69, 70, 100]));
+    show::put(b"bits 3, 69, 70, 100:");
+    show::words_of(&store);
+    show::end();
+    show::put(b"split_off at");
+    show::number(at);
+    show::put(b", then append:");
+    match shape::split_off(&mut store, whole, at, &mut tail) {
+        shape::Split::Done(h, t) => show::change(shape::append(&mut store, h, &tail, t), &store),
+        shape::Split::Refused(_, h) => show::change(shape::append(&mut store, h, &tail, h), &store),
+    }
+}
+
+// A rotation runs over all words in use, zero ones too.
+fn trim_before_rotation() {
+    let mut store: [u64; 2] = [1, 0];
+    show::put(b"[1 0] rotated right by 1:");
+    show::change(
+        shift::rotate_right(&mut store, Bitmap { count: 2 }, 1),
+        &store,
+    );
+    let mut same: [u64; 2] = [1, 0];
+    let trimmed = show::record(bitmap::trim(&same, Bitmap { count: 2 }));
+    show::put(b"trimmed before:");
+    show::change(shift::rotate_right(&mut same, trimmed, 1), &same);
+}
+
+fn reading(edition: usize, sheet: &[u8]) {
+    let old: [u64; 1] = [0; 1];
+    let mut store: [u64; 2] = [7; 2];
+    show::number(edition);
+    show::put(b":");
+    match reader::read(edition, sheet, &old, Bitmap { count: 0 }, &mut store) {
+        Reading::Done(records, b) => {
+            show::number(0);
+            show::number(records);
+            show::number(b.count);
+        }
+        Reading::Refused(e, record) => {
+            show::number(e.number() as usize);
+            show::number(record);
+            show::number(0);
+        }
+    }
+    show::words_of(&store);
+    show::end();
+}
+
+// A duty record that is not known is refused by its number and never skipped; a remark of any kind is skipped.
+fn unknown_record() {
+    let duty: [u8; 22] =
+        *b"NS\x00\x02\x89\x00\x08\x00\x00\x00\x01\x00\x00\x00\x02\x81\x00\x04\x00\x00\x00\x00";
+    let remark: [u8; 22] =
+        *b"NS\x00\x02\x09\x00\x08\x00\x00\x00\x01\x00\x00\x00\x02\x81\x00\x04\x00\x00\x00\x00";
+    show::put(b"toggle_region(1, 2), set(0), edition");
+    reading(1, &duty);
+    show::put(b"toggle_region(1, 2), set(0), edition");
+    reading(2, &duty);
+    show::put(b"the first as a remark, edition");
+    reading(1, &remark);
+}
+
+// The second word is looked for before the first half is written.
+fn half_a_field() {
+    let mut store: [u64; 2] = [0; 2];
+    show::put(b"one word of two in use, set_field_strict(60, ff, 8):");
+    show::change(
+        slice::set_field_strict(&mut store, Bitmap { count: 1 }, 60, 0xff, 8),
+        &store,
+    );
+    show::put(b"both in use:");
+    show::change(
+        slice::set_field_strict(&mut store, Bitmap { count: 2 }, 60, 0xff, 8),
+        &store,
+    );
+}
+
+pub fn books() {
+    append_after_split(70);
+    append_after_split(64);
+    trim_before_rotation();
+    unknown_record();
+    half_a_field();
+}

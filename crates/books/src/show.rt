@@ -1,0 +1,106 @@
+// How an answer is printed: the number of document 01, then what the answer carries, then every word of the store.
+use libc::STDOUT_FILENO;
+use storage::Bitmap;
+use storage::Change;
+use storage::Field;
+use storage::Found;
+use storage::Number;
+
+pub fn put(text: &[u8]) {
+    io::write_all(STDOUT_FILENO, text);
+}
+
+pub fn number(n: usize) {
+    put(b" ");
+    io::print_decimal(STDOUT_FILENO, n as u64);
+}
+
+pub fn word_of(x: u64) {
+    put(b" ");
+    io::print_hex(STDOUT_FILENO, x, 1);
+}
+
+pub fn end() {
+    put(b"\n");
+}
+
+// Every word, those not in use too.
+pub fn words_of(words: &[u64]) {
+    put(b" |");
+    for k in 0..words.len() {
+        word_of(words[k]);
+    }
+}
+
+// Number, word count, words.
+pub fn change(c: Change, words: &[u64]) {
+    match c {
+        Change::Done(b) => {
+            number(0);
+            number(b.count);
+        }
+        Change::Refused(e, b) => {
+            number(e.number() as usize);
+            number(b.count);
+        }
+    }
+    words_of(words);
+    end();
+}
+
+// Number and value.
+pub fn counted(n: Number) {
+    match n {
+        Number::Is(v) => {
+            number(0);
+            number(v);
+        }
+        Number::Refused(e) => {
+            number(e.number() as usize);
+            number(0);
+        }
+    }
+    end();
+}
+
+// Number and value.
+pub fn field(f: Field) {
+    match f {
+        Field::Is(v) => {
+            number(0);
+            word_of(v);
+        }
+        Field::Refused(e) => {
+            number(e.number() as usize);
+            number(0);
+        }
+    }
+    end();
+}
+
+// Number and place, or none.
+pub fn found(f: Found) {
+    match f {
+        Found::At(i) => {
+            number(0);
+            number(i);
+        }
+        Found::Nothing => {
+            number(0);
+            put(b" none");
+        }
+        Found::Refused(e) => {
+            number(e.number() as usize);
+            number(0);
+        }
+    }
+    end();
+}
+
+// The record that a call answers, for the next one.
+pub fn record(c: Change) -> Bitmap {
+    match c {
+        Change::Done(b) => b,
+        Change::Refused(_, b) => b,
+    }
+}
