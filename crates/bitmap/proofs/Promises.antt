@@ -13,12 +13,12 @@ use Rattle.word.specs.Bits.{bit, wordOf}
 use Rattle.word.proofs.Cases.{by-lt, by-eq, by-test, or-false, and-false, and-keep, or-true, xor-true, xor-false}
 use Rattle.word.proofs.Lists.{word-none, word-zero}
 use Rattle.storage.specs.Refusals.{numberOf}
-use Rattle.storage.specs.Stores.{Bits, Bounded, done, trimmedCount, trimmed, combined}
+use Rattle.storage.specs.Stores.{Bits, Bounded, done, flipped, trimmedCount, trimmed, combined}
 use Rattle.storage.specs.Promises.{LeastCount, Combines, Unites, Meets, Never, Lacks}
 use Rattle.storage.proofs.Checks.{within-done}
 use Rattle.storage.proofs.Outcomes.{same, never, which, lacks}
 use Rattle.storage.proofs.Promises.{least-count, combined-fewest, combined-either}
-use Rattle.bitmap.specs.Bitmaps.{trimming, setting, unsetting, listed, reachOf, settingMany, settingRegion, settingField, combining, uniting, tidied, keepingBit, droppingBit, flippingBit}
+use Rattle.bitmap.specs.Bitmaps.{trimming, setting, without, unsetting, listed, reachOf, settingMany, settingRegion, settingField, combining, uniting, tidied, alone, keepingBit, droppingBit, flippingBit}
 use Rattle.bitmap.specs.Promises.{WithBit, WithListed, LacksListed, WithoutBit, Fewest, WithRegion, WithField, NoField, Tidied, OnlyBit, FlippedBit, ThenTidied}
 use Rattle.bitmap.proofs.Many.{reach-in, reach-who, reach-under, listed-at, listed-who}
 use Rattle.bitmap.proofs.Sounds.{setting-sound, many-sound, unsetting-sound, trimming-sound, combining-sound, uniting-sound, region-sound, field-sound, keeping-sound, dropping-sound, flipping-sound}
@@ -58,16 +58,17 @@ sets-many is = record {
       (r .0, by-lt c (b .count) (λ l. inl l) (λ l. inr (reach-who is c (omega (arith, r .1)))));
 }
 
+removes : (i : ℕ) (b : Bits) → WithoutBit i b (without i b)
+removes i b = record {
+  count = refl;
+  here = ap (λ (t : Bool). b .members i && not t) (eq-eqb i i refl) ∙ and-false (b .members i);
+  others = λ j n. ap (λ (t : Bool). b .members j && not t) (ne-eqb j i n) ∙ and-keep (b .members j);
+}
+
 pub unsets : (i : ℕ) → Meets (unsetting i) (λ c b s. WithoutBit i b s) Never
 unfolding unsetting
 unsets i = record {
-  made = λ c b s e.
-      subst (WithoutBit i b) (same e)
-      (record {
-        count = refl;
-        here = ap (λ (t : Bool). b .members i && not t) (eq-eqb i i refl) ∙ and-false (b .members i);
-        others = λ j n. ap (λ (t : Bool). b .members j && not t) (ne-eqb j i n) ∙ and-keep (b .members j);
-      });
+  made = λ c b s e. subst (WithoutBit i b) (same e) (removes i b);
   sound = unsetting-sound i;
   why = λ c b e q. never q;
 }
@@ -221,7 +222,7 @@ pub keeps-bit : (i : ℕ) → Meets (keepingBit i) (λ c b s. ThenTidied i (Only
 unfolding keepingBit
 keeps-bit i = record {
   made = λ c b s e. (
-    record { members = λ j. b .members j && (not (eqb (j / 64) (i / 64)) || eqb j i); count = b .count },
+    alone i b,
     record {
       count = refl;
       here = ap (λ (t : Bool). b .members i && (not (eqb (i / 64) (i / 64)) || t)) (eq-eqb i i refl) ∙ ap (λ (t : Bool). b .members i && t) (or-true (not (eqb (i / 64) (i / 64)))) ∙ and-keep (b .members i);
@@ -238,26 +239,17 @@ keeps-bit i = record {
 pub drops-bit : (i : ℕ) → Meets (droppingBit i) (λ c b s. ThenTidied i (WithoutBit i) b s) Never
 unfolding droppingBit
 drops-bit i = record {
-  made = λ c b s e. (
-    record { members = λ j. b .members j && not (eqb j i); count = b .count },
-    record {
-      count = refl;
-      here = ap (λ (t : Bool). b .members i && not t) (eq-eqb i i refl) ∙ and-false (b .members i);
-      others = λ j n. ap (λ (t : Bool). b .members j && not t) (ne-eqb j i n) ∙ and-keep (b .members j);
-    },
-    subst (Tidied (i / 64) _) (same e) (tidies (i / 64) _),
-  );
+  made = λ c b s e. (without i b, removes i b, subst (Tidied (i / 64) _) (same e) (tidies (i / 64) _));
   sound = dropping-sound i;
   why = λ c b e q. never q;
 }
 
 pub flips-bit : (i : ℕ)
-    → Meets (flippingBit i) (λ c b s. ThenTidied i (FlippedBit i) b s)
-    (Lacks (λ b. tidied (i / 64) (record { members = λ j. xorb (b .members j) (eqb j i); count = max (b .count) (i / 64 + 1) }) .count))
+    → Meets (flippingBit i) (λ c b s. ThenTidied i (FlippedBit i) b s) (Lacks (λ b. tidied (i / 64) (flipped i b) .count))
 unfolding flippingBit
 flips-bit i = record {
   made = λ c b s e. (
-    record { members = λ j. xorb (b .members j) (eqb j i); count = max (b .count) (i / 64 + 1) },
+    flipped i b,
     record {
       count = refl;
       here = ap (xorb (b .members i)) (eq-eqb i i refl) ∙ xor-true (b .members i);

@@ -2,22 +2,19 @@
 use mathlib.Core.Path.{_≡_, refl, sym, ap, ap₂, _∙_, subst}
 use mathlib.Core.Bool.{Bool, not, _&&_, _||_}
 use mathlib.Core.List.{List}
-use mathlib.Core.Logic.{inl, inr}
 use Prim.Native.Nat.{ℕ, _+_, _-_, _*_, _/_, _%_, _^_, _≤_, _<_, max}
 use native.Mathlib.Omega.{arith}
-use lib.ListN.{length, getD, set, take, length-set}
-use lib.Seq.{getD-set-other}
+use lib.ListN.{length, getD, set, take}
 use lib.Dec.{eqb}
 use lib.Bits.{bitAnd, bitOr, and-lt, or-lt}
 use lib.Pow.{ones-sub-lt}
 use borrow.Author.Tests.{ne-eqb}
 use Rattle.word.specs.Bits.{bit}
 use Rattle.word.specs.Words.{single}
-use Rattle.word.proofs.Cases.{by-lt, by-eq, eqb-same, or-false, and-keep}
+use Rattle.word.proofs.Cases.{eqb-same, or-false, and-keep}
 use Rattle.word.proofs.Bits.{bit-and, bit-or, bit-not}
 use Rattle.word.proofs.Words.{bit-single, single-lt}
 use Rattle.word.proofs.Lists.{Fit}
-use Rattle.word.proofs.Sweep.{getD-set}
 use Rattle.arch.specs.Scans.{nonzeroLen}
 use Rattle.storage.specs.Stores.{Bits, view, trimmed, zeroed, Changes}
 use Rattle.storage.specs.declared.Bitmap.{Bitmap}
@@ -25,9 +22,10 @@ use Rattle.storage.specs.declared.Refusal.the-variants.{NoSpace}
 use Rattle.storage.specs.declared.Change.the-variants.{Done, Refused}
 use Rattle.storage.proofs.Checks.{Passed, within-ok, within-no}
 use Rattle.storage.proofs.Views.{view-count, view-in, view-out}
-use Rattle.storage.proofs.Stores.{changes-done, changes-refused, word-stored, length-zeroed, zeroed-out, zeroed-fit, grown-bit}
+use Rattle.storage.proofs.Stores.{changes-done, changes-refused, word-stored}
+use Rattle.storage.proofs.Grown.{grown-fit, grown-at, grown-word}
 use Rattle.storage.proofs.Trims.{trimmed-length, trimmed-stored}
-use Rattle.bitmap.specs.Bitmaps.{trimming, setting, unsetting}
+use Rattle.bitmap.specs.Bitmaps.{trimming, setting, without, unsetting}
 
 pub trim-changes : (ws : List ℕ) (b : Bitmap) (r : ℕ) → Fit ws → Passed (length ws) (b .count) → r ≡ nonzeroLen (take (b .count) ws)
     → Changes trimming ws b (Done (record { count = r })) ws
@@ -52,25 +50,13 @@ module _ (ws : List ℕ) (b : Bitmap) (i : ℕ) (f : Fit ws) (p : Passed (length
   unfolding setting
   set-changes z x r h ez ex er =
       changes-done (setting i) ws b (set z k v) s r p (within-ok (length ws) s (omega (arith, view-count ws n, p .inside)))
-      (record {
-        long = length-set z k v ∙ ap length ez ∙ length-zeroed n (k + 1) ws;
-        fits = λ m a. by-eq m k
-            (λ e. subst (λ (y : ℕ). y < 2 ^ 64) (sym (here m e)) v-lt)
-            (λ e. subst (λ (y : ℕ). y < 2 ^ 64) (sym (getD-set-other z k m v 0 e)) (fz m));
-        used = λ m j a l. by-eq m k
-            (λ e.
-            ap (λ (y : ℕ). bit y j) (here m e) ∙ bit-or (getD z k 0) x j
-            ∙ ap₂ (λ (y t : Bool). y || t)
-            (ap (λ (q : ℕ). bit (getD z q 0) j) (sym e) ∙ grown m j (omega (arith, view-count ws n)) l)
-            (ap (λ (y : ℕ). bit y j) ex ∙ bit-single 64 (i % 64) j l ∙ eqb-same j (i % 64) (64 * m + j) i (λ q. omega arith) (λ q. omega arith)))
-            (λ e.
-            ap (λ (y : ℕ). bit y j) (getD-set-other z k m v 0 e) ∙ grown m j (omega (arith, view-count ws n)) l
-            ∙ sym (ap (λ (t : Bool). view ws n .members (64 * m + j) || t) (ne-eqb (64 * m + j) i (omega arith)) ∙ or-false (view ws n .members (64 * m + j))));
-        dropped = λ m a q. absurd (omega (arith, view-count ws n));
-        kept = λ m a q.
-            getD-set-other z k m v 0 (omega (arith, view-count ws n)) ∙ ap (λ (y : List ℕ). getD y m 0) ez
-            ∙ zeroed-out n (k + 1) ws m (inr (omega (arith, view-count ws n)));
-      })
+      (grown-word ws z n (k + 1) ez k v s refl f (p .inside) h (omega (arith, view-count ws n))
+      (or-lt 64 (getD z k 0) x (grown-fit ws z n (k + 1) ez f k) (subst (λ (y : ℕ). y < 2 ^ 64) (sym ex) (single-lt 64 (i % 64))))
+      (λ j l.
+      bit-or (getD z k 0) x j
+      ∙ ap₂ (λ (y t : Bool). y || t) (grown-at ws z n (k + 1) ez k j (omega arith) l)
+      (ap (λ (y : ℕ). bit y j) ex ∙ bit-single 64 (i % 64) j l ∙ eqb-same j (i % 64) (64 * k + j) i (λ q. omega arith) (λ q. omega arith)))
+      (λ m j q l. sym (ap (λ (t : Bool). view ws n .members (64 * m + j) || t) (ne-eqb (64 * m + j) i (omega arith)) ∙ or-false (view ws n .members (64 * m + j)))))
       (er ∙ ap (λ (m : ℕ). max m (k + 1)) (sym (view-count ws n)))
     where
       n : ℕ
@@ -84,20 +70,6 @@ module _ (ws : List ℕ) (b : Bitmap) (i : ℕ) (f : Fit ws) (p : Passed (length
 
       s : Bits
       s = record { members = λ j. view ws n .members j || eqb j i; count = max (view ws n .count) (i / 64 + 1) }
-
-      fz : Fit z
-      fz = subst Fit (sym ez) (zeroed-fit n (k + 1) ws f)
-
-      v-lt : v < 2 ^ 64
-      v-lt = or-lt 64 (getD z k 0) x (fz k) (subst (λ (y : ℕ). y < 2 ^ 64) (sym ex) (single-lt 64 (i % 64)))
-
-      here : (m : ℕ) → m ≡ k → getD (set z k v) m 0 ≡ v
-      here m e = getD-set z k m v (omega (arith, ap length ez ∙ length-zeroed n (k + 1) ws)) e
-
-      grown : (m j : ℕ) → m < max n (k + 1) → j < 64 → bit (getD z m 0) j ≡ view ws n .members (64 * m + j)
-      grown m j a l =
-          ap (λ (y : List ℕ). bit (getD y m 0) j) ez
-          ∙ by-lt m n (λ q. grown-bit ws n (k + 1) m j (inl q) l) (λ q. grown-bit ws n (k + 1) m j (inr (omega arith)) l)
 
   -- ---- a bit cleared
 
@@ -121,7 +93,7 @@ module _ (ws : List ℕ) (b : Bitmap) (i : ℕ) (f : Fit ws) (p : Passed (length
   unfolding unsetting
   unset-changes x h ex =
       changes-done (unsetting i) ws b (set ws k v) _ n p refl
-      (word-stored ws n k v (record { members = λ j. view ws n .members j && not (eqb j i); count = view ws n .count }) f (p .inside) h (view-count ws n) (and-lt 64 (getD ws k 0) ((2 ^ 64 - 1) - x) (f k) (ones-sub-lt 64 x))
+      (word-stored ws n k v (without i (view ws n)) f (p .inside) h (view-count ws n) (and-lt 64 (getD ws k 0) ((2 ^ 64 - 1) - x) (f k) (ones-sub-lt 64 x))
       (λ j l.
       bit-and (getD ws k 0) ((2 ^ 64 - 1) - x) j
       ∙ ap₂ (λ (y t : Bool). y && t) (sym (view-in ws n k j h l))

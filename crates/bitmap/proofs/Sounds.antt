@@ -6,17 +6,17 @@ use Prim.Native.Nat.{ℕ, suc, _+_, _-_, _*_, _/_, _%_, _^_, _≤_, max}
 use native.Mathlib.Omega.{arith}
 use lib.Dec.{leb, eqb}
 use borrow.Author.Tests.{le-ltb, ne-eqb}
-use Rattle.word.specs.Sets.{choose, xorb}
+use Rattle.word.specs.Sets.{choose}
 use Rattle.word.specs.Bits.{bit, wordOf}
 use Rattle.word.proofs.Cases.{by-lt, by-eq, by-test, and-false}
-use Rattle.storage.specs.Stores.{Bits, Bounded, refused, Op, inRegion, trimmed, combined}
+use Rattle.storage.specs.Stores.{Bits, Bounded, refused, Op, flipped, inRegion, trimmed, combined}
 use Rattle.storage.specs.Promises.{Sound}
 use Rattle.storage.specs.declared.Refusal.{Refusal}
 use Rattle.storage.specs.declared.Refusal.the-variants.{WidthOver, IndexOver}
-use Rattle.storage.proofs.Outcomes.{never, bounded-combined, sound-within, sound-done}
+use Rattle.storage.proofs.Outcomes.{never, bounded-flipped, bounded-combined, sound-within, sound-done}
 use Rattle.storage.proofs.Trims.{bounded-trimmed}
 use Rattle.storage.proofs.Promises.{least-count}
-use Rattle.bitmap.specs.Bitmaps.{trimming, setting, unsetting, listed, reachOf, settingMany, settingRegion, settingField, combining, uniting, tidied, keepingBit, droppingBit, flippingBit}
+use Rattle.bitmap.specs.Bitmaps.{trimming, setting, without, unsetting, listed, reachOf, settingMany, settingRegion, settingField, combining, uniting, tidied, alone, keepingBit, droppingBit, flippingBit}
 use Rattle.bitmap.proofs.Many.{reach-in, listed-who}
 use Rattle.bitmap.proofs.Regions.{region-none, region-over, region-put}
 use Rattle.bitmap.proofs.Fields.{field-wide, field-over, field-some, field-cleared}
@@ -35,12 +35,6 @@ many-sound is =
   where
     unlisted : (j : ℕ) → 64 * reachOf is ≤ j → listed is j ≡ false
     unlisted j l = by-test (listed is j) (λ y. let r = listed-who is j y in absurd (omega (arith, reach-in is (r .0) (r .1 .0), r .1 .1))) (λ n. n)
-
-pub unsetting-sound : (i : ℕ) → Sound (unsetting i)
-unfolding unsetting
-unsetting-sound i =
-    sound-done (unsetting i) (λ b. record { members = λ j. b .members j && not (eqb j i); count = b .count }) (λ c b. refl) (λ b. omega arith)
-    (λ b h. record { past = λ j l. ap (λ (x : Bool). x && not (eqb j i)) (h .past j l) })
 
 pub trimming-sound : Sound trimming
 unfolding trimming
@@ -131,26 +125,23 @@ bounded-tidied k t h = either (eqb (suc k) (t .count) && eqb (wordOf (t .members
 pub keeping-sound : (i : ℕ) → Sound (keepingBit i)
 unfolding keepingBit
 keeping-sound i =
-    sound-done (keepingBit i) (λ b. tidied (i / 64) (kept b)) (λ c b. refl) (λ b. omega (arith, tidied-le (i / 64) (kept b)))
-    (λ b h. bounded-tidied (i / 64) (kept b) (record { past = λ j l. ap (λ (x : Bool). x && (not (eqb (j / 64) (i / 64)) || eqb j i)) (h .past j l) }))
-  where
-    kept : Bits → Bits
-    kept b = record { members = λ j. b .members j && (not (eqb (j / 64) (i / 64)) || eqb j i); count = b .count }
+    sound-done (keepingBit i) (λ b. tidied (i / 64) (alone i b)) (λ c b. refl) (λ b. omega (arith, tidied-le (i / 64) (alone i b)))
+    (λ b h. bounded-tidied (i / 64) (alone i b) (record { past = λ j l. ap (λ (x : Bool). x && (not (eqb (j / 64) (i / 64)) || eqb j i)) (h .past j l) }))
+
+bounded-without : (i : ℕ) (b : Bits) → Bounded b → Bounded (without i b)
+bounded-without i b h = record { past = λ j l. ap (λ (x : Bool). x && not (eqb j i)) (h .past j l) }
 
 pub dropping-sound : (i : ℕ) → Sound (droppingBit i)
 unfolding droppingBit
 dropping-sound i =
-    sound-done (droppingBit i) (λ b. tidied (i / 64) (less b)) (λ c b. refl) (λ b. omega (arith, tidied-le (i / 64) (less b)))
-    (λ b h. bounded-tidied (i / 64) (less b) (record { past = λ j l. ap (λ (x : Bool). x && not (eqb j i)) (h .past j l) }))
-  where
-    less : Bits → Bits
-    less b = record { members = λ j. b .members j && not (eqb j i); count = b .count }
+    sound-done (droppingBit i) (λ b. tidied (i / 64) (without i b)) (λ c b. refl) (λ b. omega (arith, tidied-le (i / 64) (without i b)))
+    (λ b h. bounded-tidied (i / 64) (without i b) (bounded-without i b h))
+
+pub unsetting-sound : (i : ℕ) → Sound (unsetting i)
+unfolding unsetting
+unsetting-sound i = sound-done (unsetting i) (without i) (λ c b. refl) (λ b. omega arith) (bounded-without i)
 
 pub flipping-sound : (i : ℕ) → Sound (flippingBit i)
 unfolding flippingBit
 flipping-sound i =
-    sound-within (flippingBit i) (λ b. tidied (i / 64) (flipped b)) (λ c b. refl)
-    (λ b h. bounded-tidied (i / 64) (flipped b) (record { past = λ j l. ap₂ xorb (h .past j (omega arith)) (ne-eqb j i (omega arith)) }))
-  where
-    flipped : Bits → Bits
-    flipped b = record { members = λ j. xorb (b .members j) (eqb j i); count = max (b .count) (i / 64 + 1) }
+    sound-within (flippingBit i) (λ b. tidied (i / 64) (flipped i b)) (λ c b. refl) (λ b h. bounded-tidied (i / 64) (flipped i b) (bounded-flipped i b h))

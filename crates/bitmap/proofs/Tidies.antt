@@ -2,32 +2,32 @@
 use mathlib.Core.Path.{_≡_, refl, sym, ap, ap₂, _∙_, subst}
 use mathlib.Core.Bool.{Bool, true, false, not, _&&_, _||_, false≢true}
 use mathlib.Core.List.{List}
-use mathlib.Core.Logic.{inl, inr}
 use Prim.Native.Nat.{ℕ, suc, _+_, _-_, _*_, _/_, _%_, _^_, _≤_, _<_, max}
 use native.Mathlib.Omega.{arith}
 use lib.ListN.{length, getD, set, take, length-set}
 use lib.Seq.{getD-set-other, length-take-le}
 use lib.Dec.{eqb}
-use lib.Bits.{bitAnd, bitXor, and-lt, xor-lt}
+use lib.Bits.{bitAnd, bitXor, and-lt}
 use lib.Pow.{ones-sub-lt}
 use borrow.Author.Tests.{eq-eqb, ne-eqb, eqb-true}
 use Rattle.word.specs.Sets.{choose, xorb}
 use Rattle.word.specs.Bits.{bit, wordOf}
 use Rattle.word.specs.Words.{single}
 use Rattle.word.proofs.Cases.{by-lt, by-eq, eqb-same, and-true, and-keep, and-false}
-use Rattle.word.proofs.Bits.{bit-zero, bit-and, bit-xor, bit-not, bit-pack, pack-is}
+use Rattle.word.proofs.Bits.{bit-zero, bit-and, bit-not, bit-pack, pack-is}
 use Rattle.word.proofs.Words.{bit-single, single-lt}
 use Rattle.word.proofs.Lists.{Fit}
 use Rattle.word.proofs.Sweep.{getD-set}
 use Rattle.arch.specs.Scans.{nonzeroLen}
 use Rattle.arch.proofs.Scans.{nonzero-le}
-use Rattle.storage.specs.Stores.{Bits, done, Op, view, within, trimmed, zeroed, Changes}
+use Rattle.storage.specs.Stores.{Bits, done, Op, view, within, flipped, trimmed, zeroed, Changes}
 use Rattle.storage.specs.declared.Bitmap.{Bitmap}
 use Rattle.storage.specs.declared.Refusal.the-variants.{NoSpace}
 use Rattle.storage.specs.declared.Change.the-variants.{Done, Refused}
 use Rattle.storage.proofs.Checks.{Passed, within-ok, within-no}
 use Rattle.storage.proofs.Views.{view-count, view-in, view-out}
-use Rattle.storage.proofs.Stores.{Stored, changes-done, changes-refused, word-stored, length-zeroed, zeroed-out, zeroed-fit, grown-bit}
+use Rattle.storage.proofs.Stores.{Stored, changes-done, changes-refused, word-stored}
+use Rattle.storage.proofs.Grown.{flip-stored}
 use Rattle.storage.proofs.Trims.{trimmed-length, trimmed-stored}
 use Rattle.bitmap.specs.Bitmaps.{tidied, keepingBit, droppingBit, flippingBit}
 use Rattle.bitmap.specs.Kernels.{tidyCount}
@@ -185,10 +185,6 @@ module _ (ws : List ℕ) (b : Bitmap) (i : ℕ) (f : Fit ws) (p : Passed (length
       untouched (droppingBit i) _ h refl (view-count ws (b .count)) (λ m j l q. drop-there (view ws (b .count) .members (64 * m + j)) m j (omega arith) q)
 
   -- `xori`: a word that grew in holds the flipped bit alone, so it is never dropped
-  flip-there : (t : Bool) (m j : ℕ) → (m ≡ i / 64 → ⊥) → j < 64 → t ≡ xorb t (eqb (64 * m + j) i)
-  flip-there true m j q l = ap not (sym (ne-eqb (64 * m + j) i (omega arith)))
-  flip-there false m j q l = sym (ne-eqb (64 * m + j) i (omega arith))
-
   pub xori-changes : (z : List ℕ) (x u r : ℕ) → i / 64 < length ws → z ≡ zeroed (b .count) (i / 64 + 1) ws → x ≡ single 64 (i % 64) → u ≡ max (b .count) (i / 64 + 1)
       → r ≡ tidyCount (set z (i / 64) (bitXor (getD z (i / 64) 0) x)) u (i / 64)
       → Changes (flippingBit i) ws b (Done (record { count = r })) (set z (i / 64) (bitXor (getD z (i / 64) 0) x))
@@ -196,61 +192,23 @@ module _ (ws : List ℕ) (b : Bitmap) (i : ℕ) (f : Fit ws) (p : Passed (length
   xori-changes z x u r h ez ex eu er =
       changes-done (flippingBit i) ws b ws' (tidied (i / 64) s) r p (within-ok (length ws) (tidied (i / 64) s) (omega (arith, t .1, small))) (t .0) (er ∙ t .1)
     where
-      v : ℕ
-      v = bitXor (getD z (i / 64) 0) x
-
       ws' : List ℕ
-      ws' = set z (i / 64) v
+      ws' = set z (i / 64) (bitXor (getD z (i / 64) 0) x)
 
       s : Bits
-      s = record { members = λ j. xorb (view ws (b .count) .members j) (eqb j i); count = max (view ws (b .count) .count) (i / 64 + 1) }
+      s = flipped i (view ws (b .count))
+
+      st : Stored ws (b .count) s ws'
+      st = flip-stored ws z (b .count) i x ez f (p .inside) h ex
 
       count : s .count ≡ u
       count = omega (arith, eu, view-count ws (b .count))
 
-      long : length z ≡ length ws
-      long = ap length ez ∙ length-zeroed (b .count) (i / 64 + 1) ws
-
-      fz : Fit z
-      fz = subst Fit (sym ez) (zeroed-fit (b .count) (i / 64 + 1) ws f)
-
-      v-lt : v < 2 ^ 64
-      v-lt = xor-lt 64 (getD z (i / 64) 0) x (fz (i / 64)) (x-lt x ex)
-
-      at : (m : ℕ) → m ≡ i / 64 → getD ws' m 0 ≡ v
-      at m e = getD-set z (i / 64) m v (omega (arith, long)) e
-
       fit : Fit ws'
       fit m =
-          by-eq m (i / 64)
-          (λ e. subst (λ (y : ℕ). y < 2 ^ 64) (sym (at m e)) v-lt)
-          (λ e. subst (λ (y : ℕ). y < 2 ^ 64) (sym (getD-set-other z (i / 64) m v 0 e)) (fz m))
-
-      grown : (m j : ℕ) → m < u → j < 64 → bit (getD z m 0) j ≡ view ws (b .count) .members (64 * m + j)
-      grown m j a l =
-          ap (λ (y : List ℕ). bit (getD y m 0) j) ez
-          ∙ by-lt m (b .count)
-          (λ q. grown-bit ws (b .count) (i / 64 + 1) m j (inl q) l)
-          (λ q. grown-bit ws (b .count) (i / 64 + 1) m j (inr (omega arith)) l)
-
-      st : Stored ws (b .count) s ws'
-      st = record {
-        long = length-set z (i / 64) v ∙ long;
-        fits = λ m a. fit m;
-        used = λ m j a l.
-            by-eq m (i / 64)
-            (λ e.
-            ap (λ (y : ℕ). bit y j) (at m e) ∙ bit-xor (getD z (i / 64) 0) x j
-            ∙ ap₂ xorb (ap (λ (q : ℕ). bit (getD z q 0) j) (sym e) ∙ grown m j (omega (arith, count)) l)
-            (bit-here x j ex l ∙ ap (λ (q : ℕ). eqb (64 * q + j) i) (sym e)))
-            (λ e.
-            ap (λ (y : ℕ). bit y j) (getD-set-other z (i / 64) m v 0 e) ∙ grown m j (omega (arith, count)) l
-            ∙ flip-there (view ws (b .count) .members (64 * m + j)) m j e l);
-        dropped = λ m a q. absurd (omega (arith, count, eu));
-        kept = λ m a q.
-            getD-set-other z (i / 64) m v 0 (omega (arith, count, eu)) ∙ ap (λ (y : List ℕ). getD y m 0) ez
-            ∙ zeroed-out (b .count) (i / 64 + 1) ws m (inr (omega (arith, count, eu)));
-      }
+          by-lt m u
+          (λ a. st .fits m (omega (arith, count)))
+          (λ a. subst (λ (y : ℕ). y < 2 ^ 64) (sym (st .kept m (omega (arith, count)) (omega (arith, eu)))) (f m))
 
       not-zero : b .count < u → getD ws' (i / 64) 0 ≡ 0 → ⊥
       not-zero q e =
@@ -260,10 +218,10 @@ module _ (ws : List ℕ) (b : Bitmap) (i : ℕ) (f : Fit ws) (p : Passed (length
           ∙ ap₂ xorb (view-out ws (b .count) (64 * (i / 64) + i % 64) (omega (arith, eu))) (eq-eqb (64 * (i / 64) + i % 64) i (omega arith)))
 
       t : Stored ws (b .count) (tidied (i / 64) s) ws' × (tidyCount ws' u (i / 64) ≡ tidied (i / 64) s .count)
-      t = tidied-stored ws ws' (b .count) (i / 64) u s fit count (omega (arith, eu)) (omega (arith, eu, length-set z (i / 64) v, long, p .inside)) (omega (arith, eu)) st not-zero
+      t = tidied-stored ws ws' (b .count) (i / 64) u s fit count (omega (arith, eu)) (omega (arith, eu, st .long, p .inside)) (omega (arith, eu)) st not-zero
 
       small : tidyCount ws' u (i / 64) ≤ u
-      small = tidy-le ws' u (i / 64) (omega (arith, eu, length-set z (i / 64) v, long, p .inside))
+      small = tidy-le ws' u (i / 64) (omega (arith, eu, st .long, p .inside))
 
   pub xori-refused : length ws ≤ i / 64 → Changes (flippingBit i) ws b (Refused NoSpace b) ws
   unfolding flippingBit tidied wordOf
@@ -273,7 +231,7 @@ module _ (ws : List ℕ) (b : Bitmap) (i : ℕ) (f : Fit ws) (p : Passed (length
       ∙ within-no (length ws) s (omega arith))
     where
       s : Bits
-      s = record { members = λ j. xorb (view ws (b .count) .members j) (eqb j i); count = max (view ws (b .count) .count) (i / 64 + 1) }
+      s = flipped i (view ws (b .count))
 
       -- the word holds the flipped bit
       full : wordOf (s .members) (i / 64) ≡ 0 → ⊥

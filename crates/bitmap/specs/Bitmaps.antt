@@ -3,9 +3,9 @@ use Prim.Native.Nat.{ℕ, suc, _+_, _-_, _/_, _%_, _^_, max}
 use mathlib.Core.Bool.{Bool, false, not, _&&_, _||_}
 use mathlib.Core.List.{List, [], _∷_}
 use lib.Dec.{ltb, eqb}
-use Rattle.word.specs.Sets.{choose, xorb}
+use Rattle.word.specs.Sets.{choose}
 use Rattle.word.specs.Bits.{bit, wordOf}
-use Rattle.storage.specs.Stores.{Bits, refused, done, Op, within, upTo, inRegion, passes, trimmed, combined}
+use Rattle.storage.specs.Stores.{Bits, refused, done, Op, within, upTo, flipped, inRegion, passes, trimmed, combined}
 use Rattle.storage.specs.declared.Refusal.the-variants.{WidthOver, IndexOver}
 
 unfoldable pub trimming : Op
@@ -14,8 +14,12 @@ trimming c b = done (trimmed b)
 unfoldable pub setting : ℕ → Op
 setting i c b = within c (record { members = λ j. b .members j || eqb j i; count = max (b .count) (upTo i) })
 
+-- i is no member
+abbrev pub without : ℕ → Bits → Bits
+without i b = record { members = λ j. b .members j && not (eqb j i); count = b .count }
+
 unfoldable pub unsetting : ℕ → Op
-unsetting i c b = done (record { members = λ j. b .members j && not (eqb j i); count = b .count })
+unsetting i c b = done (without i b)
 
 -- j is one of the listed numbers
 unfoldable pub listed : List ℕ → ℕ → Bool
@@ -56,15 +60,17 @@ unfoldable pub tidied : ℕ → Bits → Bits
 tidied k s = choose (eqb (suc k) (s .count) && eqb (wordOf (s .members) k) 0) (trimmed s) s
 
 -- the other 63 numbers of i's word go
+abbrev pub alone : ℕ → Bits → Bits
+alone i b = record { members = λ j. b .members j && (not (eqb (j / 64) (i / 64)) || eqb j i); count = b .count }
+
 unfoldable pub keepingBit : ℕ → Op
 unfolding tidied
-keepingBit i c b =
-    done (tidied (i / 64) (record { members = λ j. b .members j && (not (eqb (j / 64) (i / 64)) || eqb j i); count = b .count }))
+keepingBit i c b = done (tidied (i / 64) (alone i b))
 
 unfoldable pub droppingBit : ℕ → Op
 unfolding tidied
-droppingBit i c b = done (tidied (i / 64) (record { members = λ j. b .members j && not (eqb j i); count = b .count }))
+droppingBit i c b = done (tidied (i / 64) (without i b))
 
 unfoldable pub flippingBit : ℕ → Op
 unfolding tidied
-flippingBit i c b = within c (tidied (i / 64) (record { members = λ j. xorb (b .members j) (eqb j i); count = max (b .count) (upTo i) }))
+flippingBit i c b = within c (tidied (i / 64) (flipped i b))

@@ -4,34 +4,34 @@ use mathlib.Core.Bool.{Bool, true, false, _&&_, _||_, false≢true}
 use mathlib.Core.Logic.{_⊎_, inl, inr}
 use Prim.Native.Nat.{ℕ, suc, _+_, _-_, _*_, _/_, _^_, _≤_, _<_, max}
 use native.Mathlib.Omega.{arith}
-use lib.Dec.{ltb, leb, eqb}
+use lib.Dec.{ltb, leb}
 use borrow.Author.Tests.{lt-ltb, le-ltb, le-leb, lt-leb, eq-eqb, ne-eqb}
 use Rattle.word.specs.Sets.{xorb, Top}
 use Rattle.word.proofs.Cases.{by-lt, by-eq, or-false, and-false, xor-true, xor-false}
 use Rattle.word.proofs.Sets.{top, top-is}
 use Rattle.storage.specs.Refusals.{numberOf}
-use Rattle.storage.specs.Stores.{Bits, Bounded, refused, done, within, wordsFor}
+use Rattle.storage.specs.Stores.{Bits, Bounded, refused, done, within, flipped, wordsFor}
 use Rattle.storage.specs.Promises.{Sound, Meets, Never, Lacks}
 use Rattle.storage.specs.declared.Refusal.{Refusal}
 use Rattle.storage.proofs.Checks.{within-done}
-use Rattle.storage.proofs.Outcomes.{same, never, which, lacks, sound-within, sound-done}
+use Rattle.storage.proofs.Outcomes.{same, never, which, lacks, bounded-flipped, sound-within, sound-done}
 use Rattle.storage.proofs.Trims.{bounded-trimmed}
 use Rattle.storage.proofs.Promises.{least-count}
 use Rattle.shift.specs.Shifts.{movedUp, movedDown}
 use Rattle.shift.proofs.Moves.{moved-up, moved-in}
-use Rattle.shape.specs.Shapes.{topOf, cutAt, toggling, togglingRegion, raising, lowered, lowering, truncated, truncating, resizing, appending}
+use Rattle.shape.specs.Shapes.{topOf, cutAt, toggling, togglingRegion, raising, lowered, lowering, truncated, truncating, resizing, joined, appending}
 use Rattle.shape.specs.Promises.{FlippedFrom, IsTop, RaisedBy, TopPasses, LoweredBy, CutBelow, TruncatedTo, ResizedTo, JoinedWith}
-use Rattle.shape.proofs.Toggles.{flipped, region-none, region-over, region-put}
+use Rattle.shape.proofs.Toggles.{flippedRegion, region-none, region-over, region-put}
 use Rattle.shape.proofs.Moves.{raised, raise-none, raise-over, raise-put}
 
 -- ---- flipped
 
-bounded-flipped : (i k : ℕ) → (k ≡ 0 → ⊥) → (b : Bits) → Bounded b → Bounded (flipped i k b)
-bounded-flipped i k some b h = record {
+bounded-region : (i k : ℕ) → (k ≡ 0 → ⊥) → (b : Bits) → Bounded b → Bounded (flippedRegion i k b)
+bounded-region i k some b h = record {
   past = λ j l. ap₂ (λ (x t : Bool). xorb x (leb i j && t)) (h .past j (omega arith)) (le-ltb j (i + k) (omega arith)) ∙ and-false (leb i j);
 }
 
-flips : (i k : ℕ) → (k ≡ 0 → ⊥) → (b : Bits) → FlippedFrom i k b (flipped i k b)
+flips : (i k : ℕ) → (k ≡ 0 → ⊥) → (b : Bits) → FlippedFrom i k b (flippedRegion i k b)
 flips i k some b = record {
   inside = λ j p q. ap₂ (λ (s t : Bool). xorb (b .members j) (s && t)) (le-leb i j p) (lt-ltb j (i + k) q) ∙ xor-true (b .members j);
   before = λ j p. ap (λ (s : Bool). xorb (b .members j) (s && ltb j (i + k))) (lt-leb i j p) ∙ xor-false (b .members j);
@@ -48,7 +48,7 @@ region-sound i k =
       space = λ c b s h m q. absurd (never (sym q ∙ region-over i k c b some l));
       bound = λ c b s h m q. absurd (never (sym q ∙ region-over i k c b some l));
     })
-    (λ l. sound-within (togglingRegion i k) (flipped i k) (λ c b. region-put i k c b some l) (bounded-flipped i k some)))
+    (λ l. sound-within (togglingRegion i k) (flippedRegion i k) (λ c b. region-put i k c b some l) (bounded-region i k some)))
 
 -- 4 exactly where the last index passes 2 ^ 64 - 1, then 6 for lack of space; k 0 does nothing, whatever i
 pub toggles-region : (i k : ℕ) → (k ≡ 0 → ⊥)
@@ -58,12 +58,12 @@ toggles-region i k some = record {
   made = λ c b s e.
       by-lt (2 ^ 64) (i + k)
       (λ h. absurd (never (sym e ∙ region-over i k c b some h)))
-      (λ h. (h, subst (FlippedFrom i k b) (within-done c (flipped i k b) s (sym (region-put i k c b some h) ∙ e) .0) (flips i k some b)));
+      (λ h. (h, subst (FlippedFrom i k b) (within-done c (flippedRegion i k b) s (sym (region-put i k c b some h) ∙ e) .0) (flips i k some b)));
   sound = region-sound i k;
   why = λ c b e q.
       by-lt (2 ^ 64) (i + k)
       (λ h. inl (ap numberOf (which (sym q ∙ region-over i k c b some h)), h))
-      (λ h. let l = lacks c (flipped i k b) e (sym (region-put i k c b some h) ∙ q) in inr (l .0, h, l .1));
+      (λ h. let l = lacks c (flippedRegion i k b) e (sym (region-put i k c b some h) ∙ q) in inr (l .0, h, l .1));
 }
 
 pub region-nothing : (i c : ℕ) (b : Bits) → togglingRegion i 0 c b ≡ done b
@@ -73,13 +73,11 @@ pub toggles : (i : ℕ) → Meets (toggling i) (λ c b s. FlippedFrom i 1 b s) (
 unfolding toggling
 toggles i = record {
   made = λ c b s e. subst (FlippedFrom i 1 b) (within-done c _ s e .0) (one b);
-  sound =
-      sound-within (toggling i) (λ b. record { members = λ j. xorb (b .members j) (eqb j i); count = max (b .count) (i / 64 + 1) }) (λ c b. refl)
-      (λ b h. record { past = λ j l. ap₂ xorb (h .past j (omega arith)) (ne-eqb j i (omega arith)) });
+  sound = sound-within (toggling i) (flipped i) (λ c b. refl) (bounded-flipped i);
   why = λ c b e q. lacks c _ e q;
 }
   where
-    one : (b : Bits) → FlippedFrom i 1 b (record { members = λ j. xorb (b .members j) (eqb j i); count = max (b .count) (i / 64 + 1) })
+    one : (b : Bits) → FlippedFrom i 1 b (flipped i b)
     one b = record {
       inside = λ j p q. ap (xorb (b .members j)) (eq-eqb j i (omega arith)) ∙ xor-true (b .members j);
       before = λ j p. ap (xorb (b .members j)) (ne-eqb j i (omega arith)) ∙ xor-false (b .members j);
@@ -266,7 +264,7 @@ joins o k = record {
     count = refl;
   });
   sound =
-      sound-within (appending o) (λ b. record { members = λ i. b .members i || movedUp (64 * b .count) (o .members) i; count = b .count + o .count }) (λ c b. refl)
+      sound-within (appending o) (joined o) (λ c b. refl)
       (λ b h. record { past = λ i l. ap₂ (λ (s t : Bool). s || t) (h .past i (omega arith)) (moved-up (64 * b .count) (o .members) i (omega arith) ∙ k .past (i - 64 * b .count) (omega arith)) });
   why = λ c b e q. lacks c _ e q;
 }

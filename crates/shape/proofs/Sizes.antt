@@ -23,7 +23,7 @@ use Rattle.storage.proofs.Views.{view-count, view-in, view-out, view-whole}
 use Rattle.storage.proofs.Stores.{Stored, changes-done, changes-refused}
 use Rattle.storage.proofs.Grown.{grown-members, grown-part, part-trimmed, part-trimmed-length}
 use Rattle.shift.specs.Shifts.{movedUp}
-use Rattle.shape.specs.Shapes.{cutAt, truncated, truncating, resizing, appending}
+use Rattle.shape.specs.Shapes.{cutAt, truncated, truncating, resizing, joined, appending}
 use Rattle.shape.specs.Kernels.{Copied}
 
 -- what is cleared from k on, below e, of the numbers below e
@@ -97,27 +97,24 @@ module _ (ws : List ℕ) (b : Bitmap) (k : ℕ) (f : Fit ws) (p : Passed (length
 -- ---- joined
 
 module _ (ws os : List ℕ) (b : Bitmap) (m : ℕ) (f : Fit ws) (fo : Fit os) (p : Passed (length ws) (b .count)) (q : Passed (length os) m) where
-  joined : Bits
-  joined = record {
-    members = λ i. view ws (b .count) .members i || movedUp (64 * view ws (b .count) .count) (view os m .members) i;
-    count = view ws (b .count) .count + view os m .count;
-  }
+  both : Bits
+  both = joined (view os m) (view ws (b .count))
 
   count : view ws (b .count) .count + view os m .count ≡ b .count + m
   count = ap₂ (λ (x y : ℕ). x + y) (view-count ws (b .count)) (view-count os m)
 
   pub append-refused : length ws < b .count + m → Changes (beside os m appending) ws b (Refused NoSpace b) ws
-  unfolding appending joined
+  unfolding appending both
   append-refused h =
       changes-refused (beside os m appending) ws b NoSpace p
-      (beside-ok os m appending (length ws) (view ws (b .count)) q ∙ within-no (length ws) joined (omega (arith, count)))
+      (beside-ok os m appending (length ws) (view ws (b .count)) q ∙ within-no (length ws) both (omega (arith, count)))
 
   pub append-changes : (r : ℕ) (ws' : List ℕ) → b .count + m ≤ length ws → Copied ws (b .count) os m ws' → r ≡ b .count + m
       → Changes (beside os m appending) ws b (Done (record { count = r })) ws'
-  unfolding appending joined movedUp
+  unfolding appending both movedUp
   append-changes r ws' h s er =
-      changes-done (beside os m appending) ws b ws' joined r p
-      (beside-ok os m appending (length ws) (view ws n) q ∙ within-ok (length ws) joined (omega (arith, count)))
+      changes-done (beside os m appending) ws b ws' both r p
+      (beside-ok os m appending (length ws) (view ws n) q ∙ within-ok (length ws) both (omega (arith, count)))
       (record {
         long = s .long;
         fits = λ k a.

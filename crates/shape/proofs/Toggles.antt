@@ -1,28 +1,24 @@
 -- A bit and a region flipped. Assumes nothing.
-use mathlib.Core.Path.{_≡_, refl, sym, ap, ap₂, _∙_, subst}
+use mathlib.Core.Path.{_≡_, sym, ap, ap₂, _∙_}
 use mathlib.Core.Bool.{Bool, _&&_}
 use mathlib.Core.List.{List}
 use Prim.Native.Nat.{ℕ, _+_, _-_, _*_, _/_, _%_, _^_, _≤_, _<_, max}
 use native.Mathlib.Omega.{arith}
 use lib.ListN.{length, getD, set}
-use lib.Dec.{leb, ltb, eqb}
-use lib.Bits.{bitXor, xor-lt}
+use lib.Dec.{leb, ltb}
+use lib.Bits.{bitXor}
 use borrow.Author.Tests.{le-ltb, lt-ltb, eq-eqb, ne-eqb}
 use Rattle.word.specs.Sets.{xorb}
-use Rattle.word.specs.Bits.{bit}
 use Rattle.word.specs.Words.{single}
-use Rattle.word.proofs.Cases.{eqb-same, xor-false}
-use Rattle.word.proofs.Bits.{bit-xor}
-use Rattle.word.proofs.Words.{bit-single, single-lt}
 use Rattle.word.proofs.Lists.{Fit}
-use Rattle.storage.specs.Stores.{Bits, refused, done, view, within, inRegion, zeroed, Changes}
+use Rattle.storage.specs.Stores.{Bits, refused, done, view, within, flipped, inRegion, zeroed, Changes}
 use Rattle.storage.specs.declared.Bitmap.{Bitmap}
 use Rattle.storage.specs.declared.Refusal.the-variants.{IndexOver, NoSpace}
 use Rattle.storage.specs.declared.Change.the-variants.{Done, Refused}
 use Rattle.storage.proofs.Checks.{Passed, within-ok, within-no}
 use Rattle.storage.proofs.Views.{view-count}
 use Rattle.storage.proofs.Stores.{changes-done, changes-refused, keeps-changes}
-use Rattle.storage.proofs.Grown.{grown-long, grown-fit, grown-kept, grown-at, grown-word}
+use Rattle.storage.proofs.Grown.{grown-long, grown-fit, grown-kept, grown-at, flip-stored}
 use Rattle.shape.specs.Shapes.{toggling, togglingRegion}
 use Rattle.shape.specs.Kernels.{Flipped}
 
@@ -37,26 +33,17 @@ module _ (ws : List ℕ) (b : Bitmap) (i : ℕ) (f : Fit ws) (p : Passed (length
       → Changes (toggling i) ws b (Done (record { count = r })) (set z (i / 64) (bitXor (getD z (i / 64) 0) x))
   unfolding toggling
   toggle-changes z x r h ez ex er =
-      changes-done (toggling i) ws b (set z (i / 64) (bitXor (getD z (i / 64) 0) x)) s r p (within-ok (length ws) s (omega (arith, view-count ws n, p .inside)))
-      (grown-word ws z n (i / 64 + 1) ez (i / 64) (bitXor (getD z (i / 64) 0) x) s refl f (p .inside) h (omega (arith, view-count ws n))
-      (xor-lt 64 (getD z (i / 64) 0) x (grown-fit ws z n (i / 64 + 1) ez f (i / 64)) (subst (λ (y : ℕ). y < 2 ^ 64) (sym ex) (single-lt 64 (i % 64))))
-      (λ j l.
-      bit-xor (getD z (i / 64) 0) x j
-      ∙ ap₂ xorb (grown-at ws z n (i / 64 + 1) ez (i / 64) j (omega arith) l)
-      (ap (λ (y : ℕ). bit y j) ex ∙ bit-single 64 (i % 64) j l ∙ eqb-same j (i % 64) (64 * (i / 64) + j) i (λ q. omega arith) (λ q. omega arith)))
-      (λ m j q l. sym (ap (xorb (view ws n .members (64 * m + j))) (ne-eqb (64 * m + j) i (omega arith)) ∙ xor-false (view ws n .members (64 * m + j)))))
+      changes-done (toggling i) ws b (set z (i / 64) (bitXor (getD z (i / 64) 0) x)) (flipped i (view ws n)) r p
+      (within-ok (length ws) (flipped i (view ws n)) (omega (arith, view-count ws n, p .inside))) (flip-stored ws z n i x ez f (p .inside) h ex)
       (er ∙ ap (λ (m : ℕ). max m (i / 64 + 1)) (sym (view-count ws n)))
     where
       n : ℕ
       n = b .count
 
-      s : Bits
-      s = record { members = λ j. xorb (view ws n .members j) (eqb j i); count = max (view ws n .count) (i / 64 + 1) }
-
 -- ---- `toggle_region`: the definition's cases
 
-abbrev pub flipped : ℕ → ℕ → Bits → Bits
-flipped i k b = record { members = λ j. xorb (b .members j) (inRegion i k j); count = max (b .count) ((i + k - 1) / 64 + 1) }
+abbrev pub flippedRegion : ℕ → ℕ → Bits → Bits
+flippedRegion i k b = record { members = λ j. xorb (b .members j) (inRegion i k j); count = max (b .count) ((i + k - 1) / 64 + 1) }
 
 module _ (i k c : ℕ) (b : Bits) where
   pub region-none : k ≡ 0 → togglingRegion i k c b ≡ done b
@@ -67,7 +54,7 @@ module _ (i k c : ℕ) (b : Bits) where
   unfolding togglingRegion
   region-over n h = rw (ne-eqb k 0 n, lt-ltb (2 ^ 64) (i + k) h)
 
-  pub region-put : (k ≡ 0 → ⊥) → i + k ≤ 2 ^ 64 → togglingRegion i k c b ≡ within c (flipped i k b)
+  pub region-put : (k ≡ 0 → ⊥) → i + k ≤ 2 ^ 64 → togglingRegion i k c b ≡ within c (flippedRegion i k b)
   unfolding togglingRegion
   region-put n h = rw (ne-eqb k 0 n, le-ltb (2 ^ 64) (i + k) h)
 
@@ -87,14 +74,14 @@ module _ (ws : List ℕ) (b : Bitmap) (i k : ℕ) (f : Fit ws) (p : Passed (leng
     pub region-no-space : length ws ≤ last / 64 → Changes (togglingRegion i k) ws b (Refused NoSpace b) ws
     region-no-space h =
         changes-refused (togglingRegion i k) ws b NoSpace p
-        (region-put i k (length ws) (view ws (b .count)) some (omega arith) ∙ within-no (length ws) (flipped i k (view ws (b .count))) (omega (arith, word)))
+        (region-put i k (length ws) (view ws (b .count)) some (omega arith) ∙ within-no (length ws) (flippedRegion i k (view ws (b .count))) (omega (arith, word)))
 
     pub region-flipped : (z ws' : List ℕ) (r : ℕ) → last / 64 < length ws → z ≡ zeroed (b .count) (last / 64 + 1) ws → Flipped i (last + 1) z ws'
         → r ≡ max (b .count) (last / 64 + 1) → Changes (togglingRegion i k) ws b (Done (record { count = r })) ws'
     region-flipped z ws' r h ez s er =
-        changes-done (togglingRegion i k) ws b ws' (flipped i k (view ws n)) r p
+        changes-done (togglingRegion i k) ws b ws' (flippedRegion i k (view ws n)) r p
         (region-put i k (length ws) (view ws n) some (omega arith)
-        ∙ within-ok (length ws) (flipped i k (view ws n)) (omega (arith, word, view-count ws n, p .inside)))
+        ∙ within-ok (length ws) (flippedRegion i k (view ws n)) (omega (arith, word, view-count ws n, p .inside)))
         (record {
           long = s .long ∙ grown-long ws z n t ez;
           fits = λ m a. s .fits m (grown-fit ws z n t ez f m);

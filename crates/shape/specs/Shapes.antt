@@ -7,7 +7,7 @@ use lib.ListN.{length}
 use lib.Dec.{ltb, eqb}
 use Rattle.word.specs.Sets.{choose, xorb, topBelow}
 use Rattle.storage.specs.Refusals.{numberOf}
-use Rattle.storage.specs.Stores.{Bits, Outcome, refused, done, Op, checked, view, within, upTo, inRegion, passes, wordsFor, trimmed, store, andThen}
+use Rattle.storage.specs.Stores.{Bits, Outcome, refused, done, Op, checked, view, within, upTo, flipped, inRegion, passes, wordsFor, trimmed, store, andThen}
 use Rattle.storage.specs.declared.Bitmap.{Bitmap}
 use Rattle.storage.specs.declared.Refusal.the-variants.{IndexOver}
 use Rattle.shift.specs.Shifts.{movedUp, movedDown}
@@ -23,7 +23,7 @@ abbrev pub cutAt : ℕ → Bits → Bits
 cutAt k b = record { members = λ i. ltb i k && b .members i; count = b .count }
 
 unfoldable pub toggling : ℕ → Op
-toggling i c b = within c (record { members = λ j. xorb (b .members j) (eqb j i); count = max (b .count) (upTo i) })
+toggling i c b = within c (flipped i b)
 
 unfoldable pub togglingRegion : ℕ → ℕ → Op
 togglingRegion i k c b =
@@ -57,9 +57,12 @@ unfoldable pub resizing : ℕ → Op
 resizing k c b = within c (record { members = cutAt k b .members; count = wordsFor k })
 
 -- the second bitmap behind the words in use of the first
+abbrev pub joined : Bits → Bits → Bits
+joined o b = record { members = λ i. b .members i || movedUp (64 * b .count) (o .members) i; count = b .count + o .count }
+
 unfoldable pub appending : Bits → Op
 unfolding movedUp
-appending o c b = within c (record { members = λ i. b .members i || movedUp (64 * b .count) (o .members) i; count = b .count + o .count })
+appending o c b = within c (joined o b)
 
 -- `split_off` of the bitmap of n words in ws: the tail in the store ts, 1 and 2 for each store in order
 unfoldable pub tailOutcome : ℕ → List ℕ → ℕ → List ℕ → Outcome

@@ -1,5 +1,5 @@
 -- What a store holds after growth and a kernel on the words in use. Assumes nothing.
-use mathlib.Core.Path.{_≡_, sym, ap, _∙_, fun-ext, subst}
+use mathlib.Core.Path.{_≡_, refl, sym, ap, ap₂, _∙_, fun-ext, subst}
 use mathlib.Core.Bool.{Bool, false}
 use mathlib.Core.List.{List, _++_}
 use mathlib.Core.Logic.{inl, inr}
@@ -7,14 +7,19 @@ use Prim.Native.Nat.{ℕ, _+_, _-_, _*_, _/_, _%_, _^_, _≤_, _<_, max}
 use native.Mathlib.Omega.{arith}
 use lib.ListN.{length, getD, set, take, drop, length-set, length-append, length-drop, List·getD-append}
 use lib.Seq.{getD-append-add, getD-drop, getD-set-other, getD-take, length-take-le}
+use lib.Bits.{bitXor, xor-lt}
+use borrow.Author.Tests.{ne-eqb}
+use Rattle.word.specs.Sets.{xorb}
 use Rattle.word.specs.Bits.{bit, wordOf, member, wordsOf}
-use Rattle.word.proofs.Cases.{by-lt, by-eq}
-use Rattle.word.proofs.Bits.{bit-pack}
+use Rattle.word.specs.Words.{single}
+use Rattle.word.proofs.Cases.{by-lt, by-eq, eqb-same, xor-false}
+use Rattle.word.proofs.Bits.{bit-xor, bit-pack}
+use Rattle.word.proofs.Words.{bit-single, single-lt}
 use Rattle.word.proofs.Lists.{Fit, at-place, member-at, member-past, word-none, length-words, word-at, words-fit}
 use Rattle.word.proofs.Sweep.{getD-set}
 use Rattle.arch.specs.Scans.{nonzeroLen}
-use Rattle.storage.specs.Stores.{Bits, view, trimmedCount, trimmed, zeroed}
-use Rattle.storage.proofs.Views.{view-out}
+use Rattle.storage.specs.Stores.{Bits, view, flipped, trimmedCount, trimmed, zeroed}
+use Rattle.storage.proofs.Views.{view-count, view-out}
 use Rattle.storage.proofs.Stores.{Stored, part-stored, length-zeroed, zeroed-out, zeroed-fit, grown-bit}
 use Rattle.storage.proofs.Trims.{trimmed-length, trimmed-stored}
 
@@ -92,6 +97,19 @@ module _ (ws z : List ℕ) (n e : ℕ) (ez : z ≡ zeroed n e ws) where
 
       front : (k : ℕ) → k < m → getD (part ++ drop m z) k 0 ≡ getD (wordsOf g m) k 0
       front k l = List·getD-append part (drop m z) 0 k (omega (arith, part-long)) ∙ ap (λ (y : List ℕ). getD y k 0) is
+
+-- ---- one bit of the grown words flipped
+
+pub flip-stored : (ws z : List ℕ) (n i x : ℕ) → z ≡ zeroed n (i / 64 + 1) ws → Fit ws → n ≤ length ws → i / 64 < length ws → x ≡ single 64 (i % 64)
+    → Stored ws n (flipped i (view ws n)) (set z (i / 64) (bitXor (getD z (i / 64) 0) x))
+flip-stored ws z n i x ez f h l ex =
+    grown-word ws z n (i / 64 + 1) ez (i / 64) (bitXor (getD z (i / 64) 0) x) (flipped i (view ws n)) refl f h l (omega (arith, view-count ws n))
+    (xor-lt 64 (getD z (i / 64) 0) x (grown-fit ws z n (i / 64 + 1) ez f (i / 64)) (subst (λ (y : ℕ). y < 2 ^ 64) (sym ex) (single-lt 64 (i % 64))))
+    (λ j q.
+    bit-xor (getD z (i / 64) 0) x j
+    ∙ ap₂ xorb (grown-at ws z n (i / 64 + 1) ez (i / 64) j (omega arith) q)
+    (ap (λ (y : ℕ). bit y j) ex ∙ bit-single 64 (i % 64) j q ∙ eqb-same j (i % 64) (64 * (i / 64) + j) i (λ e. omega arith) (λ e. omega arith)))
+    (λ m j e q. sym (ap (xorb (view ws n .members (64 * m + j))) (ne-eqb (64 * m + j) i (omega arith)) ∙ xor-false (view ws n .members (64 * m + j))))
 
 -- ---- a kernel on the words in use, and then trimmed
 

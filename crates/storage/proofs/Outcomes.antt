@@ -5,9 +5,11 @@ use mathlib.Core.List.{List}
 use Prim.Native.Nat.{ℕ, _≤_, _<_}
 use native.Mathlib.Omega.{arith}
 use lib.ListN.{length}
+use borrow.Author.Tests.{ne-eqb}
+use Rattle.word.specs.Sets.{xorb}
 use Rattle.word.proofs.Cases.{by-lt}
 use Rattle.storage.specs.Refusals.{numberOf}
-use Rattle.storage.specs.Stores.{Bits, Bounded, Outcome, refused, done, Op, limit, checked, view, beside, within, combined}
+use Rattle.storage.specs.Stores.{Bits, Bounded, Outcome, refused, done, Op, limit, checked, view, beside, within, flipped, combined}
 use Rattle.storage.specs.Promises.{Sound}
 use Rattle.storage.specs.declared.Refusal.{Refusal}
 use Rattle.storage.proofs.Checks.{checked-ok, checked-long, checked-over, within-ok, within-no, within-done}
@@ -37,6 +39,9 @@ let-pass c n o s q =
     (λ h. by-lt c n
     (λ l. absurd (never (sym q ∙ checked-over c n refused o h l)))
     (λ l. (sym (checked-ok c n refused o h l) ∙ q, l)))
+
+pub bounded-flipped : (i : ℕ) (b : Bits) → Bounded b → Bounded (flipped i b)
+bounded-flipped i b h = record { past = λ j l. ap₂ xorb (h .past j (omega arith)) (ne-eqb j i (omega arith)) }
 
 -- ---- sound operations
 

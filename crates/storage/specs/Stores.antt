@@ -5,8 +5,8 @@ use mathlib.Core.Path.{_≡_}
 use mathlib.Core.Bool.{Bool, false, not, _&&_}
 use mathlib.Core.List.{List}
 use lib.ListN.{length, getD}
-use lib.Dec.{ltb, leb}
-use Rattle.word.specs.Sets.{choose, countBelow, leastFrom, topBelow}
+use lib.Dec.{ltb, leb, eqb}
+use Rattle.word.specs.Sets.{choose, xorb, countBelow, leastFrom, topBelow}
 use Rattle.word.specs.Bits.{wordOf, member, tabFrom}
 use Rattle.arch.specs.Scans.{filledWords}
 use Rattle.storage.specs.declared.Bitmap.{Bitmap}
@@ -89,6 +89,10 @@ within c b = choose (ltb c (b .count)) (refused NoSpace) (done b)
 -- the words up to the one of bit i
 abbrev pub upTo : ℕ → ℕ
 upTo i = i / 64 + 1
+
+-- i flipped, and the words up to its own
+abbrev pub flipped : ℕ → Bits → Bits
+flipped i b = record { members = λ j. xorb (b .members j) (eqb j i); count = max (b .count) (upTo i) }
 
 -- i lies in the k numbers from a on
 abbrev pub inRegion : ℕ → ℕ → ℕ → Bool
