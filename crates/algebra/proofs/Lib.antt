@@ -2,5 +2,4 @@ pub mod Tables
 pub mod Readings
 pub mod Counts
 pub mod Tests
-pub mod Walks
 pub mod Promises

@@ -1,5 +1,5 @@
 -- The promises of specs/Promises. Assumes nothing.
-use mathlib.Core.Path.{_≡_, refl, sym, ap, ap₂, _∙_, subst}
+use mathlib.Core.Path.{_≡_, refl, sym, ap, ap₂, _∙_}
 use mathlib.Core.Bool.{Bool, true, false, not, _&&_, _||_, false≢true}
 use mathlib.Core.List.{List}
 use Prim.Native.Nat.{ℕ, zero, suc, _+_, _*_, _≤_, max}
@@ -13,28 +13,24 @@ use Rattle.word.proofs.Sets.{count-none, count-empty, counts-is}
 use Rattle.storage.specs.Stores.{Bits, checked, view, size, combined, andNot}
 use Rattle.storage.specs.declared.Refusal.{Refusal}
 use Rattle.storage.specs.declared.Refusal.the-variants.{StoreTooLong, CountOverStore}
-use Rattle.storage.specs.declared.Found.{Found}
-use Rattle.storage.specs.declared.Found.the-variants.{Refused}
 use Rattle.storage.specs.declared.Number.{Number}
 use Rattle.storage.specs.declared.Number.the-variants.{Is, Refused}
 use Rattle.storage.specs.declared.Truth.{Truth}
 use Rattle.storage.specs.declared.Truth.the-variants.{Is, Refused}
-use Rattle.storage.specs.Promises.{NextMember}
-use Rattle.storage.proofs.Promises.{next-member}
 use Rattle.storage.proofs.Checks.{checked-ok, checked-long, checked-over}
 use Rattle.storage.proofs.Views.{view-out}
-use Rattle.algebra.specs.Algebra.{readingBoth, emptyOf, countOf, walkOf}
+use Rattle.algebra.specs.Algebra.{readingBoth, emptyOf, countOf}
 use Rattle.algebra.specs.Promises.{Accepted, isIn, isInBoth, EmptyExact, SubsetExact, DisjointExact, CountExact, CountsAddUp, FirstThenSecond}
-use Rattle.algebra.proofs.Readings.{BothPassed, isEmpty, isCount, isNext, both-viewed}
+use Rattle.algebra.proofs.Readings.{BothPassed, isEmpty, isCount, both-viewed}
 use Rattle.algebra.proofs.Counts.{count-flat}
 
-accepted : {ws os : List ℕ} {n m : ℕ} → Accepted ws n os m → BothPassed (length ws) n (length os) m
+pub accepted : {ws os : List ℕ} {n m : ℕ} → Accepted ws n os m → BothPassed (length ws) n (length os) m
 accepted a = record { one = record { short = a .short; inside = a .inside }; two = record { short = a .second-short; inside = a .second-inside } }
 
 -- ---- the set has no member past the longer bitmap
 
 module _ (f : Bool → Bool → Bool) (ff : f false false ≡ false) (ws : List ℕ) (n : ℕ) (os : List ℕ) (m : ℕ) where
-  past : (i : ℕ) → 64 * max n m ≤ i → isInBoth f ws n os m i ≡ false
+  pub past : (i : ℕ) → 64 * max n m ≤ i → isInBoth f ws n os m i ≡ false
   past i h = ap₂ f (view-out ws n i (omega arith)) (view-out os m i (omega arith)) ∙ ff
 
   none : size (combined f (view ws n) (view os m)) ≡ 0 → (i : ℕ) → isInBoth f ws n os m i ≡ false
@@ -71,14 +67,6 @@ module _ (f : Bool → Bool → Bool) (ff : f false false ≡ false) (ws : List 
     none = none;
     zero = zeroes;
   }
-
-  -- ---- walks
-
-  pub walk-exact : (i : ℕ) → Accepted ws n os m → NextMember (isInBoth f ws n os m) i (walkOf f ws n os m i)
-  unfolding walkOf combined view
-  walk-exact i a =
-      subst (NextMember (isInBoth f ws n os m) i) (sym (both-viewed ws n os m Found.Refused (isNext f i) (accepted a)))
-      (next-member (combined f (view ws n) (view os m)) (record { past = past }) i)
 
 -- ---- the two tests, as sets
 
@@ -193,7 +181,3 @@ tests-in-order f = both-in-order Truth.Refused (isEmpty f)
 pub counts-in-order : (f : Bool → Bool → Bool) → FirstThenSecond Number.Refused (countOf f)
 unfolding countOf
 counts-in-order f = both-in-order Number.Refused (isCount f)
-
-pub walks-in-order : (f : Bool → Bool → Bool) (i : ℕ) → FirstThenSecond Found.Refused (λ ws n os m. walkOf f ws n os m i)
-unfolding walkOf
-walks-in-order f i = both-in-order Found.Refused (isNext f i)

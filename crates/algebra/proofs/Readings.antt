@@ -8,20 +8,18 @@ use lib.ListN.{length, take}
 use lib.Seq.{length-take-le}
 use lib.Dec.{eqb}
 use Rattle.word.proofs.Cases.{by-lt}
-use Rattle.storage.specs.Stores.{Bits, limit, checked, view, size, combined, nextFrom}
+use Rattle.storage.specs.Stores.{Bits, limit, checked, view, size, combined}
 use Rattle.storage.specs.declared.Refusal.{Refusal}
 use Rattle.storage.specs.declared.Refusal.the-variants.{StoreTooLong, CountOverStore}
 use Rattle.storage.specs.declared.Guard.{Guard}
 use Rattle.storage.specs.declared.Guard.the-variants.{Pass, Stop}
-use Rattle.storage.specs.declared.Found.{Found}
-use Rattle.storage.specs.declared.Found.the-variants.{Refused}
 use Rattle.storage.specs.declared.Number.{Number}
 use Rattle.storage.specs.declared.Number.the-variants.{Is, Refused}
 use Rattle.storage.specs.declared.Truth.{Truth}
 use Rattle.storage.specs.declared.Truth.the-variants.{Is, Refused}
 use Rattle.storage.proofs.Checks.{Passed, passed, stopped, checked-ok, checked-long, checked-over}
 use Rattle.storage.proofs.Views.{view-whole}
-use Rattle.algebra.specs.Algebra.{readingBoth, emptyOf, countOf, walkOf}
+use Rattle.algebra.specs.Algebra.{readingBoth, emptyOf, countOf}
 use Rattle.algebra.specs.Kernels.{checkedBoth, whole, made}
 
 pub view-is : (ws : List ℕ) (n : ℕ) → n ≤ length ws → view ws n ≡ whole (take n ws)
@@ -82,19 +80,16 @@ module _ {A : Type 0} (ws : List ℕ) (n : ℕ) (os : List ℕ) (m : ℕ) (refus
       checked-ok (length ws) n refuse (checked (length os) m refuse (g (view ws n) (view os m))) (p .one .short) (p .one .inside)
       ∙ checked-ok (length os) m refuse (g (view ws n) (view os m)) (p .two .short) (p .two .inside)
 
-  both-read : BothPassed (length ws) n (length os) m → readingBoth ws n os m refuse g ≡ g (whole (take n ws)) (whole (take m os))
+  pub both-read : BothPassed (length ws) n (length os) m → readingBoth ws n os m refuse g ≡ g (whole (take n ws)) (whole (take m os))
   both-read p = both-viewed p ∙ ap₂ g (view-is ws n (p .one .inside)) (view-is os m (p .two .inside))
 
--- ---- the three kinds of answer
+-- ---- the two kinds of answer
 
 abbrev pub isEmpty : (Bool → Bool → Bool) → Bits → Bits → Truth
 isEmpty f b o = Truth.Is (eqb (size (combined f b o)) 0)
 
 abbrev pub isCount : (Bool → Bool → Bool) → Bits → Bits → Number
 isCount f b o = Number.Is (size (combined f b o))
-
-abbrev pub isNext : (Bool → Bool → Bool) → ℕ → Bits → Bits → Found
-isNext f i b o = nextFrom (combined f b o) i
 
 module _ (f : Bool → Bool → Bool) (ws : List ℕ) (n : ℕ) (os : List ℕ) (m : ℕ) where
   pub test-stopped : {e : Refusal} → Stop e ≡ checkedBoth (length ws) n (length os) m → Truth.Refused e ≡ emptyOf f ws n os m
@@ -112,11 +107,3 @@ module _ (f : Bool → Bool → Bool) (ws : List ℕ) (n : ℕ) (os : List ℕ) 
   pub counted : {x : ℕ} → BothPassed (length ws) n (length os) m → x ≡ size (made f (take n ws) (take m os)) → Number.Is x ≡ countOf f ws n os m
   unfolding countOf
   counted p e = ap Number.Is e ∙ sym (both-read ws n os m Number.Refused (isCount f) p)
-
-  pub walk-stopped : (i : ℕ) {e : Refusal} → Stop e ≡ checkedBoth (length ws) n (length os) m → Found.Refused e ≡ walkOf f ws n os m i
-  unfolding walkOf
-  walk-stopped i {e} p = sym (both-stopped ws n os m Found.Refused (isNext f i) e p)
-
-  pub walked : (i : ℕ) {r : Found} → BothPassed (length ws) n (length os) m → r ≡ nextFrom (made f (take n ws) (take m os)) i → r ≡ walkOf f ws n os m i
-  unfolding walkOf
-  walked i p e = e ∙ sym (both-read ws n os m Found.Refused (isNext f i) p)

@@ -1,13 +1,11 @@
--- Two bitmaps compared, counted and walked, as sets: each call is one of these at one truth table of two memberships.
+-- Two bitmaps compared and counted, as sets: each call is one of these at one truth table of two memberships.
 -- The shorter bitmap has no members past its words.
 use Prim.Native.Nat.{ℕ}
 use mathlib.Core.Bool.{Bool}
 use mathlib.Core.List.{List}
 use lib.Dec.{eqb}
-use Rattle.storage.specs.Stores.{Bits, reading, size, combined, nextFrom}
+use Rattle.storage.specs.Stores.{Bits, reading, size, combined}
 use Rattle.storage.specs.declared.Refusal.{Refusal}
-use Rattle.storage.specs.declared.Found.{Found}
-use Rattle.storage.specs.declared.Found.the-variants.{Refused}
 use Rattle.storage.specs.declared.Number.{Number}
 use Rattle.storage.specs.declared.Number.the-variants.{Is, Refused}
 use Rattle.storage.specs.declared.Truth.{Truth}
@@ -27,8 +25,3 @@ emptyOf f ws n os m = readingBoth ws n os m Truth.Refused (λ b o. Truth.Is (eqb
 unfoldable pub countOf : (Bool → Bool → Bool) → List ℕ → ℕ → List ℕ → ℕ → Number
 unfolding readingBoth
 countOf f ws n os m = readingBoth ws n os m Number.Refused (λ b o. Number.Is (size (combined f b o)))
-
--- the least from i on that is
-unfoldable pub walkOf : (Bool → Bool → Bool) → List ℕ → ℕ → List ℕ → ℕ → ℕ → Found
-unfolding readingBoth
-walkOf f ws n os m i = readingBoth ws n os m Found.Refused (λ b o. nextFrom (combined f b o) i)

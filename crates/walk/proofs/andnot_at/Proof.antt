@@ -2,8 +2,8 @@ use mathlib.Core.Path.{ap₂}
 use Prim.Native.Nat.{ℕ, _-_, _^_}
 use borrow.Author.Needs.{needs}
 use lib.Bits.{bitAnd}
-use Rattle.algebra.proofs.andnot_at.Statement.{statement}
-use Rattle.algebra.proofs.andnot_at.Tie as tie
+use Rattle.walk.proofs.andnot_at.Statement.{statement}
+use Rattle.walk.proofs.andnot_at.Tie as tie
 
 word-at-requires : tie.Need-word-at-requires
 word-at-requires c κs = search needs

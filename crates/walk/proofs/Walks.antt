@@ -5,7 +5,7 @@ use mathlib.Core.List.{List}
 use Prim.Native.Nat.{ℕ, _+_, _-_, _*_, _/_, _%_, _^_, _≤_, _<_, min, max}
 use native.Mathlib.Nat.{mod-lt}
 use native.Mathlib.Omega.{arith}
-use lib.ListN.{length}
+use lib.ListN.{length, take}
 use lib.Dec.{leb}
 use lib.Pow.{pow-pos}
 use borrow.Author.Tests.{lt-ltb, le-ltb, le-leb, lt-leb, leb-true}
@@ -17,9 +17,14 @@ use Rattle.word.proofs.Sets.{least, least-is}
 use Rattle.word.proofs.Words.{least-bit}
 use Rattle.word.proofs.Lists.{member-past}
 use Rattle.storage.specs.Stores.{Bits, limit, combined, foundBelow, nextFrom}
-use Rattle.storage.specs.declared.Found.the-variants.{At, Nothing}
-use Rattle.algebra.specs.Kernels.{made}
+use Rattle.storage.specs.declared.Refusal.{Refusal}
+use Rattle.storage.specs.declared.Guard.the-variants.{Stop}
+use Rattle.storage.specs.declared.Found.{Found}
+use Rattle.storage.specs.declared.Found.the-variants.{At, Nothing, Refused}
+use Rattle.algebra.specs.Kernels.{checkedBoth, made}
+use Rattle.algebra.proofs.Readings.{BothPassed, both-stopped, both-read}
 use Rattle.algebra.proofs.Tables.{Holds, Keeps}
+use Rattle.walk.specs.Walks.{walkOf}
 
 -- no member from i on is below word k, and w has those of word k that are
 pub record Ahead (c : Bits) (i k w : ℕ) : Type 0 where
@@ -164,3 +169,17 @@ module _ {f : Bool → Bool → Bool} {one two : Bool} (t : Keeps f one two) (xs
 
   pub walk-found : {i k w v : ℕ} → Ahead (made f xs ys) i k w → (w ≡ 0 → ⊥) → v ≡ leastFrom (bit w) 0 64 → At (64 * k + v) ≡ nextFrom (made f xs ys) i
   walk-found a z e = ahead-found a z whole-ends e
+
+-- ---- the call
+
+abbrev pub isNext : (Bool → Bool → Bool) → ℕ → Bits → Bits → Found
+isNext f i b o = nextFrom (combined f b o) i
+
+module _ (f : Bool → Bool → Bool) (ws : List ℕ) (n : ℕ) (os : List ℕ) (m : ℕ) where
+  pub walk-stopped : (i : ℕ) {e : Refusal} → Stop e ≡ checkedBoth (length ws) n (length os) m → Refused e ≡ walkOf f ws n os m i
+  unfolding walkOf
+  walk-stopped i {e} p = sym (both-stopped ws n os m Refused (isNext f i) e p)
+
+  pub walked : (i : ℕ) {r : Found} → BothPassed (length ws) n (length os) m → r ≡ nextFrom (made f (take n ws) (take m os)) i → r ≡ walkOf f ws n os m i
+  unfolding walkOf
+  walked i p e = e ∙ sym (both-read ws n os m Refused (isNext f i) p)

@@ -1,8 +1,8 @@
 use mathlib.Core.Path.{ap₂}
 use borrow.Author.Needs.{needs}
 use lib.Bits.{bitAnd}
-use Rattle.algebra.proofs.and_at.Statement.{statement}
-use Rattle.algebra.proofs.and_at.Tie as tie
+use Rattle.walk.proofs.and_at.Statement.{statement}
+use Rattle.walk.proofs.and_at.Tie as tie
 
 word-at-requires : tie.Need-word-at-requires
 word-at-requires c κs = search needs

@@ -3,12 +3,12 @@ use native.Mathlib.Omega.{arith}
 use borrow.Author.Needs.{needs}
 use lib.ListN.{length}
 use Rattle.storage.proofs.Operations.{word-andnot}
 use Rattle.algebra.proofs.Tables.{holds-is, keeps-andnot}
-use Rattle.algebra.proofs.Walks.{Ahead, ahead-start, ahead-next, ahead-none, least64, ends, walk-in, walk-found}
+use Rattle.walk.proofs.Walks.{Ahead, ahead-start, ahead-next, ahead-none, least64, ends, walk-in, walk-found}
 use Rattle.algebra.specs.Kernels.{made}
 use Rattle.storage.specs.Stores.{andNot}
-use Rattle.algebra.proofs.next_andnot.Statement.{statement}
-use Rattle.algebra.proofs.next_andnot.Tie as tie
+use Rattle.walk.proofs.next_andnot.Statement.{statement}
+use Rattle.walk.proofs.next_andnot.Tie as tie
 
 abbrev Inv-loop : tie.InvT-loop
 Inv-loop a b i end k₀ w₀ k w = (k < 2 ^ 59) × Ahead (made andNot a b) i k w

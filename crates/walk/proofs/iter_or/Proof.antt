@@ -1,9 +1,10 @@
 use mathlib.Core.Path.{sym, _∙_}
 use borrow.Author.Needs.{needs}
 use lib.Seq.{length-take-le}
-use Rattle.algebra.proofs.Readings.{both-passed, part-short, walk-stopped, walked}
-use Rattle.algebra.proofs.iter_or.Statement.{statement}
-use Rattle.algebra.proofs.iter_or.Tie as tie
+use Rattle.algebra.proofs.Readings.{both-passed, part-short}
+use Rattle.walk.proofs.Walks.{walk-stopped, walked}
+use Rattle.walk.proofs.iter_or.Statement.{statement}
+use Rattle.walk.proofs.iter_or.Tie as tie
 
 check-both-requires : tie.Need-check-both-requires
 check-both-requires c κs = search needs

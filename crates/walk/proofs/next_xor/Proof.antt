@@ -2,12 +2,12 @@ use Prim.Native.Nat.{_+_, _-_, _/_, _^_, _<_, max}
 use native.Mathlib.Omega.{arith}
 use borrow.Author.Needs.{needs}
 use Rattle.storage.proofs.Operations.{word-xor}
 use Rattle.algebra.proofs.Tables.{holds-is, keeps-xor}
-use Rattle.algebra.proofs.Walks.{Ahead, ahead-start, ahead-next, ahead-none, least64, ends, walk-in, walk-found}
+use Rattle.walk.proofs.Walks.{Ahead, ahead-start, ahead-next, ahead-none, least64, ends, walk-in, walk-found}
 use Rattle.algebra.specs.Kernels.{made}
 use Rattle.word.specs.Sets.{xorb}
-use Rattle.algebra.proofs.next_xor.Statement.{statement}
-use Rattle.algebra.proofs.next_xor.Tie as tie
+use Rattle.walk.proofs.next_xor.Statement.{statement}
+use Rattle.walk.proofs.next_xor.Tie as tie
 
 abbrev Inv-loop : tie.InvT-loop
 Inv-loop a b i end k₀ w₀ k w = (k < 2 ^ 59) × Ahead (made xorb a b) i k w
