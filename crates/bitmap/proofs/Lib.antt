@@ -1,4 +1,3 @@
-pub mod Combine
 pub mod Singles
 pub mod Many
 pub mod Tidies

@@ -13,15 +13,15 @@ use Rattle.word.specs.Bits.{bit, wordOf}
 use Rattle.word.proofs.Cases.{by-lt, by-eq, by-test, or-false, and-false, and-keep, or-true, xor-true, xor-false}
 use Rattle.word.proofs.Lists.{word-none, word-zero}
 use Rattle.storage.specs.Refusals.{numberOf}
-use Rattle.storage.specs.Stores.{Bits, Bounded, done, flipped, trimmedCount, trimmed, combined}
-use Rattle.storage.specs.Promises.{LeastCount, Combines, Unites, Meets, Never, Lacks}
+use Rattle.storage.specs.Stores.{Bits, done, flipped, trimmed}
+use Rattle.storage.specs.Promises.{LeastCount, Meets, Never, Lacks}
 use Rattle.storage.proofs.Checks.{within-done}
 use Rattle.storage.proofs.Outcomes.{same, never, which, lacks}
-use Rattle.storage.proofs.Promises.{least-count, combined-fewest, combined-either}
-use Rattle.bitmap.specs.Bitmaps.{trimming, setting, without, unsetting, listed, reachOf, settingMany, settingRegion, settingField, combining, uniting, tidied, alone, keepingBit, droppingBit, flippingBit}
+use Rattle.storage.proofs.Promises.{least-count}
+use Rattle.bitmap.specs.Bitmaps.{trimming, setting, without, unsetting, listed, reachOf, settingMany, settingRegion, settingField, tidied, alone, keepingBit, droppingBit, flippingBit}
 use Rattle.bitmap.specs.Promises.{WithBit, WithListed, LacksListed, WithoutBit, Fewest, WithRegion, WithField, NoField, Tidied, OnlyBit, FlippedBit, ThenTidied}
 use Rattle.bitmap.proofs.Many.{reach-in, reach-who, reach-under, listed-at, listed-who}
-use Rattle.bitmap.proofs.Sounds.{setting-sound, many-sound, unsetting-sound, trimming-sound, combining-sound, uniting-sound, region-sound, field-sound, keeping-sound, dropping-sound, flipping-sound}
+use Rattle.bitmap.proofs.Sounds.{setting-sound, many-sound, unsetting-sound, trimming-sound, region-sound, field-sound, keeping-sound, dropping-sound, flipping-sound}
 use Rattle.bitmap.proofs.Regions.{region-none, region-over, region-put}
 use Rattle.bitmap.proofs.Fields.{zero-digit, no-digits, some-at, field-wide, field-over, field-put}
 
@@ -79,23 +79,6 @@ trims = record {
   made = λ c b s e. subst (Fewest b) (same e) (record { same = λ i. refl; count = least-count (b .members) (b .count) });
   sound = trimming-sound;
   why = λ c b e q. never q;
-}
-
-pub combines : (f : Bool → Bool → Bool) → f false false ≡ false → (o : Bits) → Bounded o
-    → Meets (combining f o) (λ c b s. Combines f o b s) (Lacks (λ b. trimmedCount (combined f b o .members) (combined f b o .count)))
-unfolding combining
-combines f e o k = record {
-  made = λ c b s q. subst (Combines f o b) (within-done c _ s q .0) (combined-fewest f b o);
-  sound = combining-sound f e o k;
-  why = λ c b e q. lacks c _ e q;
-}
-
-pub unites : (o : Bits) → Bounded o → Meets (uniting o) (λ c b s. Unites o b s) (Lacks (λ b. max (b .count) (o .count)))
-unfolding uniting combined
-unites o k = record {
-  made = λ c b s q. subst (Unites o b) (within-done c _ s q .0) (combined-either b o);
-  sound = uniting-sound o k;
-  why = λ c b e q. lacks c _ e q;
 }
 
 -- ---- a region of k > 0 numbers

@@ -9,14 +9,14 @@ use borrow.Author.Tests.{le-ltb, ne-eqb}
 use Rattle.word.specs.Sets.{choose}
 use Rattle.word.specs.Bits.{bit, wordOf}
 use Rattle.word.proofs.Cases.{by-lt, by-eq, by-test, and-false}
-use Rattle.storage.specs.Stores.{Bits, Bounded, refused, Op, flipped, inRegion, trimmed, combined}
+use Rattle.storage.specs.Stores.{Bits, Bounded, refused, Op, flipped, inRegion, trimmed}
 use Rattle.storage.specs.Promises.{Sound}
 use Rattle.storage.specs.declared.Refusal.{Refusal}
 use Rattle.storage.specs.declared.Refusal.the-variants.{WidthOver, IndexOver}
-use Rattle.storage.proofs.Outcomes.{never, bounded-flipped, bounded-combined, sound-within, sound-done}
+use Rattle.storage.proofs.Outcomes.{never, bounded-flipped, sound-within, sound-done}
 use Rattle.storage.proofs.Trims.{bounded-trimmed}
 use Rattle.storage.proofs.Promises.{least-count}
-use Rattle.bitmap.specs.Bitmaps.{trimming, setting, without, unsetting, listed, reachOf, settingMany, settingRegion, settingField, combining, uniting, tidied, alone, keepingBit, droppingBit, flippingBit}
+use Rattle.bitmap.specs.Bitmaps.{trimming, setting, without, unsetting, listed, reachOf, settingMany, settingRegion, settingField, tidied, alone, keepingBit, droppingBit, flippingBit}
 use Rattle.bitmap.proofs.Many.{reach-in, listed-who}
 use Rattle.bitmap.proofs.Regions.{region-none, region-over, region-put}
 use Rattle.bitmap.proofs.Fields.{field-wide, field-over, field-some, field-cleared}
@@ -39,15 +39,6 @@ many-sound is =
 pub trimming-sound : Sound trimming
 unfolding trimming
 trimming-sound = sound-done trimming trimmed (λ c b. refl) (λ b. omega (arith, least-count (b .members) (b .count) .low)) bounded-trimmed
-
-pub combining-sound : (f : Bool → Bool → Bool) → f false false ≡ false → (o : Bits) → Bounded o → Sound (combining f o)
-unfolding combining
-combining-sound f e o k =
-    sound-within (combining f o) (λ b. trimmed (combined f b o)) (λ c b. refl) (λ b h. bounded-trimmed (combined f b o) (bounded-combined f e b o h k))
-
-pub uniting-sound : (o : Bits) → Bounded o → Sound (uniting o)
-unfolding uniting
-uniting-sound o k = sound-within (uniting o) (λ b. combined _||_ b o) (λ c b. refl) (λ b h. bounded-combined _||_ refl b o h k)
 
 -- ---- a region
 

@@ -5,7 +5,7 @@ use mathlib.Core.List.{List, [], _∷_}
 use lib.Dec.{ltb, eqb}
 use Rattle.word.specs.Sets.{choose}
 use Rattle.word.specs.Bits.{bit, wordOf}
-use Rattle.storage.specs.Stores.{Bits, refused, done, Op, within, upTo, flipped, inRegion, passes, trimmed, combined}
+use Rattle.storage.specs.Stores.{Bits, refused, done, Op, within, upTo, flipped, inRegion, passes, trimmed}
 use Rattle.storage.specs.declared.Refusal.the-variants.{WidthOver, IndexOver}
 
 unfoldable pub trimming : Op
@@ -47,13 +47,6 @@ settingField i value width c b =
     let count = choose (eqb (value % 2 ^ width) 0) (b .count) (max (b .count) (upTo (i + width - 1))) in
     let put = within c (record { members = λ p. choose (inRegion i width p) (bit value (p - i)) (b .members p); count = count }) in
     choose (ltb 64 width) (refused WidthOver) (choose (eqb width 0) (done b) (choose (passes i width) (refused IndexOver) put))
-
--- a set operation with a second bitmap: `and`, `andnot` and `xor` drop trailing zero words, `or` does not
-unfoldable pub combining : (Bool → Bool → Bool) → Bits → Op
-combining f o c b = within c (trimmed (combined f b o))
-
-unfoldable pub uniting : Bits → Op
-uniting o c b = within c (combined _||_ b o)
 
 -- where word k is the last and is 0, trailing zero words are dropped
 unfoldable pub tidied : ℕ → Bits → Bits

@@ -10,12 +10,6 @@ use Rattle.word.specs.Bits.{bit}
 use Rattle.arch.specs.Scans.{nonzeroLen}
 use Rattle.bitmap.specs.Bitmaps.{listed, reachOf}
 
--- the words below e are op of the two, the others are as they were
-pub record Zipped (op : ℕ → ℕ → ℕ) (ws os : List ℕ) (e : ℕ) (ws' : List ℕ) : Type 0 where
-  pub long : length ws' ≡ length ws
-  pub below : (k : ℕ) → k < e → getD ws' k 0 ≡ op (getD ws k 0) (getD os k 0)
-  pub above : (k : ℕ) → e ≤ k → getD ws' k 0 ≡ getD ws k 0
-
 -- the listed bits are set, and words that have none are as they were
 pub record Listed (ws is ws' : List ℕ) : Type 0 where
   pub long : length ws' ≡ length ws

@@ -8,7 +8,8 @@ use Rattle.storage.specs.Stores.{andThen, checked, view, reading, size, combine
 use Rattle.slice.specs.Slices.{equal, fieldAt, nextClear}
 use Rattle.bits.specs.Bits.{selected}
 use Rattle.shift.specs.Shifts.{movedUp, movedDown, turnedDown, rotatingRight}
-use Rattle.bitmap.specs.Bitmaps.{settingRegion, uniting, tidied, flippingBit}
+use Rattle.bitmap.specs.Bitmaps.{settingRegion, tidied, flippingBit}
+use Rattle.setops.specs.Setops.{uniting}
 use Rattle.shape.specs.Shapes.{raising, lowered, truncated, tailOutcome, headOutcome}
 use Rattle.gap.specs.Gaps.{opening}
 use Rattle.text.specs.Lists.{plain, covers, highest}

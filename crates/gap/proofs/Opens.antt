@@ -12,7 +12,7 @@ use Rattle.storage.proofs.Checks.{within-ok, within-no}
 use Rattle.storage.proofs.Trims.{trimmed-least}
 use Rattle.shift.specs.Shifts.{movedUp, movedDown}
 use Rattle.shift.proofs.Moves.{moved-up, moved-in}
-use Rattle.bitmap.specs.Bitmaps.{uniting}
+use Rattle.setops.specs.Setops.{uniting}
 use Rattle.shape.specs.Shapes.{topOf, cutAt, lowered, truncated}
 use Rattle.shape.proofs.Moves.{raised, raise-none, raise-over, raise-put}
 use Rattle.gap.specs.Gaps.{opening}

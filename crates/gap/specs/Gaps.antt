@@ -1,7 +1,7 @@
 -- Places opened and closed in a bitmap, as 01 composes them ("The change sheet"): the tail is split off, moved, and joined to the head again.
 use Prim.Native.Nat.{ℕ, _+_}
 use Rattle.storage.specs.Stores.{Op, andThen}
-use Rattle.bitmap.specs.Bitmaps.{uniting}
+use Rattle.setops.specs.Setops.{uniting}
 use Rattle.shape.specs.Shapes.{raising, lowered, lowering, truncated}
 
 -- `open` of k places at p: the tail shifted left by p + k, then `or`

@@ -17,7 +17,7 @@ use Rattle.storage.proofs.Checks.{within-done}
 use Rattle.storage.proofs.Outcomes.{same, never, which, lacks, bounded-flipped, sound-within, sound-done}
 use Rattle.storage.proofs.Trims.{bounded-trimmed}
 use Rattle.storage.proofs.Promises.{least-count}
-use Rattle.shift.specs.Shifts.{movedUp, movedDown}
+use Rattle.shift.specs.Shifts.{movedDown}
 use Rattle.shift.proofs.Moves.{moved-up, moved-in}
 use Rattle.shape.specs.Shapes.{topOf, cutAt, toggling, togglingRegion, raising, lowered, lowering, truncated, truncating, resizing, joined, appending}
 use Rattle.shape.specs.Promises.{FlippedFrom, IsTop, RaisedBy, TopPasses, LoweredBy, CutBelow, TruncatedTo, ResizedTo, JoinedWith}

@@ -4,9 +4,9 @@ use native.Mathlib.Omega.{arith}
 use borrow.Author.Needs.{needs}
 use Rattle.storage.proofs.Checks.{passed}
 use Rattle.storage.proofs.Stores.{changes-stopped, second-stopped}
-use Rattle.bitmap.proofs.Combine.{or-refused, or-changes}
-use Rattle.bitmap.proofs.or.Statement.{statement}
-use Rattle.bitmap.proofs.or.Tie as tie
+use Rattle.setops.proofs.Combine.{or-refused, or-changes}
+use Rattle.setops.proofs.or.Statement.{statement}
+use Rattle.setops.proofs.or.Tie as tie
 
 check-requires : tie.Need-check-requires
 check-requires c κs = search needs

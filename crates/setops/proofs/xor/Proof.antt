@@ -8,9 +8,9 @@ use Rattle.arch.specs.Scans.{nonzeroLen}
 use Rattle.arch.proofs.Scans.{nonzero-le}
 use Rattle.storage.proofs.Checks.{passed}
 use Rattle.storage.proofs.Stores.{changes-stopped, second-stopped}
-use Rattle.bitmap.proofs.Combine.{xor-refused, xor-changes}
-use Rattle.bitmap.proofs.xor.Statement.{statement}
-use Rattle.bitmap.proofs.xor.Tie as tie
+use Rattle.setops.proofs.Combine.{xor-refused, xor-changes}
+use Rattle.setops.proofs.xor.Statement.{statement}
+use Rattle.setops.proofs.xor.Tie as tie
 
 check-requires : tie.Need-check-requires
 check-requires c κs = search needs

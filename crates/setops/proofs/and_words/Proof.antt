@@ -1,15 +1,15 @@
 use mathlib.Core.Path.{ap}
 use Prim.Native.Nat.{_-_, _≤_, ℕ}
 use native.Mathlib.Omega.{arith}
+use lib.Bits.{bitAnd}
 use lib.ListN.{getD}
 use Rattle.word.proofs.Sweep.{sweep-up, Swept, sweep-none}
-use Rattle.storage.specs.Kernels.{wordAndNot}
-use Rattle.bitmap.proofs.Combine.{zipped}
-use Rattle.bitmap.proofs.andnot_words.Statement.{statement}
-use Rattle.bitmap.proofs.andnot_words.Tie as tie
+use Rattle.setops.proofs.Combine.{zipped}
+use Rattle.setops.proofs.and_words.Statement.{statement}
+use Rattle.setops.proofs.and_words.Tie as tie
 
 abbrev Inv-loop : tie.InvT-loop
-Inv-loop words₀ other e k₀ words k = (k ≤ e) × Swept words₀ (λ i. wordAndNot (getD words₀ i 0) (getD other i 0)) 0 k words
+Inv-loop words₀ other e k₀ words k = (k ≤ e) × Swept words₀ (λ i. bitAnd (getD words₀ i 0) (getD other i 0)) 0 k words
 
 abbrev μ-loop : tie.MeasureT-loop
 μ-loop words₀ other e k₀ words k = e - k
@@ -46,17 +46,17 @@ loop-again c =
     let l = c .before .before .before .loop in (
       omega arith,
       sweep-up _ _ _ _ _ _ (l .inv .1) (omega (arith, l .inv .1 .long)) (omega arith)
-          (ap (λ (x : ℕ). wordAndNot x (getD (c .before .before .before .before .args .other .now) (l .k) 0)) (l .inv .1 .above (l .k) (omega arith))),
+          (ap (λ (x : ℕ). bitAnd x (getD (c .before .before .before .before .args .other .now) (l .k) 0)) (l .inv .1 .above (l .k) (omega arith))),
     )
 
 same-length : tie.Need-same-length Inv-loop μ-loop
 same-length c = c .before .loop .inv .1 .long
 
 returns : tie.Need-returns Inv-loop μ-loop
-returns c = zipped wordAndNot _ _ _ _ _ (c .before .loop .inv .1) (omega arith) (omega arith)
+returns c = zipped bitAnd _ _ _ _ _ (c .before .loop .inv .1) (omega arith) (omega arith)
 
-pub andnot-words-spec : {M : Type 1} → statement M
-andnot-words-spec =
+pub and-words-spec : {M : Type 1} → statement M
+and-words-spec =
     tie.close
     (tie.spec
     Inv-loop

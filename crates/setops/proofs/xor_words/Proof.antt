@@ -4,9 +4,9 @@ use native.Mathlib.Omega.{arith}
 use lib.Bits.{bitXor}
 use lib.ListN.{getD}
 use Rattle.word.proofs.Sweep.{sweep-up, Swept, sweep-none}
-use Rattle.bitmap.proofs.Combine.{zipped}
-use Rattle.bitmap.proofs.xor_words.Statement.{statement}
-use Rattle.bitmap.proofs.xor_words.Tie as tie
+use Rattle.setops.proofs.Combine.{zipped}
+use Rattle.setops.proofs.xor_words.Statement.{statement}
+use Rattle.setops.proofs.xor_words.Tie as tie
 
 abbrev Inv-loop : tie.InvT-loop
 Inv-loop words₀ other e k₀ words k = (k ≤ e) × Swept words₀ (λ i. bitXor (getD words₀ i 0) (getD other i 0)) 0 k words

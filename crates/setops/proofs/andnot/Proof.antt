@@ -5,9 +5,9 @@ use borrow.Author.Needs.{needs}
 use lib.Seq.{length-take-le}
 use Rattle.storage.proofs.Checks.{passed}
 use Rattle.storage.proofs.Stores.{changes-stopped, second-stopped}
-use Rattle.bitmap.proofs.Combine.{andnot-changes}
-use Rattle.bitmap.proofs.andnot.Statement.{statement}
-use Rattle.bitmap.proofs.andnot.Tie as tie
+use Rattle.setops.proofs.Combine.{andnot-changes}
+use Rattle.setops.proofs.andnot.Statement.{statement}
+use Rattle.setops.proofs.andnot.Tie as tie
 
 check-requires : tie.Need-check-requires
 check-requires c κs = search needs

@@ -1,0 +1,2 @@
+pub mod Combine
+pub mod Promises

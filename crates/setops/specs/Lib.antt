@@ -1,0 +1,2 @@
+pub mod Setops
+pub mod Kernels
