@@ -17,7 +17,7 @@ use Rattle.word.proofs.Sweep.{Swept, sweep-none, sweep-to, sweep-down, sweep-up
 use Rattle.arch.specs.Scans.{filledWords}
 use Rattle.arch.proofs.Regions.{length-filled-words, filled-in, filled-below, filled-above}
 use Rattle.shift.specs.Shifts.{movedUp, movedDown}
-use Rattle.shift.specs.Kernels.{Moved}
+use Rattle.moves.specs.Moves.{Moved}
 
 -- ---- one word
 

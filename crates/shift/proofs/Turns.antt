@@ -15,9 +15,9 @@ use Rattle.word.proofs.Bits.{bit-pack}
 use Rattle.word.proofs.Lists.{Fit, tab-is, words-is, length-words, word-at, words-fit, member-at, member-words}
 use Rattle.word.proofs.Sweep.{Swept, sweep-to, sweep-up, sweep-down}
 use Rattle.shift.specs.Shifts.{turnedUp, turnedDown}
-use Rattle.shift.specs.Kernels.{turnedWords}
+use Rattle.moves.specs.Moves.{turnedWords}
 use Rattle.shift.proofs.Moves.{funneled-is}
-use Rattle.shift.proofs.Swaps.{turned-long, turned-low, turned-high}
+use Rattle.moves.proofs.Swaps.{turned-long, turned-low, turned-high}
 use Rattle.shift.proofs.Rings.{turned-from, turned-by, turned-rest, turned-twice, sunk-by}
 
 -- where there are no words, they are any set's

@@ -1,7 +1,5 @@
 // Shifts and rotations of the words in use, within their length, in place. Whole words and odd bits are split ahead of the walk, and a step
-// makes one word of two neighbours; where there are no odd bits, `whole` moves the words.
-mod whole;
-
+// makes one word of two neighbours; where there are no odd bits, `moves` moves the words.
 use storage::Bitmap;
 use storage::Change;
 use storage::Guard;
@@ -35,7 +33,7 @@ pub fn left_words(words: &mut [u64], k: usize)
         return;
     }
     if up == 0 {
-        whole::move_up(words, whole);
+        moves::move_up(words, whole);
         arch::fill_words(words, 0, whole, 0);
         return;
     }
@@ -62,7 +60,7 @@ pub fn right_words(words: &mut [u64], k: usize)
         return;
     }
     if down == 0 {
-        whole::move_down(words, whole);
+        moves::move_down(words, whole);
         arch::fill_words(words, n - whole, n, 0);
         return;
     }
@@ -150,7 +148,7 @@ pub fn turn_left(words: &mut [u64], k: usize)
     if n == 0 {
         return;
     }
-    whole::turn_words(words, (k / 64) % n);
+    moves::turn_words(words, (k / 64) % n);
     turn_up(words, k % 64);
 }
 
@@ -163,7 +161,7 @@ pub fn turn_right(words: &mut [u64], k: usize)
         return;
     }
     // Down by whole words is up by what they leave of the length.
-    whole::turn_words(words, (n - (k / 64) % n) % n);
+    moves::turn_words(words, (n - (k / 64) % n) % n);
     turn_down(words, k % 64);
 }
 

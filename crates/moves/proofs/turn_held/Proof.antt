@@ -1,9 +1,9 @@
 use Prim.Native.Nat.{_-_}
 use native.Mathlib.Omega.{arith}
 use borrow.Author.Needs.{needs}
-use Rattle.shift.proofs.Swaps.{turned-none}
-use Rattle.shift.proofs.whole.turn_held.Statement.{statement}
-use Rattle.shift.proofs.whole.turn_held.Tie as tie
+use Rattle.moves.proofs.Swaps.{turned-none}
+use Rattle.moves.proofs.turn_held.Statement.{statement}
+use Rattle.moves.proofs.turn_held.Tie as tie
 
 sub-min : tie.Need-sub-min
 sub-min c = search needs

@@ -2,10 +2,10 @@ use Prim.Native.Nat.{_-_, _≤_}
 use native.Mathlib.Omega.{arith}
 use borrow.Author.Needs.{needs}
 use lib.ListN.{length-set}
-use Rattle.shift.specs.Kernels.{Swapped}
-use Rattle.shift.proofs.Pieces.{swap-none, swap-more, swapped-to}
-use Rattle.shift.proofs.whole.swap_words.Statement.{statement}
-use Rattle.shift.proofs.whole.swap_words.Tie as tie
+use Rattle.moves.specs.Moves.{Swapped}
+use Rattle.moves.proofs.Pieces.{swap-none, swap-more, swapped-to}
+use Rattle.moves.proofs.swap_words.Statement.{statement}
+use Rattle.moves.proofs.swap_words.Tie as tie
 
 abbrev Inv-loop : tie.InvT-loop
 Inv-loop words₀ a b m i₀ words i = (i ≤ m) × Swapped a b i words₀ words

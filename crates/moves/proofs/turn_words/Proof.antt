@@ -4,10 +4,10 @@ use native.Mathlib.Omega.{arith}
 use borrow.Author.Needs.{needs}
 use lib.ListN.{length, getD}
 use lib.Seq.{length-take-le}
-use Rattle.shift.specs.Kernels.{turnedWords}
-use Rattle.shift.proofs.Swaps.{Turning, turned-past, turning-none, turning-low, turning-high, turning-all}
-use Rattle.shift.proofs.whole.turn_words.Statement.{statement}
-use Rattle.shift.proofs.whole.turn_words.Tie as tie
+use Rattle.moves.specs.Moves.{turnedWords}
+use Rattle.moves.proofs.Swaps.{Turning, turned-past, turning-none, turning-low, turning-high, turning-all}
+use Rattle.moves.proofs.turn_words.Statement.{statement}
+use Rattle.moves.proofs.turn_words.Tie as tie
 
 abbrev Inv-loop : tie.InvT-loop
 Inv-loop words₀ m n low₀ high₀ words low high = (low + high ≤ length words₀) × (length words ≡ length words₀) × (m ≤ length words₀) × Turning (λ i. getD (turnedWords m words₀) i 0) low high words

@@ -2,7 +2,7 @@
 ghost use mathlib.Core.Path.{_≡_};
 ghost use Prim.Native.Nat.{_+_, _-_, _≤_, min};
 ghost use lib.ListN.{length};
-ghost use Rattle.shift.specs.Kernels.{Moved, Swapped, turnedWords};
+ghost use Rattle.moves.specs.Moves.{Moved, Swapped, turnedWords};
 
 // The most words that move as one piece.
 const PIECE: usize = 1024;

@@ -8,8 +8,8 @@ use lib.ListN.{length, getD, take, drop, length-append, length-drop, List·getD-
 use lib.Seq.{getD-take, getD-drop, ext-getD, length-take-le}
 use Rattle.word.proofs.Cases.{by-lt}
 use Rattle.word.proofs.Lists.{past}
-use Rattle.shift.specs.Kernels.{Moved, Swapped, turnedWords}
-use Rattle.shift.proofs.Pieces.{getD-after, put-long, put-in, put-below, held-long, held-at}
+use Rattle.moves.specs.Moves.{Moved, Swapped, turnedWords}
+use Rattle.moves.proofs.Pieces.{getD-after, put-long, put-in, put-below, held-long, held-at}
 
 -- ---- the last words before the others
 

@@ -8,7 +8,7 @@ use lib.ListN.{length, getD, set, take, drop, length-set, length-append, length-
 use lib.Seq.{getD-set-other, getD-append-add, getD-take, getD-drop, ext-getD, length-take-le}
 use Rattle.word.proofs.Cases.{by-lt, by-eq}
 use Rattle.word.proofs.Sweep.{Swept, getD-set}
-use Rattle.shift.specs.Kernels.{Moved, Swapped}
+use Rattle.moves.specs.Moves.{Moved, Swapped}
 
 -- every word copied
 pub copied-all : (old from ws : List ℕ) (i : ℕ) → Swept old (λ k. getD from k 0) 0 i ws → length old ≡ length from → length from ≤ i → ws ≡ from

@@ -4,9 +4,9 @@ use native.Mathlib.Omega.{arith}
 use borrow.Author.Needs.{needs}
 use lib.ListN.{getD}
 use Rattle.word.proofs.Sweep.{Swept, sweep-none, sweep-up}
-use Rattle.shift.proofs.Pieces.{copied-all}
-use Rattle.shift.proofs.whole.copy_words.Statement.{statement}
-use Rattle.shift.proofs.whole.copy_words.Tie as tie
+use Rattle.moves.proofs.Pieces.{copied-all}
+use Rattle.moves.proofs.copy_words.Statement.{statement}
+use Rattle.moves.proofs.copy_words.Tie as tie
 
 abbrev Inv-loop : tie.InvT-loop
 Inv-loop to₀ from n i₀ to i = (i ≤ n) × Swept to₀ (λ k. getD from k 0) 0 i to

@@ -2,9 +2,9 @@ use mathlib.Core.Path.{refl, sym}
 use Prim.Native.Nat.{_-_}
 use borrow.Author.Needs.{needs}
 use lib.Seq.{length-take-le}
-use Rattle.shift.proofs.Pieces.{take-part, held-long, piece-moved}
-use Rattle.shift.proofs.whole.move_piece.Statement.{statement}
-use Rattle.shift.proofs.whole.move_piece.Tie as tie
+use Rattle.moves.proofs.Pieces.{take-part, held-long, piece-moved}
+use Rattle.moves.proofs.move_piece.Statement.{statement}
+use Rattle.moves.proofs.move_piece.Tie as tie
 
 add-from-end : tie.Need-add-from-end
 add-from-end c = search needs

@@ -4,10 +4,10 @@ use native.Mathlib.Omega.{arith}
 use borrow.Author.Needs.{needs}
 use lib.ListN.{length}
 use lib.Seq.{length-take-le}
-use Rattle.shift.proofs.Pieces.{take-part, take-take, held-long, first-long}
-use Rattle.shift.proofs.Swaps.{turned-up, turned-down}
-use Rattle.shift.proofs.whole.turn_through.Statement.{statement}
-use Rattle.shift.proofs.whole.turn_through.Tie as tie
+use Rattle.moves.proofs.Pieces.{take-part, take-take, held-long, first-long}
+use Rattle.moves.proofs.Swaps.{turned-up, turned-down}
+use Rattle.moves.proofs.turn_through.Statement.{statement}
+use Rattle.moves.proofs.turn_through.Tie as tie
 
 sub-rest : tie.Need-sub-rest
 sub-rest c = search needs
