@@ -5,8 +5,8 @@ use Rattle.storage.specs.Kernels.{wordAndNot}
 use Rattle.combine.proofs.Lengths.{ZeroFrom, zero-down, ends-at, ends-none, andnot-start, andnot-longer}
 use native.Mathlib.Omega.{arith}
 use borrow.Author.Needs.{needs}
-use Rattle.combine.proofs.andnot_len.Statement.{statement}
-use Rattle.combine.proofs.andnot_len.Tie as tie
+use Rattle.combine.proofs.kernels.andnot_len.Statement.{statement}
+use Rattle.combine.proofs.kernels.andnot_len.Tie as tie
 
 abbrev Inv-loop : tie.InvT-loop
 Inv-loop left right k₀ k = (k ≤ length left) × (k ≤ length right) × ZeroFrom wordAndNot left right k

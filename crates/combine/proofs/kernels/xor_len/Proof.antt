@@ -6,8 +6,8 @@ use Rattle.arch.proofs.Scans.{nonzero-le}
 use Rattle.combine.proofs.Lengths.{ZeroFrom, zero-down, ends-at, ends-none, xor-start, xor-longer}
 use native.Mathlib.Omega.{arith}
 use borrow.Author.Needs.{needs}
-use Rattle.combine.proofs.xor_len.Statement.{statement}
-use Rattle.combine.proofs.xor_len.Tie as tie
+use Rattle.combine.proofs.kernels.xor_len.Statement.{statement}
+use Rattle.combine.proofs.kernels.xor_len.Tie as tie
 
 abbrev Inv-loop : tie.InvT-loop
 Inv-loop left right x y k₀ k = (k ≤ length left) × (k ≤ length right) × ZeroFrom bitXor left right k

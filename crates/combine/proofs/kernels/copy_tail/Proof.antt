@@ -1,8 +1,8 @@
 use Rattle.combine.proofs.Writes.{put-tail}
 use native.Mathlib.Omega.{arith}
 use borrow.Author.Needs.{needs}
-use Rattle.combine.proofs.copy_tail.Statement.{statement}
-use Rattle.combine.proofs.copy_tail.Tie as tie
+use Rattle.combine.proofs.kernels.copy_tail.Statement.{statement}
+use Rattle.combine.proofs.kernels.copy_tail.Tie as tie
 
 min-requires : tie.Need-min-requires
 min-requires c κs = search needs

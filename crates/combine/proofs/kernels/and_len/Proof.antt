@@ -4,8 +4,8 @@ use lib.Bits.{bitAnd}
 use Rattle.combine.proofs.Lengths.{ZeroFrom, zero-down, ends-at, ends-none, and-start}
 use native.Mathlib.Omega.{arith}
 use borrow.Author.Needs.{needs}
-use Rattle.combine.proofs.and_len.Statement.{statement}
-use Rattle.combine.proofs.and_len.Tie as tie
+use Rattle.combine.proofs.kernels.and_len.Statement.{statement}
+use Rattle.combine.proofs.kernels.and_len.Tie as tie
 
 abbrev Inv-loop : tie.InvT-loop
 Inv-loop left right k₀ k = (k ≤ length left) × (k ≤ length right) × ZeroFrom bitAnd left right k

@@ -1,15 +1,15 @@
 use mathlib.Core.Path.{refl}
 use Prim.Native.Nat.{_-_, _≤_}
-use lib.Bits.{bitXor}
+use lib.Bits.{bitOr}
 use Rattle.word.proofs.Sweep.{sweep-up, Swept, sweep-none}
 use Rattle.combine.specs.Kernels.{wordFrom}
 use Rattle.combine.proofs.Writes.{swept-put}
 use native.Mathlib.Omega.{arith}
-use Rattle.combine.proofs.xor_words.Statement.{statement}
-use Rattle.combine.proofs.xor_words.Tie as tie
+use Rattle.combine.proofs.kernels.or_words.Statement.{statement}
+use Rattle.combine.proofs.kernels.or_words.Tie as tie
 
 abbrev Inv-loop : tie.InvT-loop
-Inv-loop words₀ left right e k₀ words k = (k ≤ e) × Swept words₀ (wordFrom bitXor left right) 0 k words
+Inv-loop words₀ left right e k₀ words k = (k ≤ e) × Swept words₀ (wordFrom bitOr left right) 0 k words
 
 abbrev μ-loop : tie.MeasureT-loop
 μ-loop words₀ left right e k₀ words k = e - k
@@ -50,8 +50,8 @@ same-length c = c .before .loop .inv .1 .long
 returns : tie.Need-returns Inv-loop μ-loop
 returns c = swept-put _ _ _ _ _ _ (c .before .loop .inv .1) (omega arith) (omega arith)
 
-pub xor-words-spec : {M : Type 1} → statement M
-xor-words-spec =
+pub or-words-spec : {M : Type 1} → statement M
+or-words-spec =
     tie.close
     (tie.spec
     Inv-loop

@@ -1,0 +1,126 @@
+// The words that two bitmaps make together: how many there are, and each of them written.
+ghost use Prim.Native.Nat.{_≤_, min, max};
+ghost use lib.ListN.{length, getD};
+ghost use lib.Bits.{bitAnd, bitOr, bitXor};
+ghost use Rattle.storage.specs.Kernels.{wordAndNot};
+ghost use Rattle.combine.specs.Kernels.{wordFrom, tailWord, Ends, Put};
+
+// The words from index a on, below e, become those of `from`.
+pub(crate) fn copy_words(words: &mut [u64], from: &[u64], a: usize, e: usize)
+    requires { ⌜ (e ≤ length (now words)) × (e ≤ length (now from)) ⌝ }
+    ensures { λ r. ⌜ Put (λ k. getD (now (from .entry)) k 0) a e (now (words .entry)) (now (words .exit)) ⌝ }
+{
+    let mut k = a;
+    while k < e {
+        words[k] = from[k];
+        k += 1;
+    }
+}
+
+// The words that only the longer list has, as far as m.
+pub(crate) fn copy_tail(words: &mut [u64], left: &[u64], right: &[u64], m: usize)
+    requires { ⌜ (m ≤ length (now words)) × (m ≤ max (length (now left)) (length (now right))) ⌝ }
+    ensures { λ r. ⌜ Put (tailWord (now (left .entry)) (now (right .entry))) (min (length (now (left .entry))) (length (now (right .entry)))) m (now (words .entry)) (now (words .exit)) ⌝ }
+{
+    let both = word::min(left.len(), right.len());
+    copy_words(words, left, both, word::min(left.len(), m));
+    copy_words(words, right, both, word::min(right.len(), m));
+}
+
+// The words up to the last one of left & right that is not zero.
+pub(crate) fn and_len(left: &[u64], right: &[u64]) -> usize
+    ensures { λ r. ⌜ Ends bitAnd (now (left .entry)) (now (right .entry)) r ⌝ }
+{
+    let mut k = word::min(left.len(), right.len());
+    while k > 0 {
+        if left[k - 1] & right[k - 1] != 0 {
+            return k;
+        }
+        k -= 1;
+    }
+    0
+}
+
+// Both bits, for the words below e.
+pub(crate) fn and_words(words: &mut [u64], left: &[u64], right: &[u64], e: usize)
+    requires { ⌜ (e ≤ length (now words)) × (e ≤ length (now left)) × (e ≤ length (now right)) ⌝ }
+    ensures { λ r. ⌜ Put (wordFrom bitAnd (now (left .entry)) (now (right .entry))) 0 e (now (words .entry)) (now (words .exit)) ⌝ }
+{
+    let mut k = 0;
+    while k < e {
+        words[k] = left[k] & right[k];
+        k += 1;
+    }
+}
+
+// The words up to the last one of left & !right that is not zero.
+pub(crate) fn andnot_len(left: &[u64], right: &[u64]) -> usize
+    ensures { λ r. ⌜ Ends wordAndNot (now (left .entry)) (now (right .entry)) r ⌝ }
+{
+    let mut k = arch::nonzero_len(left);
+    if k > right.len() {
+        return k;
+    }
+    while k > 0 {
+        if left[k - 1] & !right[k - 1] != 0 {
+            return k;
+        }
+        k -= 1;
+    }
+    0
+}
+
+// The first bit and not the second, for the words below e.
+pub(crate) fn andnot_words(words: &mut [u64], left: &[u64], right: &[u64], e: usize)
+    requires { ⌜ (e ≤ length (now words)) × (e ≤ length (now left)) × (e ≤ length (now right)) ⌝ }
+    ensures { λ r. ⌜ Put (wordFrom wordAndNot (now (left .entry)) (now (right .entry))) 0 e (now (words .entry)) (now (words .exit)) ⌝ }
+{
+    let mut k = 0;
+    while k < e {
+        words[k] = left[k] & !right[k];
+        k += 1;
+    }
+}
+
+// Either bit, for the words below e.
+pub(crate) fn or_words(words: &mut [u64], left: &[u64], right: &[u64], e: usize)
+    requires { ⌜ (e ≤ length (now words)) × (e ≤ length (now left)) × (e ≤ length (now right)) ⌝ }
+    ensures { λ r. ⌜ Put (wordFrom bitOr (now (left .entry)) (now (right .entry))) 0 e (now (words .entry)) (now (words .exit)) ⌝ }
+{
+    let mut k = 0;
+    while k < e {
+        words[k] = left[k] | right[k];
+        k += 1;
+    }
+}
+
+// The words up to the last one of left ^ right that is not zero.
+pub(crate) fn xor_len(left: &[u64], right: &[u64]) -> usize
+    ensures { λ r. ⌜ Ends bitXor (now (left .entry)) (now (right .entry)) r ⌝ }
+{
+    let x = arch::nonzero_len(left);
+    let y = arch::nonzero_len(right);
+    if x != y {
+        return word::max(x, y);
+    }
+    let mut k = x;
+    while k > 0 {
+        if left[k - 1] ^ right[k - 1] != 0 {
+            return k;
+        }
+        k -= 1;
+    }
+    0
+}
+
+// One bit only, for the words below e.
+pub(crate) fn xor_words(words: &mut [u64], left: &[u64], right: &[u64], e: usize)
+    requires { ⌜ (e ≤ length (now words)) × (e ≤ length (now left)) × (e ≤ length (now right)) ⌝ }
+    ensures { λ r. ⌜ Put (wordFrom bitXor (now (left .entry)) (now (right .entry))) 0 e (now (words .entry)) (now (words .exit)) ⌝ }
+{
+    let mut k = 0;
+    while k < e {
+        words[k] = left[k] ^ right[k];
+        k += 1;
+    }
+}
