@@ -14,7 +14,7 @@ use Rattle.shape.specs.Shapes.{raising, lowered, truncated, tailOutcome, headOu
 use Rattle.gap.specs.Gaps.{opening}
 use Rattle.text.specs.Lists.{plain, covers, highest}
 use Rattle.text.specs.Readings as read
-use Rattle.text.specs.Texts.{runsFrom, decimalFrom, printed, others, text}
+use Rattle.print.specs.Texts.{runsFrom, decimalFrom, printed, others, text}
 use Rattle.sheet.specs.Bytes.{number}
 use Rattle.sheet.specs.Kinds.{rowOf, sizeIn, ruleOf}
 use Rattle.sheet.specs.Reader as sheets

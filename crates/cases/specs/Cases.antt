@@ -17,7 +17,7 @@ use Rattle.shift.specs.Shifts.{rotatingRight}
 use Rattle.bitmap.specs.Bitmaps.{flippingBit}
 use Rattle.shape.specs.Shapes.{tailOutcome, headOutcome}
 use Rattle.text.specs.Readings.{readingList}
-use Rattle.text.specs.Texts.{textOf}
+use Rattle.print.specs.Texts.{textOf}
 use Rattle.sheet.specs.Reads.{Course, course, readAnswer, readStore, readingNumber, readingRecord, readingCount}
 
 -- what is asked; a bitmap's words are all of its store, but in `xori`, where it is the first of them

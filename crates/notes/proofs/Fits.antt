@@ -14,7 +14,7 @@ use Rattle.storage.specs.declared.Number.{Number}
 use Rattle.storage.specs.declared.Number.the-variants.{Is, Refused}
 use Rattle.storage.specs.declared.Refusal.the-variants.{NoSpace}
 use Rattle.storage.proofs.Checks.{told}
-use Rattle.text.specs.Texts.{textOf, fitted, Prints}
+use Rattle.print.specs.Texts.{textOf, fitted, Prints}
 
 same : {a b : ℕ} → Number.Is a ≡ Number.Is b → a ≡ b
 same e = cc

@@ -27,7 +27,7 @@ fn answer(edition: usize, number: usize, record: usize, count: usize) {
 // A blank and the list; nothing for an empty one.
 fn list(words: &[u64], b: Bitmap) {
     let mut out = io::large_buffer();
-    match text::write_list(words, b, &mut out) {
+    match print::write_list(words, b, &mut out) {
         Number::Is(n) => {
             if n > 0 {
                 put(b" ");

@@ -2,12 +2,6 @@ pub mod Steps
 pub mod Marks
 pub mod Tokens
 pub mod Taken
-pub mod Decimals
-pub mod Buffer
-pub mod Runs
-pub mod Pieces
-pub mod Printing
 pub mod Accepts
 pub mod Grammar
-pub mod ReadBack
 pub mod Promises

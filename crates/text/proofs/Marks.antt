@@ -2,7 +2,7 @@
 use mathlib.Core.Path.{_≡_, refl, sym, ap, ap₂, _∙_}
 use mathlib.Core.Bool.{Bool, true, false, _&&_, _||_, or-assoc}
 use mathlib.Core.List.{List, [], _∷_, _++_}
-use Prim.Native.Nat.{ℕ, _+_, _*_, _<_}
+use Prim.Native.Nat.{ℕ, _+_, _*_, _≤_, _<_}
 use native.Mathlib.Omega.{arith}
 use lib.Dec.{ltb, leb}
 use lib.ListN.{length}
@@ -18,6 +18,9 @@ use Rattle.text.specs.Kernels.{marked}
 -- i lies in the range
 abbrev pub between : ℕ → ℕ → ℕ → Bool
 between a b i = leb a i && leb i b
+
+pub between-in : (a b i : ℕ) → a ≤ i → i ≤ b → between a b i ≡ true
+between-in a b i h l = ap (λ (t : Bool). t && leb i b) (le-leb a i h) ∙ le-leb i b l
 
 pub covers-end : (rs : List Range) (a b i : ℕ) → covers (rs ++ range a b ∷ []) i ≡ covers rs i || between a b i
 unfolding covers

@@ -1,11 +1,11 @@
--- What serves the contracts of private functions: the code's numbers as a token's state, walks over a text, runs found, bytes put.
-use Prim.Native.Nat.{ℕ, zero, suc, _+_, _≤_, _<_}
+-- What serves the contracts of private functions: the code's numbers as a token's state, walks over a text.
+use Prim.Native.Nat.{ℕ, zero, suc}
 use mathlib.Core.Path.{_≡_}
-use mathlib.Core.Bool.{Bool, true, false, _||_}
-use mathlib.Core.List.{List, [], _∷_, _++_}
-use lib.ListN.{length, drop}
+use mathlib.Core.Bool.{_||_}
+use mathlib.Core.List.{List}
+use lib.ListN.{length}
 use Rattle.word.specs.Bits.{member, wordsOf}
-use Rattle.text.specs.Lists.{comma, space, Range, covers, highest}
+use Rattle.text.specs.Lists.{Range, covers, highest}
 use Rattle.text.specs.Readings as read
 use Rattle.text.specs.Readings.{Number, Unread, Open, Closed, Parsed, notList, ranges, parse}
 use Rattle.text.specs.declared.Value.{Value}
@@ -15,7 +15,6 @@ use Rattle.text.specs.declared.Step.{Step}
 use Rattle.text.specs.declared.Step.the-variants.{Go, Ends, Stop}
 use Rattle.text.specs.declared.Measured.{Measured}
 use Rattle.text.specs.declared.Measured.the-variants.{Top, NotList}
-use Rattle.text.specs.declared.Run.{Run}
 
 -- phase 0, 1 or 2, and the number so far
 abbrev pub numberOf : ℕ → ℕ → Number
@@ -50,29 +49,3 @@ pub record Walked (t : List ℕ) (r : Measured) (ws ws' : List ℕ) : Type 0 whe
   pub passed : List Range
   pub whole : (rs : List Range) → parse t ≡ ranges rs → passed ≡ rs
   pub marks : ws' ≡ marked passed ws
-
--- the next run of s from i on, below e: its first number and the number after its last; none where they are the same
-pub record NextRun (s : ℕ → Bool) (e i : ℕ) (r : Run) : Type 0 where
-  pub from : i ≤ r .low
-  pub order : r .low ≤ r .end
-  pub within : r .end ≤ e
-  pub before : (j : ℕ) → i ≤ j → j < r .low → s j ≡ false
-  pub all : (j : ℕ) → r .low ≤ j → j < r .end → s j ≡ true
-  pub stops : r .low < r .end → s (r .end) ≡ false
-  pub none : r .low ≡ r .end → r .end ≡ e
-
--- what stands between two runs, where `at` bytes came before
-abbrev pub gap : ℕ → List ℕ
-gap zero = []
-gap (suc k) = comma ∷ space ∷ []
-
--- the bytes t at a place
-unfoldable pub putAt : ℕ → List ℕ → List ℕ → List ℕ
-putAt zero t out = t ++ drop (length t) out
-putAt (suc at) t [] = []
-putAt (suc at) t (c ∷ out) = c ∷ putAt at t out
-
--- r is the place after them
-pub record Puts (at : ℕ) (t : List ℕ) (r : ℕ) (out out' : List ℕ) : Type 0 where
-  pub next : r ≡ at + length t
-  pub leaves : out' ≡ putAt at t out

@@ -1,5 +1,4 @@
 pub mod Lists
 pub mod Readings
-pub mod Texts
 pub mod Kernels
 pub mod Promises

@@ -1,0 +1,7 @@
+pub mod Decimals
+pub mod Buffer
+pub mod Runs
+pub mod Pieces
+pub mod Printing
+pub mod ReadBack
+pub mod Promises

@@ -1,0 +1,168 @@
+-- What is printed of a set reads back as the set. Assumes nothing.
+use mathlib.Core.Path.{_≡_, refl, sym, ap, _∙_, subst, fun-ext}
+use mathlib.Core.Bool.{Bool, true, false, _&&_, false≢true}
+use mathlib.Core.List.{List, [], _∷_, _++_, append-nil}
+use Prim.Native.Nat.{ℕ, _+_, _*_, _/_, _%_, _≤_, _<_, max}
+use native.Mathlib.Omega.{arith}
+use lib.Dec.{ltb, eqb}
+use borrow.Author.Tests.{lt-ltb, eqb-true}
+use Rattle.word.specs.Sets.{choose}
+use Rattle.word.proofs.Cases.{by-lt, and-true}
+use Rattle.word.proofs.Lists.{word-zero}
+use Rattle.storage.specs.Stores as stores
+use Rattle.storage.specs.Stores.{Bits, Bounded, done, trimmedCount, trimmed}
+use Rattle.storage.proofs.Checks.{within-ok}
+use Rattle.storage.proofs.Trims.{trimmed-is}
+use Rattle.text.specs.Lists as g
+use Rattle.text.specs.Lists.{comma, joiner, limit, plain, Range, range, highest}
+use Rattle.text.specs.Readings.{ranges, union, readingList}
+use Rattle.print.specs.Texts.{runs, decimal, printed, others, text, textOf}
+use Rattle.print.specs.Promises.{Runs, none, more}
+use Rattle.print.proofs.Decimals.{decimal-digits}
+use Rattle.text.proofs.Accepts.{digit-low, blank-low, complete}
+use Rattle.print.proofs.Runs.{runs-are, runs-cover}
+use Rattle.text.proofs.Taken.{list-is}
+
+-- ---- what is printed is a list of the grammar
+
+decimal-number : (n : ℕ) → n ≤ limit → g.Number (decimal n) n
+decimal-number n h = subst (λ (t : List ℕ). g.Number t n) (append-nil (decimal n)) (g.number g.nil (decimal-digits n) g.nil h)
+
+-- ranges that a list may hold
+data Fit : List Range → Type 0 where
+  fitNone : Fit []
+  fitMore : {r : Range} {rs : List Range} → r .low ≤ r .high → r .high ≤ limit → Fit rs → Fit (r ∷ rs)
+
+printed-token : (r : Range) → r .low ≤ r .high → r .high ≤ limit → g.Token (printed r) r
+unfolding printed
+printed-token r h l = go (eqb (r .low) (r .high)) refl
+  where
+    go : (t : Bool) → eqb (r .low) (r .high) ≡ t → g.Token (choose t (decimal (r .low)) (decimal (r .low) ++ joiner ∷ decimal (r .high))) r
+    go true e =
+        subst (λ (b : ℕ). g.Token (decimal (r .low)) (range (r .low) b)) (eqb-true (r .low) (r .high) e) (g.single (decimal-number (r .low) (omega arith)))
+    go false e = g.pair (decimal-number (r .low) (omega arith)) (decimal-number (r .high) l) h
+
+-- a blank before a token
+blank-number : {t : List ℕ} {v : ℕ} → g.Number t v → g.Number (32 ∷ t) v
+blank-number (g.number b d w h) = g.number (g.cons refl b) d w h
+
+blank-token : {t : List ℕ} {r : Range} → g.Token t r → g.Token (32 ∷ t) r
+blank-token (g.single x) = g.single (blank-number x)
+blank-token (g.pair x y h) = g.pair (blank-number x) y h
+
+others-listed : (t : List ℕ) (r : Range) (rs : List Range) → g.Token t r → Fit rs → g.Listed (t ++ others rs) (r ∷ rs)
+unfolding others
+others-listed t r [] x fitNone = subst (λ (z : List ℕ). g.Listed z (r ∷ [])) (sym (append-nil t)) (g.last x)
+others-listed t r (q ∷ rs) x (fitMore h l f) = g.more x (others-listed (32 ∷ printed q) q rs (blank-token (printed-token q h l)) f)
+
+text-listed : (r : Range) (rs : List Range) → Fit (r ∷ rs) → g.Listed (text (r ∷ rs)) (r ∷ rs)
+unfolding text
+text-listed r rs (fitMore h l f) = others-listed (printed r) r rs (printed-token r h l) f
+
+runs-fit : (s : ℕ → Bool) (i : ℕ) (rs : List Range) → Runs s i rs → ((j : ℕ) → s j ≡ true → j ≤ limit) → Fit rs
+runs-fit s i [] (none f) h = fitNone
+runs-fit s i (r ∷ rs) (more a b f m z x) h = fitMore b (h (r .high) (m (r .high) b (omega arith))) (runs-fit s (r .high + 1) rs x h)
+
+-- ---- its bytes are below 128
+
+and-both : (a b : Bool) → a ≡ true → b ≡ true → a && b ≡ true
+and-both true b e f = f
+and-both false b e f = absurd (false≢true e)
+
+plain-append : (a b : List ℕ) → plain a ≡ true → plain b ≡ true → plain (a ++ b) ≡ true
+unfolding plain
+plain-append [] b e f = f
+plain-append (c ∷ a) b e f =
+    and-both (ltb c 128) (plain (a ++ b)) (and-true (ltb c 128) (plain a) e .0) (plain-append a b (and-true (ltb c 128) (plain a) e .1) f)
+
+plain-cons : (c : ℕ) (t : List ℕ) → c < 128 → plain t ≡ true → plain (c ∷ t) ≡ true
+unfolding plain
+plain-cons c t h e = and-both (ltb c 128) (plain t) (lt-ltb c 128 h) e
+
+plain-nil : plain [] ≡ true
+unfolding plain
+plain-nil = refl
+
+plain-blanks : {t : List ℕ} → g.Blanks t → plain t ≡ true
+plain-blanks g.nil = plain-nil
+plain-blanks (g.cons {c = c} {t = t} e b) = plain-cons c t (omega (arith, blank-low c e)) (plain-blanks b)
+
+plain-digits : {t : List ℕ} {v : ℕ} → g.Digits t v → plain t ≡ true
+plain-digits (g.one {c = c} e) = plain-cons c [] (omega (arith, digit-low c e)) plain-nil
+plain-digits (g.more {t = t} c d e) = plain-append t (c ∷ []) (plain-digits d) (plain-cons c [] (omega (arith, digit-low c e)) plain-nil)
+
+plain-number : {t : List ℕ} {v : ℕ} → g.Number t v → plain t ≡ true
+plain-number (g.number {u = u} {d = d} {w = w} b x y h) = plain-append (u ++ d) w (plain-append u d (plain-blanks b) (plain-digits x)) (plain-blanks y)
+
+plain-token : {t : List ℕ} {r : Range} → g.Token t r → plain t ≡ true
+plain-token (g.single x) = plain-number x
+plain-token (g.pair {t = t} {u = u} x y h) = plain-append t (joiner ∷ u) (plain-number x) (plain-cons joiner u (omega arith) (plain-number y))
+
+pub plain-listed : {t : List ℕ} {rs : List Range} → g.Listed t rs → plain t ≡ true
+plain-listed (g.last x) = plain-token x
+plain-listed (g.ended {t = t} {u = u} x b) = plain-append t (comma ∷ u) (plain-token x) (plain-cons comma u (omega arith) (plain-blanks b))
+plain-listed (g.more {t = t} {u = u} x l) = plain-append t (comma ∷ u) (plain-token x) (plain-cons comma u (omega arith) (plain-listed l))
+
+-- ---- the largest number is a member, and the last
+
+record Last (s : ℕ → Bool) (i t : ℕ) : Type 0 where
+  at : s t ≡ true
+  from : i ≤ t
+  past : (j : ℕ) → t < j → s j ≡ false
+
+runs-last : (s : ℕ → Bool) (i : ℕ) (r : Range) (rs : List Range) → Runs s i (r ∷ rs) → Last s i (highest (r ∷ rs))
+unfolding highest
+runs-last s i r [] (more a b f m z (none x)) =
+    let e : max (r .high) 0 ≡ r .high = omega arith in
+    record { at = ap s e ∙ m (r .high) b (omega arith); from = omega arith; past = λ j h. x j (omega arith) }
+runs-last s i r (q ∷ rs) (more a b f m z x) =
+    let l = runs-last s (r .high + 1) q rs x in
+    let e : max (r .high) (highest (q ∷ rs)) ≡ highest (q ∷ rs) = omega (arith, l .from) in
+    record { at = ap s e ∙ l .at; from = omega (arith, l .from, e); past = λ j h. l .past j (omega (arith, e)) }
+
+-- the words that it needs
+words-needed : (s : ℕ → Bool) (n t : ℕ) → t / 64 < n → Last s 0 t → trimmedCount s n ≡ t / 64 + 1
+words-needed s n t low l =
+    trimmed-is s n (t / 64 + 1) (omega arith) (λ i h k. l .past i (omega arith))
+    (λ k e h.
+    let p : 64 * k + t % 64 ≡ t = omega arith in
+    false≢true (sym (word-zero s k (t % 64) h (omega arith)) ∙ ap s p ∙ l .at))
+
+-- ---- of a bitmap
+
+module _ (b : Bits) (h : Bounded b) (small : b .count ≤ stores.limit) where
+  below : (j : ℕ) → b .members j ≡ true → j < 64 * b .count
+  below j e = by-lt j (64 * b .count) (λ p. p) (λ p. absurd (false≢true (sym (h .past j p) ∙ e)))
+
+  -- an empty set prints nothing
+  pub prints-nothing : ((j : ℕ) → b .members j ≡ false) → textOf b ≡ []
+  unfolding text
+  prints-nothing z = ap text (go (runs b) (runs-are b h))
+    where
+      go : (rs : List Range) → Runs (b .members) 0 rs → rs ≡ []
+      go [] x = refl
+      go (r ∷ rs) (more p q f m e x) = absurd (false≢true (sym (z (r .low)) ∙ m (r .low) (omega arith) q))
+
+  module _ (i : ℕ) (e : b .members i ≡ true) where
+    listed-runs : (rs : List Range) → Runs (b .members) 0 rs → g.Listed (text rs) rs
+    listed-runs [] (none f) = absurd (false≢true (sym (f i (omega arith)) ∙ e))
+    listed-runs (r ∷ rs) x = text-listed r rs (runs-fit (b .members) 0 (r ∷ rs) x (λ j q. omega (arith, below j q)))
+
+    pub text-is-list : g.Listed (textOf b) (runs b)
+    text-is-list = listed-runs (runs b) (runs-are b h)
+
+    pub reads-back : (c : ℕ) (old : Bits) → trimmedCount (b .members) (b .count) ≤ c → readingList (textOf b) c old ≡ done (trimmed b)
+    reads-back c old space = go (runs b) (runs-are b h)
+      where
+        go : (rs : List Range) → Runs (b .members) 0 rs → readingList (text rs) c old ≡ done (trimmed b)
+        go [] (none f) = absurd (false≢true (sym (f i (omega arith)) ∙ e))
+        go (r ∷ rs) x =
+            list-is (text (r ∷ rs)) c old (ranges (r ∷ rs)) (plain-listed (listed-runs (r ∷ rs) x)) (complete (listed-runs (r ∷ rs) x))
+            ∙ within-ok c (union (r ∷ rs)) (omega (arith, count))
+            ∙ ap done (λ k. record { members = fun-ext (λ j. runs-cover (b .members) 0 (r ∷ rs) x j (omega arith)) k; count = sym count k })
+          where
+            last : Last (b .members) 0 (highest (r ∷ rs))
+            last = runs-last (b .members) 0 r rs x
+
+            count : trimmedCount (b .members) (b .count) ≡ highest (r ∷ rs) / 64 + 1
+            count = words-needed (b .members) (b .count) (highest (r ∷ rs)) (omega (arith, below (highest (r ∷ rs)) (last .at))) last

@@ -1,0 +1,214 @@
+-- The maximal runs of a set: that they are found, what they cover, and the next of them by two scans. Assumes nothing.
+use mathlib.Core.Path.{_≡_, refl, sym, ap, _∙_, subst}
+use mathlib.Core.Bool.{Bool, true, false, not, _&&_, _||_, false≢true}
+use mathlib.Core.List.{List, [], _∷_}
+use Prim.Native.Nat.{ℕ, zero, suc, _+_, _-_, _*_, _/_, _%_, _^_, _≤_, _<_}
+use native.Mathlib.Omega.{arith}
+use lib.Dec.{leb}
+use borrow.Author.Tests.{lt-leb, eq-eqb}
+use Rattle.word.specs.Sets.{choose}
+use Rattle.word.proofs.Cases.{by-lt, by-eq, and-false}
+use Rattle.storage.specs.Stores.{Bits, Bounded, view, reading, nextFrom}
+use Rattle.text.specs.Lists.{Range, range, covers}
+use Rattle.print.specs.Texts.{Nowhere, From, runsFrom, runs}
+use Rattle.print.specs.Kernels.{NextRun}
+use Rattle.print.specs.Promises.{Runs, none, more}
+use Rattle.print.specs.declared.Run.{Run}
+use Rattle.text.proofs.Marks.{between, between-in}
+use lib.Bits.{bitAnd}
+use lib.ListN.{length, getD}
+use Rattle.storage.specs.Promises.{NextMember}
+use Rattle.storage.specs.declared.Refusal.{Refusal}
+use Rattle.storage.specs.declared.Found.{Found}
+use Rattle.storage.specs.declared.Found.the-variants.{At, Nothing}
+use Rattle.storage.specs.declared.Number.{Number}
+use Rattle.storage.specs.declared.Number.the-variants.{Is}
+use Rattle.storage.proofs.Checks.{Passed, reading-ok}
+use Rattle.storage.proofs.Views.{view-count, bounded-view}
+use Rattle.storage.proofs.Promises.{next-member}
+use Rattle.slice.specs.Slices.{nextClear}
+use Rattle.slice.specs.Promises.{NextOther}
+use Rattle.slice.proofs.Promises.{next-other}
+use Rattle.slice.proofs.Fields.{bit-of}
+
+-- ---- they are found
+
+runs-back : (s : ℕ → Bool) (i : ℕ) (rs : List Range) → s i ≡ false → Runs s (suc i) rs → Runs s i rs
+runs-back s i [] e (none f) = none {i = i} (λ j h. by-eq i j (λ x. ap s (sym x) ∙ e) (λ x. f j (omega arith)))
+runs-back s i (r ∷ rs) e (more a b f m z x) =
+    more {i = i} {r = r} (omega arith) b (λ j h l. by-eq i j (λ y. ap s (sym y) ∙ e) (λ y. f j (omega arith) l)) m z x
+
+runs-to : (s : ℕ → Bool) (i j : ℕ) (rs : List Range) → i ≡ j → Runs s i rs → Runs s j rs
+runs-to s i j rs e x = subst (λ (k : ℕ). Runs s k rs) e x
+
+-- a run from a to i - 1, and what follows it
+run-closed : (s : ℕ → Bool) (a i : ℕ) (rs : List Range) → a < i → ((j : ℕ) → a ≤ j → j < i → s j ≡ true) → s i ≡ false → Runs s i rs → Runs s a (range a (i - 1) ∷ rs)
+run-closed s a i rs h m z x =
+    let e : i ≡ i - 1 + 1 = omega arith in
+    more {i = a} {r = range a (i - 1)} (omega arith) (omega arith) (λ j p q. absurd (omega arith)) (λ j p q. m j p (omega arith)) (ap s (sym e) ∙ z) (runs-to s i (i - 1 + 1) rs e x)
+
+runs-from : (s : ℕ → Bool) (d i : ℕ) → ((j : ℕ) → i + d ≤ j → s j ≡ false)
+    → Runs s i (runsFrom s Nowhere d i) × ((a : ℕ) → a < i → ((j : ℕ) → a ≤ j → j < i → s j ≡ true) → Runs s a (runsFrom s (From a) d i))
+unfolding runsFrom
+runs-from s zero i f =
+    (none {i = i} (λ j h. f j (omega arith)), λ a h m. run-closed s a i [] h m (f i (omega arith)) (none {i = i} (λ j l. f j (omega arith))))
+runs-from s (suc d) i f = go (s i) refl (runs-from s d (suc i) (λ j h. f j (omega arith)))
+  where
+    on : s i ≡ true → (a : ℕ) → ((j : ℕ) → a ≤ j → j < i → s j ≡ true) → (j : ℕ) → a ≤ j → j < suc i → s j ≡ true
+    on e a m j p q = by-eq j i (λ x. ap s x ∙ e) (λ x. m j p (omega arith))
+
+    go : (t : Bool) → s i ≡ t
+        → Runs s (suc i) (runsFrom s Nowhere d (suc i)) × ((a : ℕ) → a < suc i → ((j : ℕ) → a ≤ j → j < suc i → s j ≡ true) → Runs s a (runsFrom s (From a) d (suc i)))
+        → Runs s i (choose t (runsFrom s (From i) d (suc i)) (runsFrom s Nowhere d (suc i)))
+        × ((a : ℕ) → a < i → ((j : ℕ) → a ≤ j → j < i → s j ≡ true)
+        → Runs s a (choose t (runsFrom s (From a) d (suc i)) (range a (i - 1) ∷ runsFrom s Nowhere d (suc i))))
+    go true e ih =
+        (ih .1 i (omega arith) (on e i (λ j p q. absurd (omega arith))), λ a h m. ih .1 a (omega arith) (on e a m))
+    go false e ih = (
+      runs-back s i (runsFrom s Nowhere d (suc i)) e (ih .0),
+      λ a h m. run-closed s a i (runsFrom s Nowhere d (suc i)) h m e (runs-back s i (runsFrom s Nowhere d (suc i)) e (ih .0)),
+    )
+
+pub runs-are : (b : Bits) → Bounded b → Runs (b .members) 0 (runs b)
+runs-are b h = runs-from (b .members) (64 * b .count) 0 (λ j l. h .past j (omega arith)) .0
+
+-- ---- they cover exactly the set
+
+between-below : (a b i : ℕ) → i < a → between a b i ≡ false
+between-below a b i h = ap (λ (t : Bool). t && leb i b) (lt-leb a i h)
+
+between-above : (a b i : ℕ) → b < i → between a b i ≡ false
+between-above a b i h = ap (λ (t : Bool). leb a i && t) (lt-leb i b h) ∙ and-false (leb a i)
+
+runs-below : (s : ℕ → Bool) (i : ℕ) (rs : List Range) → Runs s i rs → (j : ℕ) → j < i → covers rs j ≡ false
+unfolding covers
+runs-below s i [] (none f) j h = refl
+runs-below s i (r ∷ rs) (more a b f m z x) j h =
+    ap (λ (t : Bool). t || covers rs j) (between-below (r .low) (r .high) j (omega arith)) ∙ runs-below s (r .high + 1) rs x j (omega arith)
+
+pub runs-cover : (s : ℕ → Bool) (i : ℕ) (rs : List Range) → Runs s i rs → (j : ℕ) → i ≤ j → covers rs j ≡ s j
+unfolding covers
+runs-cover s i [] (none f) j h = sym (f j h)
+runs-cover s i (r ∷ rs) (more a b f m z x) j h =
+    by-lt j (r .low)
+    (λ p. ap (λ (t : Bool). t || covers rs j) (between-below (r .low) (r .high) j p) ∙ runs-below s (r .high + 1) rs x j (omega arith) ∙ sym (f j h p))
+    (λ p. by-lt (r .high) j
+    (λ q. ap (λ (t : Bool). t || covers rs j) (between-above (r .low) (r .high) j q) ∙ runs-cover s (r .high + 1) rs x j (omega arith))
+    (λ q. ap (λ (t : Bool). t || covers rs j) (between-in (r .low) (r .high) j p q) ∙ sym (m j p q)))
+
+-- ---- the next of them
+
+-- none is left
+pub next-none : (s : ℕ → Bool) (e i : ℕ) (run : Run) (rs : List Range) → ((j : ℕ) → e ≤ j → s j ≡ false) → NextRun s e i run → run .end ≤ run .low → Runs s i rs → rs ≡ []
+next-none s e i run [] past n h x = refl
+next-none s e i run (r ∷ rs) past n h (more a b f m z x) =
+    absurd
+    (false≢true
+    (sym (by-lt (r .low) (run .low) (λ l. n .before (r .low) a l) (λ l. past (r .low) (omega (arith, n .none (omega (arith, n .order))))))
+    ∙ m (r .low) (omega arith) b))
+
+-- the run is the first of those left
+pub next-some : (s : ℕ → Bool) (e i : ℕ) (run : Run) (rs : List Range) → NextRun s e i run → run .low < run .end → Runs s i rs
+    → (qs : List Range) × (rs ≡ range (run .low) (run .end - 1) ∷ qs) × Runs s (run .end) qs
+next-some s e i run [] n h (none f) = absurd (false≢true (sym (f (run .low) (n .from)) ∙ n .all (run .low) (omega arith) h))
+next-some s e i run (r ∷ rs) n h (more a b f m z x) =
+    (rs, (λ k. range (low k) (high k) ∷ rs), runs-to s (r .high + 1) (run .end) rs end x)
+  where
+    low : r .low ≡ run .low
+    low =
+        by-lt (r .low) (run .low)
+        (λ l. absurd (false≢true (sym (n .before (r .low) a l) ∙ m (r .low) (omega arith) b)))
+        (λ l. by-lt (run .low) (r .low) (λ k. absurd (false≢true (sym (f (run .low) (n .from) k) ∙ n .all (run .low) (omega arith) h))) (λ k. omega arith))
+
+    end : r .high + 1 ≡ run .end
+    end =
+        by-lt (r .high + 1) (run .end)
+        (λ l. absurd (false≢true (sym z ∙ n .all (r .high + 1) (omega (arith, low)) l)))
+        (λ l. by-lt (run .end) (r .high + 1)
+        (λ k. absurd (false≢true (sym (n .stops h) ∙ m (run .end) (omega (arith, low)) (omega arith))))
+        (λ k. omega arith))
+
+    high : r .high ≡ run .end - 1
+    high = omega (arith, end)
+
+-- ---- the next run, by two scans
+
+module _ (ws : List ℕ) (n i : ℕ) (p : Passed (length ws) n) where
+  abbrev b : Bits
+  b = view ws n
+
+  bound : Bounded b
+  bound = bounded-view ws n
+
+  -- the length is past every member
+  below : (j : ℕ) → b .members j ≡ true → j < 64 * n
+  below j e = by-lt j (64 * n) (λ h. h) (λ h. absurd (false≢true (sym (bound .past j (omega (arith, view-count ws n))) ∙ e)))
+
+  module _ (f : Found) (ef : f ≡ reading ws n Found.Refused (λ s. nextFrom s i)) where
+    member : NextMember (b .members) i f
+    member = subst (NextMember (b .members) i) (sym (ef ∙ reading-ok ws n Found.Refused (λ s. nextFrom s i) p)) (next-member b bound i)
+
+    at : (x : ℕ) → f ≡ At x → NextMember (b .members) i (At x)
+    at x e = subst (NextMember (b .members) i) e member
+
+    pub start-below : (x : ℕ) → f ≡ At x → x < 64 * n
+    start-below x e = below x (at x e .1)
+
+    pub run-none : i ≤ 64 * n → f ≡ Nothing → NextRun (b .members) (64 * n) i (record { low = 64 * n; end = 64 * n })
+    run-none h e =
+        let q : NextMember (b .members) i Nothing = subst (NextMember (b .members) i) e member in
+        record {
+          from = h;
+          order = omega arith;
+          within = omega arith;
+          before = λ j l k. q j l;
+          all = λ j l k. absurd (omega arith);
+          stops = λ l. absurd (omega arith);
+          none = λ e. refl;
+        }
+
+    pub found-never : (e : Refusal) → f ≡ Found.Refused e → ⊥
+    found-never e q = subst (NextMember (b .members) i) q member
+
+    -- a run of one number
+    pub run-single : (x : ℕ) → f ≡ At x → b .members (x + 1) ≡ false → NextRun (b .members) (64 * n) i (record { low = x; end = x + 1 })
+    run-single x ex z = record {
+      from = at x ex .0;
+      order = omega arith;
+      within = omega (arith, start-below x ex);
+      before = λ j l k. at x ex .2 j l k;
+      all = λ j l k. let e : j ≡ x = omega arith in ap (b .members) e ∙ at x ex .1;
+      stops = λ l. z;
+      none = λ e. absurd (omega arith);
+    }
+
+    module _ (x : ℕ) (ex : f ≡ At x) (m : Number) (em : m ≡ reading ws n Number.Refused (λ s. Number.Is (nextClear s (x + 1)))) where
+      clear : m ≡ Number.Is (nextClear b (x + 1))
+      clear = em ∙ reading-ok ws n Number.Refused (λ s. Number.Is (nextClear s (x + 1))) p
+
+      pub clear-never : (e : Refusal) → m ≡ Number.Refused e → ⊥
+      clear-never e q = let z : Number.Refused e ≡ Number.Is (nextClear b (x + 1)) = sym q ∙ clear in let y : _≡_ {A = ℕ} 0 1 = cc in omega arith
+
+      pub run-found : (end : ℕ) → m ≡ Number.Is end → NextRun (b .members) (64 * n) i (record { low = x; end = end })
+      run-found end q = record {
+        from = at x ex .0;
+        order = omega (arith, o .from);
+        within = by-lt (64 * n) end (λ l. absurd (omega (arith, below (end - 1) (all (end - 1) (omega (arith, o .from)) (omega (arith, o .from)))))) (λ l. l);
+        before = λ j l k. at x ex .2 j l k;
+        all = all;
+        stops = λ l. o .other;
+        none = λ e. absurd (omega (arith, o .from));
+      }
+        where
+          same : nextClear b (x + 1) ≡ end
+          same = let z : Number.Is (nextClear b (x + 1)) ≡ Number.Is end = sym clear ∙ q in cc
+
+          o : NextOther b (x + 1) end
+          o = subst (NextOther b (x + 1)) same (next-other b bound (x + 1))
+
+          all : (j : ℕ) → x ≤ j → j < end → b .members j ≡ true
+          all j l k = by-eq j x (λ e. ap (b .members) e ∙ at x ex .1) (λ e. o .between j (omega arith) k)
+
+-- a number whose bit is 0 is no member
+pub clear-bit : (ws : List ℕ) (n i : ℕ) → i / 64 < n → bitAnd (getD ws (i / 64) 0 / 2 ^ (i % 64)) 1 ≡ 0 → view ws n .members i ≡ false
+clear-bit ws n i h e = sym (bit-of ws n i h) ∙ ap not (eq-eqb (bitAnd (getD ws (i / 64) 0 / 2 ^ (i % 64)) 1) 0 e)

@@ -1,0 +1,32 @@
+use native.Mathlib.Omega.{arith}
+use lib.ListN.{length-set}
+use borrow.Author.Needs.{needs}
+use Rattle.print.proofs.Pieces.{gap-two, puts-gap-none, puts-gap-two}
+use Rattle.print.proofs.put_gap.Statement.{statement}
+use Rattle.print.proofs.put_gap.Tie as tie
+
+returns : tie.Need-returns
+returns c = puts-gap-none _ _ (c .if1 .taken)
+
+slice-write-out : tie.Need-slice-write-out
+slice-write-out c = omega (arith, c .before .pre, gap-two _ (c .if1 .left))
+
+add-out : tie.Need-add-out
+add-out c = search needs
+
+slice-write-out-2 : tie.Need-slice-write-out-2
+slice-write-out-2 c = omega (arith, c .before .pre, gap-two _ (c .if1 .left), length-set (c .before .args .out .now) (c .before .args .at) 44)
+
+add-result : tie.Need-add-result
+add-result c = search needs
+
+same-length : tie.Need-same-length
+same-length c = search needs
+
+returns-2 : tie.Need-returns-2
+returns-2 c = puts-gap-two _ _ (c .if1 .left) (c .before .pre)
+
+pub put-gap-spec : {M : Type 1} → statement M
+put-gap-spec =
+    tie.close
+    (tie.spec returns slice-write-out add-out slice-write-out-2 add-result same-length returns-2)

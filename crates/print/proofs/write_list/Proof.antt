@@ -1,0 +1,48 @@
+use mathlib.Core.Path.{sym, _∙_}
+use native.Mathlib.Omega.{arith}
+use borrow.Author.Needs.{needs}
+use Rattle.storage.proofs.Checks.{passed}
+use Rattle.print.proofs.Printing.{prints-stopped, prints-short, prints-done}
+use Rattle.print.proofs.write_list.Statement.{statement}
+use Rattle.print.proofs.write_list.Tie as tie
+
+check-requires : tie.Need-check-requires
+check-requires c κs = search needs
+
+enum-known-e : tie.Need-enum-known-e
+enum-known-e c = search needs
+
+returns : tie.Need-returns
+returns c = prints-stopped _ _ _ _ (sym (c .before .e .given .1) ∙ c .before .before .before .check .ensures)
+
+enum-told : tie.Need-enum-told
+enum-told c = search needs
+
+text-len-requires : tie.Need-text-len-requires
+text-len-requires c κs = ((passed _ _ (sym (c .enum-told .given .1) ∙ c .before .before .check .ensures)) .short, (passed _ _ (sym (c .enum-told .given .1) ∙ c .before .before .check .ensures)) .inside)
+
+returns-2 : tie.Need-returns-2
+returns-2 c = prints-short _ _ _ (passed _ _ (sym (c .before .before .enum-told .given .1) ∙ c .before .before .before .before .check .ensures)) _ (c .before .text-len .ensures) (c .if1 .taken)
+
+print-requires : tie.Need-print-requires
+print-requires c κs = ((passed _ _ (sym (c .before .before .before .enum-told .given .1) ∙ c .before .before .before .before .before .check .ensures)) .short, (passed _ _ (sym (c .before .before .before .enum-told .given .1) ∙ c .before .before .before .before .before .check .ensures)) .inside, omega (arith, c .before .if1 .left, c .before .before .text-len .ensures))
+
+same-length : tie.Need-same-length
+same-length c = search needs
+
+returns-3 : tie.Need-returns-3
+returns-3 c = prints-done _ _ _ (passed _ _ (sym (c .before .before .before .before .before .before .enum-told .given .1) ∙ c .before .before .before .before .before .before .before .before .check .ensures)) _ (c .before .before .before .before .before .text-len .ensures) _ (c .before .before .before .before .if1 .left) (c .before .before .print .ensures)
+
+pub write-list-spec : {M : Type 1} → statement M
+write-list-spec =
+    tie.close
+    (tie.spec
+    check-requires
+    enum-known-e
+    returns
+    enum-told
+    text-len-requires
+    returns-2
+    print-requires
+    same-length
+    returns-3)
