@@ -1,11 +1,12 @@
 // List text read, as `0-3, 5-7, 11`: a token is followed byte by byte. The call measures first and writes only what fits.
+mod bytes;
+
 use storage::Bitmap;
 use storage::Change;
 use storage::Guard;
 use storage::Refusal;
 ghost use mathlib.Core.Path.{_≡_};
 ghost use Rattle.storage.specs.Stores.{Changes};
-ghost use Rattle.text.specs.Lists.{digit, blank, plain};
 ghost use Rattle.text.specs.Readings.{kind, grown, fresh, value, token, empty, byDigit, byJoiner, step, readingList};
 ghost use Rattle.text.specs.Kernels.{numberOf, leftOf, partOf, stepOf, Walked};
 
@@ -63,28 +64,13 @@ enum Measured {
     NotList,
 }
 
-fn is_digit(c: u8) -> bool
-    ensures { λ r. ⌜ r ≡ digit c ⌝ }
-{
-    ZERO <= c && c <= 57
-}
-
-fn is_blank(c: u8) -> bool
-    ensures { λ r. ⌜ r ≡ blank c ⌝ }
-{
-    if c == 32 {
-        return true;
-    }
-    9 <= c && c <= 13
-}
-
 fn kind_of(c: u8) -> Kind
     ensures { λ r. ⌜ r ≡ kind c ⌝ }
 {
-    if is_digit(c) {
+    if bytes::is_digit(c) {
         return Kind::Digit(c - ZERO);
     }
-    if is_blank(c) {
+    if bytes::is_blank(c) {
         return Kind::Blank;
     }
     if c == JOINER {
@@ -228,20 +214,6 @@ fn step_by(p: Part, k: Kind) -> Step
     }
 }
 
-// Whether every byte is below 128.
-fn is_plain(text: &[u8]) -> bool
-    ensures { λ r. ⌜ r ≡ plain (now (text .entry)) ⌝ }
-{
-    let mut i = 0;
-    while i < text.len() {
-        if text[i] >= 128 {
-            return false;
-        }
-        i += 1;
-    }
-    true
-}
-
 // The largest number of a list, if the text is one. The ranges of its good tokens are set, as far as the words go.
 fn walk(words: &mut [u64], text: &[u8]) -> Measured
     ensures { λ r. ⌜ Walked (now (text .entry)) r (now (words .entry)) (now (words .exit)) ⌝ }
@@ -296,7 +268,7 @@ pub fn from_list(words: &mut [u64], b: Bitmap, text: &[u8]) -> Change
         Guard::Stop(e) => return Change::Refused(e, b),
         Guard::Pass => {}
     }
-    if !is_plain(text) {
+    if !bytes::is_plain(text) {
         return Change::Refused(Refusal::NotAscii, b);
     }
     // The first walk is lent no word: it measures.

@@ -1,6 +1,6 @@
 use borrow.Author.Tests.{le-leb, lt-leb}
-use Rattle.text.proofs.is_digit.Statement.{statement}
-use Rattle.text.proofs.is_digit.Tie as tie
+use Rattle.text.proofs.bytes.is_digit.Statement.{statement}
+use Rattle.text.proofs.bytes.is_digit.Tie as tie
 
 returns : tie.Need-returns
 returns c = rw (le-leb 48 (c .before .args .c) (c .if1 .taken))

@@ -4,8 +4,8 @@ use Prim.Native.Nat.{_≤_, _-_}
 use lib.ListN.{length, drop}
 use Rattle.text.specs.Lists.{plain}
 use Rattle.text.proofs.Steps.{plain-go, plain-no, plain-end}
-use Rattle.text.proofs.is_plain.Statement.{statement}
-use Rattle.text.proofs.is_plain.Tie as tie
+use Rattle.text.proofs.bytes.is_plain.Statement.{statement}
+use Rattle.text.proofs.bytes.is_plain.Tie as tie
 
 abbrev Inv-loop : tie.InvT-loop
 Inv-loop text i₀ i = (i ≤ length text) × (plain text ≡ plain (drop i text))

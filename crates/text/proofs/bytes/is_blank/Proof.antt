@@ -3,8 +3,8 @@ use borrow.Author.Tests.{le-leb, lt-leb}
 use mathlib.Core.Bool.{_&&_, _||_}
 use lib.Dec.{leb}
 use borrow.Author.Tests.{eq-eqb, ne-eqb}
-use Rattle.text.proofs.is_blank.Statement.{statement}
-use Rattle.text.proofs.is_blank.Tie as tie
+use Rattle.text.proofs.bytes.is_blank.Statement.{statement}
+use Rattle.text.proofs.bytes.is_blank.Tie as tie
 
 returns : tie.Need-returns
 returns c = sym (ap (λ x. x || (leb 9 (c .before .args .c) && leb (c .before .args .c) 13)) (eq-eqb _ 32 (c .if1 .taken)))
