@@ -19,8 +19,8 @@ use Rattle.storage.specs.declared.Truth.{Truth}
 use Rattle.storage.specs.declared.Truth.the-variants.{Is, Refused}
 use Rattle.storage.proofs.Checks.{Passed, passed, stopped, checked-ok, checked-long, checked-over}
 use Rattle.storage.proofs.Views.{view-whole}
-use Rattle.algebra.specs.Algebra.{readingBoth, emptyOf, countOf}
-use Rattle.algebra.specs.Kernels.{checkedBoth, whole, made}
+use Rattle.algebra.specs.Algebra.{checkedBoth, readingBoth, emptyOf, countOf}
+use Rattle.algebra.specs.Kernels.{whole, made}
 
 pub view-is : (ws : List ℕ) (n : ℕ) → n ≤ length ws → view ws n ≡ whole (take n ws)
 unfolding view

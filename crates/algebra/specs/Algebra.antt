@@ -4,12 +4,19 @@ use Prim.Native.Nat.{ℕ}
 use mathlib.Core.Bool.{Bool}
 use mathlib.Core.List.{List}
 use lib.Dec.{eqb}
-use Rattle.storage.specs.Stores.{Bits, reading, size, combined}
+use Rattle.storage.specs.Stores.{Bits, checked, reading, size, combined}
 use Rattle.storage.specs.declared.Refusal.{Refusal}
+use Rattle.storage.specs.declared.Guard.{Guard}
+use Rattle.storage.specs.declared.Guard.the-variants.{Pass, Stop}
 use Rattle.storage.specs.declared.Number.{Number}
 use Rattle.storage.specs.declared.Number.the-variants.{Is, Refused}
 use Rattle.storage.specs.declared.Truth.{Truth}
 use Rattle.storage.specs.declared.Truth.the-variants.{Is, Refused}
+
+-- 1 and 2 of one store and then of another
+unfoldable pub checkedBoth : ℕ → ℕ → ℕ → ℕ → Guard
+unfolding checked
+checkedBoth c n d m = checked c n Stop (checked d m Stop Pass)
 
 -- what g answers of both bitmaps, after 1 and 2 of the first store and then of the second
 unfoldable pub readingBoth : {A : Type 0} → List ℕ → ℕ → List ℕ → ℕ → (Refusal → A) → (Bits → Bits → A) → A

@@ -8,14 +8,7 @@ use lib.Bits.{bitAnd, bitXor}
 use lib.Dec.{eqb}
 use Rattle.word.specs.Sets.{countBelow, leastFrom}
 use Rattle.word.specs.Bits.{member}
-use Rattle.storage.specs.Stores.{Bits, checked, combined}
-use Rattle.storage.specs.declared.Guard.{Guard}
-use Rattle.storage.specs.declared.Guard.the-variants.{Pass, Stop}
-
--- 1 and 2 of one store and then of another
-unfoldable pub checkedBoth : ℕ → ℕ → ℕ → ℕ → Guard
-unfolding checked
-checkedBoth c n d m = checked c n Stop (checked d m Stop Pass)
+use Rattle.storage.specs.Stores.{Bits, combined}
 
 -- the bitmap of all words
 abbrev pub whole : List ℕ → Bits

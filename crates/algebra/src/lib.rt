@@ -13,8 +13,8 @@ ghost use lib.ListN.{length};
 ghost use lib.Dec.{eqb};
 ghost use Rattle.word.specs.Sets.{xorb};
 ghost use Rattle.storage.specs.Stores.{limit, andNot, size};
-ghost use Rattle.algebra.specs.Algebra.{emptyOf, countOf};
-ghost use Rattle.algebra.specs.Kernels.{checkedBoth, made, commonSize, sizeFrom, Apart, firstMet};
+ghost use Rattle.algebra.specs.Algebra.{checkedBoth, emptyOf, countOf};
+ghost use Rattle.algebra.specs.Kernels.{made, commonSize, sizeFrom, Apart, firstMet};
 
 // Refuses for a store of c words whose bitmap has n, then for one of d words whose bitmap has m.
 pub fn check_both(c: usize, n: usize, d: usize, m: usize) -> Guard

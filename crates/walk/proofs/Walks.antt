@@ -21,7 +21,8 @@ use Rattle.storage.specs.declared.Refusal.{Refusal}
 use Rattle.storage.specs.declared.Guard.the-variants.{Stop}
 use Rattle.storage.specs.declared.Found.{Found}
 use Rattle.storage.specs.declared.Found.the-variants.{At, Nothing, Refused}
-use Rattle.algebra.specs.Kernels.{checkedBoth, made}
+use Rattle.algebra.specs.Algebra.{checkedBoth}
+use Rattle.algebra.specs.Kernels.{made}
 use Rattle.algebra.proofs.Readings.{BothPassed, both-stopped, both-read}
 use Rattle.algebra.proofs.Tables.{Holds, Keeps}
 use Rattle.walk.specs.Walks.{walkOf}
