@@ -1,6 +1,6 @@
 -- Results of the operations have space and hold no member past their words. Assumes nothing.
 use mathlib.Core.Path.{_≡_, refl, sym, ap, ap₂, _∙_}
-use mathlib.Core.Bool.{Bool, true, false, not, _&&_, _||_}
+use mathlib.Core.Bool.{Bool, true, false, _&&_, _||_}
 use mathlib.Core.List.{List}
 use Prim.Native.Nat.{ℕ, suc, _+_, _-_, _*_, _/_, _%_, _^_, _≤_, max}
 use native.Mathlib.Omega.{arith}
@@ -113,14 +113,18 @@ bounded-tidied k t h = either (eqb (suc k) (t .count) && eqb (wordOf (t .members
     either true = bounded-trimmed t h
     either false = h
 
+-- no member stays none, whatever else is asked of it
+none-and : {a : Bool} (t : Bool) → a ≡ false → a && t ≡ false
+none-and t e = ap (λ (x : Bool). x && t) e
+
 pub keeping-sound : (i : ℕ) → Sound (keepingBit i)
 unfolding keepingBit
 keeping-sound i =
     sound-done (keepingBit i) (λ b. tidied (i / 64) (alone i b)) (λ c b. refl) (λ b. omega (arith, tidied-le (i / 64) (alone i b)))
-    (λ b h. bounded-tidied (i / 64) (alone i b) (record { past = λ j l. ap (λ (x : Bool). x && (not (eqb (j / 64) (i / 64)) || eqb j i)) (h .past j l) }))
+    (λ b h. bounded-tidied (i / 64) (alone i b) (record { past = λ j l. none-and _ (h .past j (omega arith)) }))
 
 bounded-without : (i : ℕ) (b : Bits) → Bounded b → Bounded (without i b)
-bounded-without i b h = record { past = λ j l. ap (λ (x : Bool). x && not (eqb j i)) (h .past j l) }
+bounded-without i b h = record { past = λ j l. none-and _ (h .past j (omega arith)) }
 
 pub dropping-sound : (i : ℕ) → Sound (droppingBit i)
 unfolding droppingBit
