@@ -1,0 +1,16 @@
+use borrow.Author.Needs.{needs}
+use Rattle.capi.proofs.Calls.{found}
+use Rattle.capi.proofs.scans.taxolbin_last_set.Statement.{statement}
+use Rattle.capi.proofs.scans.taxolbin_last_set.Tie as tie
+
+last-set-requires : tie.Need-last-set-requires
+last-set-requires c κs = search needs
+
+found-requires : tie.Need-found-requires
+found-requires c κs = search needs
+
+returns : tie.Need-returns
+returns c = found (c .before .before .before .last-set .ensures) (c .found .ensures)
+
+pub taxolbin-last-set-spec : {M : Type 1} → statement M
+taxolbin-last-set-spec = tie.close (tie.spec last-set-requires found-requires returns)

@@ -1,0 +1,19 @@
+use borrow.Author.Needs.{needs}
+use Rattle.capi.proofs.Calls.{changed}
+use Rattle.capi.proofs.sets.taxolbin_and.Statement.{statement}
+use Rattle.capi.proofs.sets.taxolbin_and.Tie as tie
+
+and-requires : tie.Need-and-requires
+and-requires c κs = search needs
+
+change-requires : tie.Need-change-requires
+change-requires c κs = search needs
+
+same-length : tie.Need-same-length
+same-length c = search needs
+
+returns : tie.Need-returns
+returns c = changed (c .before .before .before .before .and .ensures) (c .change .ensures)
+
+pub taxolbin-and-spec : {M : Type 1} → statement M
+taxolbin-and-spec = tie.close (tie.spec and-requires change-requires same-length returns)

@@ -1,0 +1,19 @@
+use borrow.Author.Needs.{needs}
+use Rattle.capi.proofs.Calls.{changed}
+use Rattle.capi.proofs.sets.taxolbin_xor_from.Statement.{statement}
+use Rattle.capi.proofs.sets.taxolbin_xor_from.Tie as tie
+
+xor-from-requires : tie.Need-xor-from-requires
+xor-from-requires c κs = search needs
+
+change-requires : tie.Need-change-requires
+change-requires c κs = search needs
+
+same-length : tie.Need-same-length
+same-length c = search needs
+
+returns : tie.Need-returns
+returns c = changed (c .before .before .before .before .xor-from .ensures) (c .change .ensures)
+
+pub taxolbin-xor-from-spec : {M : Type 1} → statement M
+taxolbin-xor-from-spec = tie.close (tie.spec xor-from-requires change-requires same-length returns)

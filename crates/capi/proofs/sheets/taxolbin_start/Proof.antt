@@ -1,0 +1,19 @@
+use borrow.Author.Needs.{needs}
+use Rattle.capi.proofs.Calls.{written}
+use Rattle.capi.proofs.sheets.taxolbin_start.Statement.{statement}
+use Rattle.capi.proofs.sheets.taxolbin_start.Tie as tie
+
+start-requires : tie.Need-start-requires
+start-requires c κs = search needs
+
+added-requires : tie.Need-added-requires
+added-requires c κs = search needs
+
+same-length : tie.Need-same-length
+same-length c = search needs
+
+returns : tie.Need-returns
+returns c = written (c .before .before .before .before .start .ensures) (c .added .ensures)
+
+pub taxolbin-start-spec : {M : Type 1} → statement M
+taxolbin-start-spec = tie.close (tie.spec start-requires added-requires same-length returns)

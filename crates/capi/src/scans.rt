@@ -1,0 +1,161 @@
+// What one bitmap holds: bits, fields, scans and counts.
+use storage::Bitmap;
+ghost use Rattle.storage.specs.Stores.{reading, nextFrom, size};
+ghost use Rattle.storage.specs.declared.Found.{Found};
+ghost use Rattle.storage.specs.declared.Found.the-variants.{Refused};
+ghost use Rattle.storage.specs.declared.Number.{Number};
+ghost use Rattle.storage.specs.declared.Number.the-variants.{Is, Refused};
+ghost use Rattle.storage.specs.declared.Field.{Field};
+ghost use Rattle.storage.specs.declared.Field.the-variants.{Refused};
+ghost use Rattle.storage.specs.declared.Truth.{Truth};
+ghost use Rattle.storage.specs.declared.Truth.the-variants.{Is, Refused};
+ghost use Rattle.slice.specs.Slices.{fieldAt, lastSet, nextClear};
+ghost use Rattle.bits.specs.Bits.{clearSize, countRegion, rankOf, selected};
+ghost use Rattle.answers.specs.Answers.{FoundOut, NumberOut, FieldOut, TruthOut};
+
+// Whether bit i is set; it is not past the length.
+#[no_mangle]
+pub extern "C" fn taxolbin_get(words: &[u64], count: usize, i: usize, value: &mut usize) -> u32
+    ensures { λ r. ⌜ TruthOut (reading (now (words .entry)) count Truth.Refused (λ s. Truth.Is (s .members i))) r (now (value .exit)) ⌝ }
+{
+    let a = slice::get(words, Bitmap { count }, i);
+    answers::truth(a, value)
+}
+
+// The field of `width` bits from i on, with zeros past the length.
+#[no_mangle]
+pub extern "C" fn taxolbin_get_field(
+    words: &[u64],
+    count: usize,
+    i: usize,
+    width: usize,
+    value: &mut u64,
+) -> u32
+    ensures { λ r. ⌜ FieldOut (reading (now (words .entry)) count Field.Refused (fieldAt i width)) r (now (value .exit)) ⌝ }
+{
+    let a = slice::get_field(words, Bitmap { count }, i, width);
+    answers::field(a, value)
+}
+
+// The least set bit.
+#[no_mangle]
+pub extern "C" fn taxolbin_first_set(
+    words: &[u64],
+    count: usize,
+    found: &mut usize,
+    place: &mut usize,
+) -> u32
+    ensures { λ r. ⌜ FoundOut (reading (now (words .entry)) count Found.Refused (λ s. nextFrom s 0)) r (now (found .exit)) (now (place .exit)) ⌝ }
+{
+    let a = slice::first_set(words, Bitmap { count });
+    answers::found(a, found, place)
+}
+
+// The greatest set bit.
+#[no_mangle]
+pub extern "C" fn taxolbin_last_set(
+    words: &[u64],
+    count: usize,
+    found: &mut usize,
+    place: &mut usize,
+) -> u32
+    ensures { λ r. ⌜ FoundOut (reading (now (words .entry)) count Found.Refused lastSet) r (now (found .exit)) (now (place .exit)) ⌝ }
+{
+    let a = slice::last_set(words, Bitmap { count });
+    answers::found(a, found, place)
+}
+
+// The least set bit from i on.
+#[no_mangle]
+pub extern "C" fn taxolbin_next_set(
+    words: &[u64],
+    count: usize,
+    i: usize,
+    found: &mut usize,
+    place: &mut usize,
+) -> u32
+    ensures { λ r. ⌜ FoundOut (reading (now (words .entry)) count Found.Refused (λ s. nextFrom s i)) r (now (found .exit)) (now (place .exit)) ⌝ }
+{
+    let a = slice::next_set(words, Bitmap { count }, i);
+    answers::found(a, found, place)
+}
+
+// The set bit of a rank, from 0 on.
+#[no_mangle]
+pub extern "C" fn taxolbin_select(
+    words: &[u64],
+    count: usize,
+    rank: usize,
+    found: &mut usize,
+    place: &mut usize,
+) -> u32
+    ensures { λ r. ⌜ FoundOut (reading (now (words .entry)) count Found.Refused (selected rank)) r (now (found .exit)) (now (place .exit)) ⌝ }
+{
+    let a = bits::select(words, Bitmap { count }, rank);
+    answers::found(a, found, place)
+}
+
+// The least clear bit; the length where all are set.
+#[no_mangle]
+pub extern "C" fn taxolbin_first_clear(words: &[u64], count: usize, value: &mut usize) -> u32
+    ensures { λ r. ⌜ NumberOut (reading (now (words .entry)) count Number.Refused (λ s. Number.Is (nextClear s 0))) r (now (value .exit)) ⌝ }
+{
+    let a = slice::first_clear(words, Bitmap { count });
+    answers::number(a, value)
+}
+
+// The least clear bit from i on; i itself past the length.
+#[no_mangle]
+pub extern "C" fn taxolbin_next_clear(
+    words: &[u64],
+    count: usize,
+    i: usize,
+    value: &mut usize,
+) -> u32
+    ensures { λ r. ⌜ NumberOut (reading (now (words .entry)) count Number.Refused (λ s. Number.Is (nextClear s i))) r (now (value .exit)) ⌝ }
+{
+    let a = slice::next_clear(words, Bitmap { count }, i);
+    answers::number(a, value)
+}
+
+// How many bits are set.
+#[no_mangle]
+pub extern "C" fn taxolbin_count_set_bits(words: &[u64], count: usize, value: &mut usize) -> u32
+    ensures { λ r. ⌜ NumberOut (reading (now (words .entry)) count Number.Refused (λ s. Number.Is (size s))) r (now (value .exit)) ⌝ }
+{
+    let a = slice::count_set_bits(words, Bitmap { count });
+    answers::number(a, value)
+}
+
+// How many bits within the length are clear.
+#[no_mangle]
+pub extern "C" fn taxolbin_count_clear_bits(words: &[u64], count: usize, value: &mut usize) -> u32
+    ensures { λ r. ⌜ NumberOut (reading (now (words .entry)) count Number.Refused (λ s. Number.Is (clearSize s))) r (now (value .exit)) ⌝ }
+{
+    let a = bits::count_clear_bits(words, Bitmap { count });
+    answers::number(a, value)
+}
+
+// How many of the k bits from i on are set.
+#[no_mangle]
+pub extern "C" fn taxolbin_count_region(
+    words: &[u64],
+    count: usize,
+    i: usize,
+    k: usize,
+    value: &mut usize,
+) -> u32
+    ensures { λ r. ⌜ NumberOut (reading (now (words .entry)) count Number.Refused (λ s. Number.Is (countRegion i k s))) r (now (value .exit)) ⌝ }
+{
+    let a = bits::count_region(words, Bitmap { count }, i, k);
+    answers::number(a, value)
+}
+
+// How many bits below i are set.
+#[no_mangle]
+pub extern "C" fn taxolbin_rank(words: &[u64], count: usize, i: usize, value: &mut usize) -> u32
+    ensures { λ r. ⌜ NumberOut (reading (now (words .entry)) count Number.Refused (λ s. Number.Is (rankOf i s))) r (now (value .exit)) ⌝ }
+{
+    let a = bits::rank(words, Bitmap { count }, i);
+    answers::number(a, value)
+}
