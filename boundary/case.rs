@@ -1,0 +1,224 @@
+// A case: what a call is given. Where a call has no use for a part, it is empty or 0. Random cases, and smaller ones of one that fails.
+
+// Stores a, b and d with their counts n, m and l; bytes for a text, a sheet or a buffer; numbers; and an addition's duty, p, k and flag.
+#[derive(Clone, Debug, Default, PartialEq)]
+pub struct Case {
+    pub a: Vec<u64>,
+    pub n: usize,
+    pub b: Vec<u64>,
+    pub m: usize,
+    pub d: Vec<u64>,
+    pub l: usize,
+    pub bytes: Vec<u8>,
+    pub payload: Vec<u8>,
+    pub list: Vec<usize>,
+    pub x: u64,
+    pub y: u64,
+    pub z: u64,
+    pub f: [u32; 4],
+}
+
+// What is returned, what goes out by parameters, in their order, and every store and buffer afterwards.
+#[derive(Clone, Debug, PartialEq)]
+pub struct Out {
+    pub number: u32,
+    pub outs: Vec<u64>,
+    pub a: Vec<u64>,
+    pub b: Vec<u64>,
+    pub d: Vec<u64>,
+    pub bytes: Vec<u8>,
+}
+
+pub struct Random(pub u64);
+
+impl Random {
+    pub fn next(&mut self) -> u64 {
+        self.0 ^= self.0 << 13;
+        self.0 ^= self.0 >> 7;
+        self.0 ^= self.0 << 17;
+        self.0.wrapping_mul(0x2545_f491_4f6c_dd1d)
+    }
+
+    // 0 where n is 0
+    pub fn below(&mut self, n: u64) -> u64 {
+        if n == 0 {
+            0
+        } else {
+            (self.next() >> 11) % n
+        }
+    }
+
+    pub fn pick<T: Copy>(&mut self, from: &[T]) -> T {
+        from[self.below(from.len() as u64) as usize]
+    }
+
+    pub fn word(&mut self) -> u64 {
+        match self.below(8) {
+            0 | 1 => 0,
+            2 => !0,
+            3 => 1 << self.below(64),
+            4 => !0 << self.below(64),
+            5 => !0 >> self.below(64),
+            _ => self.next(),
+        }
+    }
+
+    // A store of up to `most` words and its count, which is above it now and then; zero words stand at the end of some.
+    fn store(&mut self, most: u64) -> (Vec<u64>, usize) {
+        let capacity = self.below(most + 1) as usize;
+        let mut words: Vec<u64> = (0..capacity).map(|_| self.word()).collect();
+        let count = match self.below(16) {
+            0 => capacity + 1 + self.below(3) as usize,
+            1 => self.pick(&[usize::MAX, 1 << 58, 67_108_865]),
+            2..=5 => capacity,
+            _ => self.below(capacity as u64 + 1) as usize,
+        };
+        if self.below(3) == 0 {
+            let (from, to) = (self.below(capacity as u64 + 1) as usize, count.min(capacity));
+            words[from.min(to)..to].fill(0);
+        }
+        (words, count)
+    }
+
+    // An index or an amount round the edges of a store, or far out.
+    pub fn index(&mut self, capacity: usize) -> u64 {
+        let length = 64 * capacity as u64;
+        match self.below(12) {
+            0 => self.pick(&[0, 1, 63, 64, 65, 127, 128]),
+            1 => (64 * self.below(capacity as u64 + 2) + self.below(3)).saturating_sub(1),
+            2 => length + self.below(200),
+            3 => u64::MAX - self.below(200),
+            4 => self.pick(&[1 << 32, (1 << 32) - 1, 1 << 38, 1 << 58, 1 << 63, (1 << 63) - 1]),
+            5 => self.next(),
+            _ => self.below(length + 1),
+        }
+    }
+
+    // A text whose numbers fit the store now and then.
+    fn text(&mut self, capacity: usize) -> Vec<u8> {
+        let n = 1 + self.below(12);
+        let good = self.below(2) == 0;
+        let mut text = vec![];
+        for _ in 0..n {
+            if good {
+                let low = self.below(60 * capacity as u64 + 1);
+                let high = low + self.below(9);
+                let token = if self.below(2) == 0 {
+                    format!("{low}, ")
+                } else {
+                    format!(" {low} -{high},")
+                };
+                text.extend(token.bytes());
+            } else {
+                text.push(self.pick(b"0123456789,,--  \t\x0b\x0e\x80\xc2a"));
+            }
+        }
+        if self.below(16) == 0 {
+            text.extend(b"4294967295");
+        }
+        text
+    }
+
+    pub fn case(&mut self, name: &str, most: u64) -> Case {
+        let mut c = Case::default();
+        (c.a, c.n) = self.store(most);
+        (c.b, c.m) = self.store(most);
+        (c.d, c.l) = self.store(most);
+        if self.below(3) == 0 {
+            // the second bitmap near the first, so that tests hold and results are short
+            c.b = c.a.clone();
+            c.m = c.n;
+            let k = self.below(c.b.len() as u64 + 1) as usize;
+            if k < c.b.len() {
+                c.b[k] ^= self.word();
+            }
+        }
+        c.x = self.index(c.a.len());
+        if self.below(3) == 0 && 0 < c.n && c.n <= c.a.len() {
+            // one bit in the last word, and the index at it or near: a call may empty that word
+            let k = self.below(64);
+            c.a[c.n - 1] = 1 << k;
+            c.x = (64 * c.n as u64 - 64 + k).saturating_sub(self.pick(&[0, 0, 0, 1, 64]));
+        }
+        c.y = match name {
+            "get_field" | "set_field" | "set_field_strict" => self.pick(&[0, 1, 2, 7, 31, 63, 64, 65, 100, u64::MAX]),
+            _ => self.index(c.a.len()),
+        };
+        c.z = if name == "set_region" {
+            self.pick(&[0, 0, 1, 1, 2, 1 << 31])
+        } else {
+            self.word()
+        };
+        match name {
+            "set_many" => c.list = (0..self.below(12)).map(|_| self.below(64 * c.a.len() as u64 + 2) as usize).collect(),
+            "from_list" => c.bytes = self.text(c.a.len()),
+            "write_list" => c.bytes = vec![0x20; self.below(if most > 100 { 400_000 } else { 900 }) as usize],
+            _ => {}
+        }
+        c
+    }
+}
+
+fn shorter<T: Clone>(v: &[T]) -> Vec<Vec<T>> {
+    let n = v.len();
+    [
+        v[..n / 2].to_vec(),
+        v[n / 2..].to_vec(),
+        v[..n.max(1) - 1].to_vec(),
+        v[n.min(1)..].to_vec(),
+    ]
+    .into_iter()
+    .filter(|w| w.len() < n)
+    .collect()
+}
+
+fn lower(x: u64) -> Vec<u64> {
+    let (lowest, highest) = (x & x.wrapping_neg(), 1u64.checked_shl(63 - x.leading_zeros().min(63)).unwrap_or(0));
+    [0, 1, lowest, x & !highest, x & !lowest, x / 2, x.wrapping_sub(64), x.wrapping_sub(1)]
+        .into_iter()
+        .filter(|&y| y < x)
+        .collect()
+}
+
+// Cases that are smaller in one part.
+pub fn smaller(c: &Case) -> Vec<Case> {
+    let mut out = vec![];
+    let mut put = |change: &dyn Fn(&mut Case)| {
+        let mut d = c.clone();
+        change(&mut d);
+        out.push(d);
+    };
+    for w in shorter(&c.a) {
+        put(&|d| (d.n, d.a) = (d.n.min(w.len()), w.clone()));
+        put(&|d| d.a = w.clone());
+    }
+    for w in shorter(&c.b) {
+        put(&|d| (d.m, d.b) = (d.m.min(w.len()), w.clone()));
+        put(&|d| d.b = w.clone());
+    }
+    for w in shorter(&c.d) {
+        put(&|d| (d.l, d.d) = (d.l.min(w.len()), w.clone()));
+    }
+    shorter(&c.bytes)
+        .iter()
+        .chain(&crate::sheets::without_one(&c.bytes))
+        .for_each(|w| put(&|d| d.bytes = w.clone()));
+    shorter(&c.payload).iter().for_each(|w| put(&|d| d.payload = w.clone()));
+    shorter(&c.list).iter().for_each(|w| put(&|d| d.list = w.clone()));
+    for k in 0..c.a.len().min(64) {
+        lower(c.a[k]).iter().for_each(|&v| put(&|d| d.a[k] = v));
+    }
+    for k in 0..c.b.len().min(64) {
+        lower(c.b[k]).iter().for_each(|&v| put(&|d| d.b[k] = v));
+    }
+    lower(c.n as u64).iter().for_each(|&v| put(&|d| d.n = v as usize));
+    lower(c.m as u64).iter().for_each(|&v| put(&|d| d.m = v as usize));
+    lower(c.l as u64).iter().for_each(|&v| put(&|d| d.l = v as usize));
+    lower(c.x).iter().for_each(|&v| put(&|d| d.x = v));
+    lower(c.y).iter().for_each(|&v| put(&|d| d.y = v));
+    lower(c.z).iter().for_each(|&v| put(&|d| d.z = v));
+    for k in 0..4 {
+        lower(c.f[k] as u64).iter().for_each(|&v| put(&|d| d.f[k] = v as u32));
+    }
+    out
+}
