@@ -67,11 +67,7 @@ impl<T: Copy + PartialEq> Lent<T> {
     fn new(from: &[T], guard: T) -> Lent<T> {
         let mut held = vec![guard; from.len() + 2 * GUARD];
         held[GUARD..GUARD + from.len()].copy_from_slice(from);
-        Lent {
-            held,
-            guard,
-            len: from.len(),
-        }
+        Lent { held, guard, len: from.len() }
     }
 
     fn ptr(&self) -> *const T {
@@ -125,21 +121,7 @@ pub fn run(call: &Call, c: &Case) -> Option<Out> {
             Call::Start(f) => f(bytes.ptr_mut(), size, &mut n),
             Call::Add(f) => {
                 let [duty, p, k, flag] = c.f;
-                f(
-                    bytes.ptr_mut(),
-                    size,
-                    &mut n,
-                    duty,
-                    x,
-                    p,
-                    k,
-                    flag,
-                    y,
-                    c.z,
-                    c.l,
-                    payload.ptr(),
-                    c.payload.len(),
-                )
+                f(bytes.ptr_mut(), size, &mut n, duty, x, p, k, flag, y, c.z, c.l, payload.ptr(), c.payload.len())
             }
         }
     };
@@ -151,13 +133,6 @@ pub fn run(call: &Call, c: &Case) -> Option<Out> {
         _ => outs.push(n as u64),
     }
     let kept = list.after()? == c.list && payload.after()? == c.payload;
-    let out = Out {
-        number,
-        outs,
-        a: a.after()?,
-        b: b.after()?,
-        d: d.after()?,
-        bytes: bytes.after()?,
-    };
+    let out = Out { number, outs, a: a.after()?, b: b.after()?, d: d.after()?, bytes: bytes.after()? };
     kept.then_some(out)
 }

@@ -103,11 +103,7 @@ impl Random {
             if good {
                 let low = self.below(60 * capacity as u64 + 1);
                 let high = low + self.below(9);
-                let token = if self.below(2) == 0 {
-                    format!("{low}, ")
-                } else {
-                    format!(" {low} -{high},")
-                };
+                let token = if self.below(2) == 0 { format!("{low}, ") } else { format!(" {low} -{high},") };
                 text.extend(token.bytes());
             } else {
                 text.push(self.pick(b"0123456789,,--  \t\x0b\x0e\x80\xc2a"));
@@ -144,11 +140,7 @@ impl Random {
             "get_field" | "set_field" | "set_field_strict" => self.pick(&[0, 1, 2, 7, 31, 63, 64, 65, 100, u64::MAX]),
             _ => self.index(c.a.len()),
         };
-        c.z = if name == "set_region" {
-            self.pick(&[0, 0, 1, 1, 2, 1 << 31])
-        } else {
-            self.word()
-        };
+        c.z = if name == "set_region" { self.pick(&[0, 0, 1, 1, 2, 1 << 31]) } else { self.word() };
         match name {
             "set_many" => c.list = (0..self.below(12)).map(|_| self.below(64 * c.a.len() as u64 + 2) as usize).collect(),
             "from_list" => c.bytes = self.text(c.a.len()),
@@ -161,23 +153,12 @@ impl Random {
 
 fn shorter<T: Clone>(v: &[T]) -> Vec<Vec<T>> {
     let n = v.len();
-    [
-        v[..n / 2].to_vec(),
-        v[n / 2..].to_vec(),
-        v[..n.max(1) - 1].to_vec(),
-        v[n.min(1)..].to_vec(),
-    ]
-    .into_iter()
-    .filter(|w| w.len() < n)
-    .collect()
+    [v[..n / 2].to_vec(), v[n / 2..].to_vec(), v[..n.max(1) - 1].to_vec(), v[n.min(1)..].to_vec()].into_iter().filter(|w| w.len() < n).collect()
 }
 
 fn lower(x: u64) -> Vec<u64> {
     let (lowest, highest) = (x & x.wrapping_neg(), 1u64.checked_shl(63 - x.leading_zeros().min(63)).unwrap_or(0));
-    [0, 1, lowest, x & !highest, x & !lowest, x / 2, x.wrapping_sub(64), x.wrapping_sub(1)]
-        .into_iter()
-        .filter(|&y| y < x)
-        .collect()
+    [0, 1, lowest, x & !highest, x & !lowest, x / 2, x.wrapping_sub(64), x.wrapping_sub(1)].into_iter().filter(|&y| y < x).collect()
 }
 
 // Cases that are smaller in one part.
@@ -199,10 +180,7 @@ pub fn smaller(c: &Case) -> Vec<Case> {
     for w in shorter(&c.d) {
         put(&|d| (d.l, d.d) = (d.l.min(w.len()), w.clone()));
     }
-    shorter(&c.bytes)
-        .iter()
-        .chain(&crate::sheets::without_one(&c.bytes))
-        .for_each(|w| put(&|d| d.bytes = w.clone()));
+    shorter(&c.bytes).iter().chain(&crate::sheets::without_one(&c.bytes)).for_each(|w| put(&|d| d.bytes = w.clone()));
     shorter(&c.payload).iter().for_each(|w| put(&|d| d.payload = w.clone()));
     shorter(&c.list).iter().for_each(|w| put(&|d| d.list = w.clone()));
     for k in 0..c.a.len().min(64) {

@@ -66,9 +66,7 @@ pub fn huge() -> usize {
 fn at_limit(words: &mut [u64]) {
     let (w, last) = (words.as_mut_ptr(), 64 * LIMIT - 1);
     let find = |name: &str| &CALLS.iter().find(|c| c.0 == name).expect("a call").1;
-    let (Call::ChangeAt(set), Call::Found(last_set)) = (find("taxolbin_set"), find("taxolbin_last_set")) else {
-        panic!("another form")
-    };
+    let (Call::ChangeAt(set), Call::Found(last_set)) = (find("taxolbin_set"), find("taxolbin_last_set")) else { panic!("another form") };
     let (mut n, mut found, mut place) = (0, 7, 7);
     let good = unsafe { set(w, LIMIT, &mut n, last) == 0 && n == LIMIT && set(w, LIMIT, &mut n, last + 1) == 6 && n == LIMIT };
     assert_at("taxolbin_set", good && words[LIMIT] == 0);

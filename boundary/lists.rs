@@ -57,11 +57,7 @@ pub fn text(s: &[bool]) -> Vec<u8> {
         let end = (i..s.len()).find(|&p| !s[p]).unwrap_or(s.len());
         if end > i {
             let blank = if out.is_empty() { "" } else { ", " };
-            let run = if end == i + 1 {
-                format!("{blank}{i}")
-            } else {
-                format!("{blank}{i}-{}", end - 1)
-            };
+            let run = if end == i + 1 { format!("{blank}{i}") } else { format!("{blank}{i}-{}", end - 1) };
             out.push_str(&run);
         }
         i = end + 1;

@@ -45,11 +45,7 @@ fn fail(name: &str, call: &Call, mut c: Case) -> ! {
         c = d;
     }
     let why = compare(name, call, &c).unwrap_err();
-    println!(
-        "MISMATCH in {name}: {why}\n{c:x?}\narchive {:x?}\nmodel   {:x?}",
-        archive::run(call, &c),
-        expected(name, &c)
-    );
+    println!("MISMATCH in {name}: {why}\n{c:x?}\narchive {:x?}\nmodel   {:x?}", archive::run(call, &c), expected(name, &c));
     std::process::exit(1);
 }
 
@@ -57,19 +53,11 @@ fn case(r: &mut Random, name: &str, most: u64) -> Case {
     match name {
         "read" => {
             let mut c = r.case(name, most);
-            c.x = if r.below(20) == 0 {
-                r.pick(&[0, 3, u64::MAX])
-            } else {
-                1 + (r.below(4) > 0) as u64
-            };
+            c.x = if r.below(20) == 0 { r.pick(&[0, 3, u64::MAX]) } else { 1 + (r.below(4) > 0) as u64 };
             c.bytes = r.sheet(if most > 100 { 40 } else { 6 }, c.b.len());
             c
         }
-        "start" => Case {
-            bytes: vec![0xab; r.below(9) as usize],
-            n: r.below(20) as usize,
-            ..Case::default()
-        },
+        "start" => Case { bytes: vec![0xab; r.below(9) as usize], n: r.below(20) as usize, ..Case::default() },
         "add" => {
             let mut c = r.addition(4);
             c.bytes = r.sheet(if most > 100 { 300 } else { 6 }, 4);
@@ -102,11 +90,7 @@ fn rounds(name: &str, call: &Call, short: u64, long: u64, r: &mut Random) {
         }
     }
     let told: Vec<String> = numbers.iter().map(|(n, k)| format!("{n}: {k}")).collect();
-    println!(
-        "{name}: {} cases, {beside} beside the original; by number {}",
-        short + long,
-        told.join(", ")
-    );
+    println!("{name}: {} cases, {beside} beside the original; by number {}", short + long, told.join(", "));
 }
 
 // Whole lists of calls: the writer's answers and bytes are the plain sheet's, which sees no buffer. Bytes past the sheet may change between calls.
@@ -115,21 +99,14 @@ fn sessions(count: u64, r: &mut Random) {
     let (start, add) = (find("taxolbin_start"), find("taxolbin_add"));
     let mut calls = 0;
     for _ in 0..count {
-        let mut plain = sheets::Plain {
-            records: vec![],
-            started: false,
-        };
+        let mut plain = sheets::Plain { records: vec![], started: false };
         let mut buffer: Vec<u8> = (0..r.below(300)).map(|_| r.next() as u8).collect();
         let mut length = 0;
         for _ in 0..r.below(25) {
             let begins = r.below(6) == 0;
             let mut c = r.addition(4);
             (c.bytes, c.n) = (buffer.clone(), length);
-            let number = if begins {
-                plain.start(buffer.len())
-            } else {
-                plain.add(buffer.len(), &c)
-            };
+            let number = if begins { plain.start(buffer.len()) } else { plain.add(buffer.len(), &c) };
             let out = archive::run(if begins { start } else { add }, &c).expect("nothing outside the buffer is written");
             let sheet = plain.bytes();
             let good = number != 0 || out.bytes[..sheet.len()] == sheet[..] && out.outs[0] == sheet.len() as u64;
@@ -147,9 +124,7 @@ fn sessions(count: u64, r: &mut Random) {
 
 fn main() {
     let numbers: Vec<u64> = std::env::args().skip(1).map(|a| a.parse().expect("ROUNDS SEED")).collect();
-    let [short, seed] = numbers[..] else {
-        panic!("usage: boundary ROUNDS SEED")
-    };
+    let [short, seed] = numbers[..] else { panic!("usage: boundary ROUNDS SEED") };
     std::panic::set_hook(Box::new(|_| {}));
     let mut r = Random(seed.wrapping_mul(2).wrapping_add(1));
     for (symbol, call) in CALLS {

@@ -10,9 +10,7 @@ fn bits(words: &[u64]) -> Bits {
 }
 
 fn words(s: &Bits) -> Vec<u64> {
-    s.chunks(64)
-        .map(|c| c.iter().enumerate().fold(0, |w, (k, &v)| w | (v as u64) << k))
-        .collect()
+    s.chunks(64).map(|c| c.iter().enumerate().fold(0, |w, (k, &v)| w | (v as u64) << k)).collect()
 }
 
 fn trimmed(s: &Bits) -> Vec<u64> {
@@ -90,11 +88,7 @@ fn cut(s: &Bits, k: u128) -> Bits {
 fn gap(s: &Bits, p: u128, k: u128, open: bool, capacity: usize) -> Done {
     let head = bits(&trimmed(&cut(s, p)));
     let tail = bits(&trimmed(&lowered(s, p)));
-    let moved = if open {
-        raised(&tail, p + k, capacity)
-    } else {
-        raised(&bits(&trimmed(&lowered(&tail, k))), p, capacity)
-    };
+    let moved = if open { raised(&tail, p + k, capacity) } else { raised(&bits(&trimmed(&lowered(&tail, k))), p, capacity) };
     let both = moved.map(|t| words(&tabled(head.len().max(t.len()), |i| at(&head, i) || at(&t, i))));
     within(both, capacity)
 }
@@ -131,10 +125,7 @@ fn region(s: &Bits, c: &Case, grows: bool, f: impl Fn(bool) -> bool) -> Done {
         return Refused(4);
     }
     let g = if grows { grown(s, last, c.a.len()) } else { Ok(s.clone()) };
-    within(
-        g.map(|s| words(&tabled(s.len(), |j| if j >= i && j <= last { f(at(&s, j)) } else { at(&s, j) }))),
-        c.a.len(),
-    )
+    within(g.map(|s| words(&tabled(s.len(), |j| if j >= i && j <= last { f(at(&s, j)) } else { at(&s, j) }))), c.a.len())
 }
 
 // `andi`, `andnoti`, `xori`: trailing zero words go where the word worked on is the last and is then zero.
@@ -169,9 +160,7 @@ fn outcome(name: &str, c: &Case, s: &Bits) -> Done {
         "next_set" => from(s),
         "select" => Found((0..s.len()).filter(|&p| s[p]).nth(c.x.min(1 << 40) as usize)),
         "first_clear" => Is(s.iter().position(|&v| !v).unwrap_or(s.len()) as u64),
-        "next_clear" => Is((0..s.len())
-            .find(|&p| p as u128 >= i && !s[p])
-            .map_or(c.x.max(s.len() as u64), |p| p as u64)),
+        "next_clear" => Is((0..s.len()).find(|&p| p as u128 >= i && !s[p]).map_or(c.x.max(s.len() as u64), |p| p as u64)),
         "count_set_bits" => Is(count(s)),
         "count_clear_bits" => Is(s.len() as u64 - count(s)),
         "count_region" => Is(count(&tabled(s.len(), |p| p >= i && p < i + k && at(s, p)))),
@@ -193,10 +182,7 @@ fn outcome(name: &str, c: &Case, s: &Bits) -> Done {
         "unset" => Words(words(&tabled(s.len(), |p| at(s, p) && p != i))),
         "set_many" => {
             let all = c.list.iter().try_fold(s.clone(), |g, &b| grown(&g, b as u128, capacity));
-            within(
-                all.map(|g| words(&tabled(g.len(), |p| at(s, p) || c.list.contains(&(p as usize))))),
-                capacity,
-            )
+            within(all.map(|g| words(&tabled(g.len(), |p| at(s, p) || c.list.contains(&(p as usize))))), capacity)
         }
         "andi" => Words(tidied(s, i, |p| at(s, p) && (p / 64 != i / 64 || p == i))),
         "andnoti" => Words(tidied(s, i, |p| at(s, p) && p != i)),
@@ -275,14 +261,7 @@ fn reads(name: &str) -> usize {
 pub fn run(name: &str, c: &Case) -> Out {
     let dup = name.starts_with("dup_");
     let old = if dup { 0 } else { c.n };
-    let mut out = Out {
-        number: 0,
-        outs: vec![],
-        a: c.a.clone(),
-        b: c.b.clone(),
-        d: c.d.clone(),
-        bytes: c.bytes.clone(),
-    };
+    let mut out = Out { number: 0, outs: vec![], a: c.a.clone(), b: c.b.clone(), d: c.d.clone(), bytes: c.bytes.clone() };
     let read = if others(name) == 2 { 0 } else { c.n };
     let done = guards(name, c).map_or_else(|| outcome(name, c, &bits(&c.a[..read])), Refused);
     match done {

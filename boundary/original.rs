@@ -13,17 +13,11 @@ pub struct Made {
 }
 
 fn value(v: u64) -> Made {
-    Made {
-        values: vec![v],
-        ..Made::default()
-    }
+    Made { values: vec![v], ..Made::default() }
 }
 
 fn found(p: Option<usize>) -> Made {
-    Made {
-        values: vec![p.is_some() as u64, p.unwrap_or(0) as u64],
-        ..Made::default()
-    }
+    Made { values: vec![p.is_some() as u64, p.unwrap_or(0) as u64], ..Made::default() }
 }
 
 fn read(name: &str, c: &Case) -> Option<Made> {
@@ -54,10 +48,7 @@ fn read(name: &str, c: &Case) -> Option<Made> {
         "iter_or" => found(s.iter_or(o).find(|&p| p >= x)),
         "iter_xor" => found(s.iter_xor(o).find(|&p| p >= x)),
         "iter_andnot" => found(s.iter_andnot(o).find(|&p| p >= x)),
-        "write_list" => Made {
-            text: s.format_list().into_bytes(),
-            ..Made::default()
-        },
+        "write_list" => Made { text: s.format_list().into_bytes(), ..Made::default() },
         _ => return None,
     })
 }
@@ -121,11 +112,7 @@ fn changed(name: &str, c: &Case) -> Option<Made> {
         }
         _ => return None,
     }
-    Some(Made {
-        words: m.into_words(),
-        tail,
-        ..Made::default()
-    })
+    Some(Made { words: m.into_words(), tail, ..Made::default() })
 }
 
 // What the archive's answer must be by the original; nothing where it has no such call.
@@ -160,11 +147,7 @@ pub fn agrees(name: &str, c: &Case, out: &Out) -> Option<bool> {
         (_, Ok(None)) => None,
         (3..=5, made) => Some(made.is_err()),
         (_, Err(_)) => Some(false),
-        (6, Ok(Some(made))) => Some(if name == "split_off" {
-            made.tail.len() > c.b.len()
-        } else {
-            made.words.len() > c.a.len()
-        }),
+        (6, Ok(Some(made))) => Some(if name == "split_off" { made.tail.len() > c.b.len() } else { made.words.len() > c.a.len() }),
         (_, Ok(Some(made))) if name == "write_list" => Some(out.bytes[..out.outs[0] as usize] == made.text[..]),
         (_, Ok(Some(made))) => Some(expected(out)(&made)),
     }

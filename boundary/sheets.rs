@@ -62,14 +62,7 @@ fn reading(edition: u64, sheet: &[u8], old: &[u64], capacity: usize) -> Result<(
             return Err(refuse(13));
         }
         let (name, x, y, z) = edit(kind, payload).map_err(refuse)?;
-        let mut c = Case {
-            a: words.clone(),
-            n: words.len(),
-            x,
-            y,
-            z,
-            ..Case::default()
-        };
+        let mut c = Case { a: words.clone(), n: words.len(), x, y, z, ..Case::default() };
         c.a.resize(capacity, 0);
         let out = model::run(name, &c);
         if out.number != 0 {
@@ -85,14 +78,7 @@ fn reading(edition: u64, sheet: &[u8], old: &[u64], capacity: usize) -> Result<(
 
 // `read`: edition x, sheet in the bytes, old bitmap a, result store b.
 pub fn read(c: &Case) -> Out {
-    let mut out = Out {
-        number: 0,
-        outs: vec![0, 0],
-        a: c.a.clone(),
-        b: c.b.clone(),
-        d: c.d.clone(),
-        bytes: c.bytes.clone(),
-    };
+    let mut out = Out { number: 0, outs: vec![0, 0], a: c.a.clone(), b: c.b.clone(), d: c.d.clone(), bytes: c.bytes.clone() };
     out.number = match () {
         _ if c.x != 1 && c.x != 2 => 14,
         _ if c.a.len() > LIMIT => 1,
@@ -123,9 +109,7 @@ pub struct Plain {
 
 fn packed(fields: &[(u64, usize)]) -> Vec<u8> {
     let bits: Vec<u8> = fields.iter().flat_map(|&(v, w)| (0..w).rev().map(move |k| (v >> k & 1) as u8)).collect();
-    bits.chunks(8)
-        .map(|c| c.iter().enumerate().fold(0, |b, (k, v)| b | v << (7 - k)))
-        .collect()
+    bits.chunks(8).map(|c| c.iter().enumerate().fold(0, |b, (k, v)| b | v << (7 - k))).collect()
 }
 
 // The record asked for, or 13, 3, 4 or 12.
@@ -163,10 +147,7 @@ impl Plain {
         if size < 4 {
             return 6;
         }
-        *self = Plain {
-            records: vec![],
-            started: true,
-        };
+        *self = Plain { records: vec![], started: true };
         0
     }
 
@@ -220,18 +201,8 @@ pub fn without_one(sheet: &[u8]) -> Vec<Vec<u8>> {
 
 // `start` and `add` on any buffer: the first n bytes are the sheet.
 pub fn write(name: &str, c: &Case) -> Out {
-    let mut out = Out {
-        number: 0,
-        outs: vec![c.n as u64],
-        a: c.a.clone(),
-        b: c.b.clone(),
-        d: c.d.clone(),
-        bytes: c.bytes.clone(),
-    };
-    let mut plain = Plain {
-        records: vec![],
-        started: false,
-    };
+    let mut out = Out { number: 0, outs: vec![c.n as u64], a: c.a.clone(), b: c.b.clone(), d: c.d.clone(), bytes: c.bytes.clone() };
+    let mut plain = Plain { records: vec![], started: false };
     out.number = match name {
         "start" => plain.start(c.bytes.len()),
         _ if c.n > c.bytes.len() => 2,
@@ -254,12 +225,7 @@ pub fn write(name: &str, c: &Case) -> Out {
 impl Random {
     // Fields of an addition, most of them good.
     pub fn addition(&mut self, capacity: usize) -> Case {
-        let mut c = Case {
-            x: 1 + self.below(11),
-            y: self.below(65),
-            z: self.word(),
-            ..Case::default()
-        };
+        let mut c = Case { x: 1 + self.below(11), y: self.below(65), z: self.word(), ..Case::default() };
         c.l = self.below(64 * capacity as u64 + 2) as usize;
         let mut small = || match self.below(4) {
             0 => self.index(capacity).min(u32::MAX as u64) as u32,
@@ -297,10 +263,7 @@ impl Random {
 
     // A sheet of up to `most` records; one in three is damaged.
     pub fn sheet(&mut self, most: u64, capacity: usize) -> Vec<u8> {
-        let mut plain = Plain {
-            records: vec![],
-            started: true,
-        };
+        let mut plain = Plain { records: vec![], started: true };
         for _ in 0..self.below(most + 1) {
             if self.below(8) == 0 {
                 plain.records.push(self.raw());

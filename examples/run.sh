@@ -1,12 +1,14 @@
 #!/bin/sh
 # Builds the archive, the C program and the Rust program, runs both, and compares what they print with `expected`.
 set -e
-here=$(cd "$(dirname "$0")" && pwd)
-cd "$here/.."
-rt staticlib capi > /dev/null
+cd "$(dirname "$0")/.."
 lib=target/staticlib
 out=target/examples
 mkdir -p "$out"
+rt staticlib capi > "$out/log" 2>&1 || {
+    cat "$out/log"
+    exit 1
+}
 gcc -std=c99 -Wall -Wextra -Wpedantic -Werror -O2 examples/sheet.c "$lib/libcapi.a" -o "$out/sheet_c"
 rustc --edition 2021 -O -D warnings -L "$lib" examples/sheet.rs -o "$out/sheet_rs"
 "$out/sheet_c" > "$out/c.txt"

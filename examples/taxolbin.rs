@@ -86,16 +86,7 @@ impl<'a> Bitmap<'a> {
     // The list, in the buffer.
     pub fn write_list<'b>(&self, out: &'b mut [u8]) -> Result<&'b str, Refusal> {
         let mut length = 0;
-        let number = unsafe {
-            taxolbin_write_list(
-                self.words.as_ptr(),
-                self.words.len(),
-                self.count,
-                out.as_mut_ptr(),
-                out.len(),
-                &mut length,
-            )
-        };
+        let number = unsafe { taxolbin_write_list(self.words.as_ptr(), self.words.len(), self.count, out.as_mut_ptr(), out.len(), &mut length) };
         done(number, ())?;
         Ok(std::str::from_utf8(&out[..length]).expect("a list is ASCII"))
     }
@@ -133,32 +124,10 @@ impl Edit {
         match *self {
             Edit::Set { p } => (1, Fields { p, ..none }),
             Edit::Unset { p } => (2, Fields { p, ..none }),
-            Edit::SetRegion { value, p, k } => (
-                3,
-                Fields {
-                    p,
-                    k,
-                    flag: value as u32,
-                    ..none
-                },
-            ),
+            Edit::SetRegion { value, p, k } => (3, Fields { p, k, flag: value as u32, ..none }),
             Edit::SetField { p, width, value } => (4, Fields { p, width, value, ..none }),
-            Edit::Shift { right, k } => (
-                5,
-                Fields {
-                    k,
-                    flag: right as u32,
-                    ..none
-                },
-            ),
-            Edit::Rotate { right, k } => (
-                6,
-                Fields {
-                    k,
-                    flag: right as u32,
-                    ..none
-                },
-            ),
+            Edit::Shift { right, k } => (5, Fields { k, flag: right as u32, ..none }),
+            Edit::Rotate { right, k } => (6, Fields { k, flag: right as u32, ..none }),
             Edit::ResizeBits { bits } => (7, Fields { bits, ..none }),
             Edit::Reverse => (8, none),
             Edit::ToggleRegion { p, k } => (9, Fields { p, k, ..none }),
@@ -234,12 +203,5 @@ pub fn read<'a>(edition: usize, sheet: &[u8], old: &[u64], result: &'a mut [u64]
             &mut rcount,
         )
     };
-    (
-        number,
-        record,
-        Bitmap {
-            words: result,
-            count: rcount,
-        },
-    )
+    (number, record, Bitmap { words: result, count: rcount })
 }
