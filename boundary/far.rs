@@ -1,4 +1,5 @@
-// Stores at the limit and over it: 67,108,865 words are refused with 1 wherever a call takes a store, and 67,108,864 are not.
+// Stores at the limit and over it: 67,108,865 words are refused with 1 wherever a call takes a store, and 67,108,864 are not. And a bitmap that is read
+// beside itself.
 use crate::archive::{Call, CALLS};
 use crate::model::LIMIT;
 
@@ -74,9 +75,34 @@ fn at_limit(words: &mut [u64]) {
     assert_at("taxolbin_last_set", good);
 }
 
+// What is only read may overlap: a bitmap beside itself.
+pub fn beside_itself() {
+    let words = [0x8000_0000_0000_0001u64, 6];
+    let (w, n) = (words.as_ptr(), 2);
+    let want = |name: &str| match name {
+        "taxolbin_eq" | "taxolbin_is_subset" => 1,
+        "taxolbin_and_count" | "taxolbin_or_count" => 4,
+        _ => 0,
+    };
+    for (name, call) in CALLS {
+        let (mut v, mut u) = (7, 7);
+        let good = unsafe {
+            match *call {
+                Call::Pair(f) => f(w, n, n, w, n, n, &mut v) == 0 && v == want(name),
+                Call::PairAt(f) => {
+                    f(w, n, n, w, n, n, 1, &mut v, &mut u) == 0
+                        && (v, u) == if name.ends_with("xor") || name.ends_with("not") { (0, 0) } else { (1, 63) }
+                }
+                _ => continue,
+            }
+        };
+        assert_at(name, good);
+    }
+}
+
 fn assert_at(name: &str, good: bool) {
     if !good {
-        println!("MISMATCH in {name}: a store at the limit or over it");
+        println!("MISMATCH in {name}: a store at the limit or over it, or a bitmap beside itself");
         std::process::exit(1);
     }
 }

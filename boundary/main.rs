@@ -132,6 +132,7 @@ fn main() {
         rounds(name, call, short, short / 100 + 1, &mut r);
     }
     sessions(short, &mut r);
-    let most = far::huge();
-    println!("{} calls, no mismatch; {most} of them with a store over the limit", CALLS.len());
+    far::beside_itself();
+    let huge = far::huge();
+    println!("{} calls, no mismatch; {huge} of them with a store over the limit", CALLS.len());
 }

@@ -1,5 +1,6 @@
 #!/bin/sh
-# Builds the archive, the C program and the Rust program, runs both, and compares what they print with `expected`.
+# Builds the archive, the C program and the Rust program, runs both, and compares what they print with `expected`, and the archive's names with the
+# header's.
 set -e
 cd "$(dirname "$0")/.."
 lib=target/staticlib
@@ -9,6 +10,9 @@ rt staticlib capi > "$out/log" 2>&1 || {
     cat "$out/log"
     exit 1
 }
+nm "$lib/libcapi.a" | sed -n 's/.* T \(taxolbin_.*\)/\1/p' | sort > "$out/archive.names"
+sed -n 's/^uint32_t \(taxolbin_[a-z_]*\)(.*/\1/p' include/taxolbin.h | sort > "$out/header.names"
+cmp "$out/archive.names" "$out/header.names"
 gcc -std=c99 -Wall -Wextra -Wpedantic -Werror -O2 examples/sheet.c "$lib/libcapi.a" -o "$out/sheet_c"
 rustc --edition 2021 -O -D warnings -L "$lib" examples/sheet.rs -o "$out/sheet_rs"
 "$out/sheet_c" > "$out/c.txt"

@@ -24,6 +24,10 @@
 #include <stddef.h>
 #include <stdint.h>
 
+#if SIZE_MAX != 0xffffffffffffffff
+#error "the archive is for x86-64"
+#endif
+
 #ifdef __cplusplus
 extern "C" {
 #endif
