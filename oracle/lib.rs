@@ -52,6 +52,11 @@ pub mod kernels {
         crate::arch::fill_region(words, first, first_offset, last, last_offset, value)
     }
 
+    pub fn fill_words(words: &mut [u64], byte: u8) {
+        // SAFETY: the words are lent for writing.
+        unsafe { crate::arch::fill_words(words.as_mut_ptr(), byte, words.len()) }
+    }
+
     /// `x` has more than `n` set bits.
     pub fn select_u64(x: u64, n: usize) -> usize {
         crate::arch::select_u64(x, n)
