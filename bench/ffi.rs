@@ -1,0 +1,167 @@
+//! The calls of the archive that are timed, all words of a slice in use; a refusal is a mistake of the benchmark.
+
+type W = *const u64;
+type M = *mut u64;
+type O = *mut usize;
+type N = usize;
+
+/// `name(words)` and further numbers, which answers a value.
+macro_rules! value {
+    ($($name:ident $raw:ident ($($arg:ident),*);)*) => {$(
+        pub fn $name(w: &[u64] $(, $arg: usize)*) -> usize {
+            unsafe extern "C" {
+                fn $raw(w: W, c: N, n: N $(, $arg: N)*, v: O) -> u32;
+            }
+            let mut v = 0;
+            assert_eq!(unsafe { $raw(w.as_ptr(), w.len(), w.len() $(, $arg)*, &mut v) }, 0);
+            v
+        }
+    )*};
+}
+
+/// `name(words)` and further numbers, which answers a place or nothing.
+macro_rules! search {
+    ($($name:ident $raw:ident ($($arg:ident),*);)*) => {$(
+        pub fn $name(w: &[u64] $(, $arg: usize)*) -> Option<usize> {
+            unsafe extern "C" {
+                fn $raw(w: W, c: N, n: N $(, $arg: N)*, f: O, p: O) -> u32;
+            }
+            let (mut found, mut place) = (0, 0);
+            assert_eq!(unsafe { $raw(w.as_ptr(), w.len(), w.len() $(, $arg)*, &mut found, &mut place) }, 0);
+            (found != 0).then_some(place)
+        }
+    )*};
+}
+
+/// A value of two bitmaps.
+macro_rules! pair {
+    ($($name:ident $raw:ident;)*) => {$(
+        pub fn $name(a: &[u64], b: &[u64]) -> usize {
+            unsafe extern "C" {
+                fn $raw(w: W, c: N, n: N, o: W, oc: N, on: N, v: O) -> u32;
+            }
+            let mut v = 0;
+            assert_eq!(unsafe { $raw(a.as_ptr(), a.len(), a.len(), b.as_ptr(), b.len(), b.len(), &mut v) }, 0);
+            v
+        }
+    )*};
+}
+
+/// A change by numbers.
+macro_rules! change {
+    ($($name:ident $raw:ident ($($arg:ident),*);)*) => {$(
+        pub fn $name(w: &mut [u64], count: &mut usize $(, $arg: usize)*) {
+            unsafe extern "C" {
+                fn $raw(w: M, c: N, n: O $(, $arg: N)*) -> u32;
+            }
+            assert_eq!(unsafe { $raw(w.as_mut_ptr(), w.len(), count $(, $arg)*) }, 0);
+        }
+    )*};
+}
+
+/// A change by another bitmap.
+macro_rules! with {
+    ($($name:ident $raw:ident;)*) => {$(
+        pub fn $name(w: &mut [u64], count: &mut usize, o: &[u64]) {
+            unsafe extern "C" {
+                fn $raw(w: M, c: N, n: O, o: W, oc: N, on: N) -> u32;
+            }
+            assert_eq!(unsafe { $raw(w.as_mut_ptr(), w.len(), count, o.as_ptr(), o.len(), o.len()) }, 0);
+        }
+    )*};
+}
+
+/// A set operation of two bitmaps into another store.
+macro_rules! from {
+    ($($name:ident $raw:ident;)*) => {$(
+        pub fn $name(w: &mut [u64], count: &mut usize, l: &[u64], r: &[u64]) {
+            unsafe extern "C" {
+                fn $raw(w: M, c: N, n: O, l: W, lc: N, ln: N, r: W, rc: N, rn: N) -> u32;
+            }
+            let number = unsafe {
+                $raw(w.as_mut_ptr(), w.len(), count, l.as_ptr(), l.len(), l.len(), r.as_ptr(), r.len(), r.len())
+            };
+            assert_eq!(number, 0);
+        }
+    )*};
+}
+
+value! {
+    first_clear taxolbin_first_clear ();
+    next_clear taxolbin_next_clear (i);
+    count_set_bits taxolbin_count_set_bits ();
+    count_clear_bits taxolbin_count_clear_bits ();
+    count_region taxolbin_count_region (i, k);
+    rank taxolbin_rank (i);
+}
+
+search! {
+    first_set taxolbin_first_set ();
+    last_set taxolbin_last_set ();
+    next_set taxolbin_next_set (i);
+    select taxolbin_select (r);
+}
+
+pair! {
+    eq taxolbin_eq;
+    is_subset taxolbin_is_subset;
+    is_disjoint taxolbin_is_disjoint;
+    and_count taxolbin_and_count;
+    or_count taxolbin_or_count;
+    xor_count taxolbin_xor_count;
+    andnot_count taxolbin_andnot_count;
+}
+
+change! {
+    shift_left taxolbin_shift_left (k);
+    shift_right taxolbin_shift_right (k);
+    slice_shift_left taxolbin_slice_shift_left (k);
+    slice_shift_right taxolbin_slice_shift_right (k);
+    rotate_left taxolbin_rotate_left (k);
+    rotate_right taxolbin_rotate_right (k);
+    reverse taxolbin_reverse ();
+    invert taxolbin_invert ();
+    toggle_region taxolbin_toggle_region (i, k);
+    open_gap taxolbin_open_gap (p, k);
+    close_gap taxolbin_close_gap (p, k);
+}
+
+with! {
+    and taxolbin_and;
+    andnot taxolbin_andnot;
+    or taxolbin_or;
+    xor taxolbin_xor;
+    append taxolbin_append;
+}
+
+from! {
+    and_from taxolbin_and_from;
+    andnot_from taxolbin_andnot_from;
+    or_from taxolbin_or_from;
+    xor_from taxolbin_xor_from;
+    dup_and taxolbin_dup_and;
+    dup_or taxolbin_dup_or;
+}
+
+pub fn set_region(w: &mut [u64], count: &mut usize, i: usize, value: bool, k: usize) {
+    unsafe extern "C" {
+        fn taxolbin_set_region(w: M, c: N, n: O, i: N, value: u32, k: N) -> u32;
+    }
+    assert_eq!(unsafe { taxolbin_set_region(w.as_mut_ptr(), w.len(), count, i, value as u32, k) }, 0);
+}
+
+pub fn write_list(w: &[u64], out: &mut [u8]) -> usize {
+    unsafe extern "C" {
+        fn taxolbin_write_list(w: W, c: N, n: N, out: *mut u8, size: N, length: O) -> u32;
+    }
+    let mut length = 0;
+    assert_eq!(unsafe { taxolbin_write_list(w.as_ptr(), w.len(), w.len(), out.as_mut_ptr(), out.len(), &mut length) }, 0);
+    length
+}
+
+pub fn from_list(w: &mut [u64], count: &mut usize, text: &[u8]) {
+    unsafe extern "C" {
+        fn taxolbin_from_list(w: M, c: N, n: O, text: *const u8, size: N) -> u32;
+    }
+    assert_eq!(unsafe { taxolbin_from_list(w.as_mut_ptr(), w.len(), count, text.as_ptr(), text.len()) }, 0);
+}

@@ -1,0 +1,19 @@
+//! Times of the library beside the Rust it is ported from.
+mod cases;
+mod ffi;
+mod sheets;
+mod timing;
+
+fn main() {
+    let title = std::env::args().nth(1).unwrap_or_default();
+    timing::head(&title);
+    for n in [1_000, 1_000_000] {
+        cases::scans(n);
+        cases::counts(n);
+        cases::set_operations(n);
+        cases::moves(n);
+        cases::regions(n);
+        cases::lists(n);
+    }
+    sheets::times();
+}
