@@ -1,0 +1,82 @@
+use Prim.Native.Nat.{_-_, _≤_}
+use lib.ListN.{length}
+use borrow.Author.Needs.{needs}
+use Rattle.sheets.proofs.scan.num.Statement.{statement}
+use Rattle.sheets.proofs.scan.num.Tie as tie
+
+abbrev Inv-loop : tie.InvT-loop
+Inv-loop s at v₀ k₀ k-end v k = k-end ≤ length s
+
+abbrev μ-loop : tie.MeasureT-loop
+μ-loop s at v₀ k₀ k-end v k = k-end - k
+
+loop-holds : tie.Need-loop-holds Inv-loop μ-loop
+loop-holds c = search needs
+
+shared-slice-read-digit : tie.Need-shared-slice-read-digit Inv-loop μ-loop
+shared-slice-read-digit c = search needs
+
+digit-requires : tie.Need-digit-requires Inv-loop μ-loop
+digit-requires c κs = search needs
+
+lost-requires : tie.Need-lost-requires Inv-loop μ-loop
+lost-requires c κs = search needs
+
+returns : tie.Need-returns Inv-loop μ-loop
+returns c = search needs
+
+past-requires : tie.Need-past-requires Inv-loop μ-loop
+past-requires c κs = search needs
+
+returns-2 : tie.Need-returns-2 Inv-loop μ-loop
+returns-2 c = search needs
+
+lost-requires-2 : tie.Need-lost-requires-2 Inv-loop μ-loop
+lost-requires-2 c κs = search needs
+
+returns-3 : tie.Need-returns-3 Inv-loop μ-loop
+returns-3 c = search needs
+
+mul-v : tie.Need-mul-v Inv-loop μ-loop
+mul-v c = search needs
+
+add-v : tie.Need-add-v Inv-loop μ-loop
+add-v c = search needs
+
+add-k : tie.Need-add-k Inv-loop μ-loop
+add-k c = search needs
+
+loop-less : tie.Need-loop-less Inv-loop μ-loop
+loop-less c = search needs
+
+loop-again : tie.Need-loop-again Inv-loop μ-loop
+loop-again c = search needs
+
+lost-requires-3 : tie.Need-lost-requires-3 Inv-loop μ-loop
+lost-requires-3 c κs = search needs
+
+returns-4 : tie.Need-returns-4 Inv-loop μ-loop
+returns-4 c = search needs
+
+pub num-spec : {M : Type 1} → statement M
+num-spec =
+    tie.close
+    (tie.spec
+    Inv-loop
+    μ-loop
+    loop-holds
+    shared-slice-read-digit
+    digit-requires
+    lost-requires
+    returns
+    past-requires
+    returns-2
+    lost-requires-2
+    returns-3
+    mul-v
+    add-v
+    add-k
+    loop-less
+    loop-again
+    lost-requires-3
+    returns-4)
