@@ -27,7 +27,8 @@ use Rattle.storage.proofs.Views.{view-in}
 use Rattle.storage.proofs.Stores.{Stored, written-stored, outcome-ok, changes-done, changes-refused, changes-same}
 use Rattle.storage.proofs.Grown.{grown-long, grown-kept, grown-at}
 use Rattle.slice.specs.Slices.{withField, fieldSetting}
-use Rattle.slice.proofs.Fields.{low-digits, setting-in}
+use Rattle.slice.proofs.Fields.{low-digits}
+use Rattle.slice.proofs.Stricts.{setting-in}
 use Rattle.bitmap.specs.Bitmaps.{settingRegion, settingField}
 
 -- what a mask leaves of the value

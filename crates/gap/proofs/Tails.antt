@@ -21,7 +21,7 @@ use Rattle.word.proofs.Sweep.{getD-set}
 use Rattle.shift.specs.Shifts.{movedUp, movedDown}
 use Rattle.shift.proofs.Moves.{moved-up, moved-in}
 use Rattle.slice.specs.Kernels.{overlaid}
-use Rattle.slice.proofs.Fields.{overlay-is}
+use Rattle.slice.proofs.Stricts.{overlay-is}
 use Rattle.gap.specs.Kernels.{opened, closed}
 
 -- ---- the words from word a on are those of a set

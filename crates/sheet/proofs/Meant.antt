@@ -2,7 +2,7 @@
 use mathlib.Core.Path.{_≡_, sym, ap, _∙_, subst}
 use mathlib.Core.Bool.{true, false}
 use Prim.Native.Nat.{ℕ, _*_}
-use Rattle.storage.specs.Stores.{Bits, Bounded, Outcome, done}
+use Rattle.storage.specs.Stores.{Bits, Outcome, done}
 use Rattle.storage.proofs.Outcomes.{same}
 use Rattle.bits.specs.Bits.{reversing}
 use Rattle.bits.specs.Promises.{Reversed}

@@ -2,6 +2,7 @@ pub mod Answers
 pub mod Lasts
 pub mod Firsts
 pub mod Fields
+pub mod Stricts
 pub mod Scans
 pub mod Eights
 pub mod Equals

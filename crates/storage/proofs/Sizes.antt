@@ -7,16 +7,12 @@ use lib.ListN.{length, take}
 use lib.Seq.{length-take-le}
 use Rattle.word.specs.Sets.{countBelow}
 use Rattle.word.specs.Bits.{member}
-use Rattle.word.proofs.Sets.{count-le, count-ext}
+use Rattle.word.proofs.Sets.{count-ext}
 use Rattle.arch.specs.Scans.{countSet}
 use Rattle.arch.proofs.Promises.{count-is-whole}
-use Rattle.storage.specs.Stores.{Bits, view, size}
+use Rattle.storage.specs.Stores.{view, size}
 use Rattle.storage.proofs.Checks.{Passed}
 use Rattle.storage.proofs.Views.{view-count, view-part}
-
-pub size-le : (b : Bits) → size b ≤ 64 * b .count
-unfolding size
-size-le b = count-le (b .members) (64 * b .count)
 
 pub size-part : (ws : List ℕ) (n : ℕ) → n ≤ length ws → size (view ws n) ≡ countBelow (member (take n ws)) (64 * n)
 unfolding size

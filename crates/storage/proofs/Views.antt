@@ -2,14 +2,13 @@
 use mathlib.Core.Path.{_≡_, refl, sym, ap, _∙_, fun-ext}
 use mathlib.Core.Bool.{Bool, false, _&&_}
 use mathlib.Core.List.{List}
-use Prim.Native.Nat.{ℕ, _+_, _*_, _/_, _%_, _^_, _≤_, _<_}
+use Prim.Native.Nat.{ℕ, _+_, _*_, _/_, _%_, _≤_, _<_}
 use native.Mathlib.Omega.{arith}
 use lib.ListN.{length, getD, take}
 use lib.Seq.{getD-take, length-take-le}
 use borrow.Author.Tests.{lt-ltb, le-ltb}
-use Rattle.word.specs.Bits.{bit, wordOf, member}
+use Rattle.word.specs.Bits.{bit, member}
 use Rattle.word.proofs.Cases.{by-lt}
-use Rattle.word.proofs.Bits.{pack-is}
 use Rattle.word.proofs.Lists.{at-word, member-at, member-past}
 use Rattle.storage.specs.Stores.{Bounded, view}
 
@@ -32,11 +31,6 @@ view-at ws n i h = ap (λ (t : Bool). t && member ws i) (lt-ltb (i / 64) n (omeg
 pub bounded-view : (ws : List ℕ) (n : ℕ) → Bounded (view ws n)
 unfolding view
 bounded-view ws n = record { past = λ i h. view-out ws n i h }
-
--- the words of a view are the store's
-pub view-word : (ws : List ℕ) (n k : ℕ) → getD ws k 0 < 2 ^ 64 → k < n → wordOf (view ws n .members) k ≡ getD ws k 0
-unfolding wordOf
-view-word ws n k f h = sym (pack-is 64 (getD ws k 0) (λ j. view ws n .members (64 * k + j)) f (λ j l. sym (view-in ws n k j h l)))
 
 -- a view is the set of the store's front part
 pub view-part : (ws : List ℕ) (n i : ℕ) → n ≤ length ws → view ws n .members i ≡ member (take n ws) i

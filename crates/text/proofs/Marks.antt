@@ -37,10 +37,6 @@ pub length-marked : (rs : List Range) (ws : List ℕ) → length (marked rs ws) 
 unfolding marked
 length-marked rs ws = length-words (λ i. member ws i || covers rs i) (length ws)
 
-pub marked-fit : (rs : List Range) (ws : List ℕ) → Fit (marked rs ws)
-unfolding marked
-marked-fit rs ws = words-fit (λ i. member ws i || covers rs i) (length ws)
-
 pub member-marked : (rs : List Range) (ws : List ℕ) (i : ℕ) → i < 64 * length ws → member (marked rs ws) i ≡ member ws i || covers rs i
 unfolding marked
 member-marked rs ws i h = member-words (λ i. member ws i || covers rs i) (length ws) i h

@@ -49,11 +49,6 @@ sweep-down old new a e ws v s h l q = record {
   above = λ k p. getD-set-other ws a k v 0 (omega arith) ∙ s .above k p;
 }
 
-pub sweep-back : (old : List ℕ) (new : ℕ → ℕ) (a e : ℕ) (ws : List ℕ) (v : ℕ) → Swept old new a e ws → 0 < a → a ≤ length ws → a ≤ e → v ≡ new (a - 1)
-    → Swept old new (a - 1) e (set ws (a - 1) v)
-sweep-back old new a e ws v s p h l q =
-    sweep-down old new (a - 1) e ws v (sweep-to old new a e (a - 1 + 1) e ws s (omega arith) refl) (omega arith) (omega arith) q
-
 -- every word swept: the words of a set where each new word has the set's bits
 pub swept-words : (old : List ℕ) (new : ℕ → ℕ) (s : ℕ → Bool) (e : ℕ) (ws : List ℕ) → Swept old new 0 e ws → length old ≤ e
     → ((k : ℕ) → k < length old → new k < 2 ^ 64) → ((k j : ℕ) → k < length old → j < 64 → bit (new k) j ≡ s (64 * k + j)) → ws ≡ wordsOf s (length old)

@@ -2,7 +2,7 @@ use mathlib.Core.Path.{ap}
 use native.Mathlib.Omega.{arith}
 use borrow.Author.Needs.{needs}
 use lib.ListN.{set}
-use Rattle.slice.proofs.Fields.{overlay-is}
+use Rattle.slice.proofs.Stricts.{overlay-is}
 use Rattle.slice.proofs.overlay.Statement.{statement}
 use Rattle.slice.proofs.overlay.Tie as tie
 

@@ -4,7 +4,7 @@ use borrow.Author.Needs.{needs}
 use lib.ListN.{length, length-set}
 use Rattle.storage.proofs.Checks.{passed}
 use Rattle.storage.proofs.Stores.{changes-stopped}
-use Rattle.slice.proofs.Fields.{refused-wide, refused-past, done-none, done-one, done-two}
+use Rattle.slice.proofs.Stricts.{refused-wide, refused-past, done-none, done-one, done-two}
 use Rattle.slice.proofs.set_field_strict.Statement.{statement}
 use Rattle.slice.proofs.set_field_strict.Tie as tie
 
