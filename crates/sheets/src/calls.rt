@@ -11,6 +11,29 @@ const PAYLOAD: usize = 65_600;
 
 const CHANGES: u64 = 16;
 
+// The numbers of a line after its part: duty, kind, p, k, flag, width, value and size; then what is right: number, length, and how many places change.
+const DUTY: usize = 95;
+
+const KIND: usize = 96;
+
+const P: usize = 97;
+
+const K: usize = 98;
+
+const FLAG: usize = 99;
+
+const WIDTH: usize = 100;
+
+const VALUE: usize = 101;
+
+const BYTES: usize = 102;
+
+const NUMBER: usize = 103;
+
+const GROWN: usize = 104;
+
+const PLACES: usize = 105;
+
 // Stands for a start, where an addition has its duty.
 const START: u64 = 2;
 
@@ -36,15 +59,6 @@ fn fill(out: &mut [u8], from: usize, seed: u64) {
     }
 }
 
-fn copy(from: &[u8], out: &mut [u8]) {
-    if from.len() < out.len() {
-        return;
-    }
-    for k in 0..out.len() {
-        out[k] = from[k];
-    }
-}
-
 fn same_bytes(a: &[u8], b: &[u8]) -> bool {
     if a.len() != b.len() {
         return false;
@@ -58,34 +72,19 @@ fn same_bytes(a: &[u8], b: &[u8]) -> bool {
 }
 
 // The bytes of a buffer: from a place on those of the seed, then its first ones from the list.
-fn filled(s: &[u8], at: usize, from: u64, seed: u64, out: &mut [u8]) -> usize {
-    fill(out, from as usize, seed);
+fn filled(s: &[u8], at: usize, counts: &[u64; 170], out: &mut [u8]) -> usize {
+    fill(out, counts[tally::FROM] as usize, counts[tally::SEED]);
     let first = scan::bytes(s, at, out);
     first.at
 }
 
 // A buffer: its size and seed, from where on the seed's bytes stand, the length of its sheet, and its first bytes.
-pub fn lend(
-    s: &[u8],
-    at: usize,
-    buffer: &mut [u8],
-    want: &mut [u8],
-    counts: &mut [u64; 92],
-) -> usize {
-    let mut f: [u64; 4] = [0; 4];
-    let p = scan::numbers(s, at, &mut f);
-    let size = f[0] as usize;
-    if size > buffer.len() {
-        return LOST;
-    }
-    if size > want.len() {
-        return LOST;
-    }
-    counts[tally::SIZE] = f[0];
-    counts[tally::LENGTH] = f[3];
-    let after = filled(s, p, f[2], f[1], &mut want[0..size]);
-    copy(want, &mut buffer[0..size]);
-    after
+pub fn lend(s: &[u8], at: usize, memory: &mut [u8], counts: &mut [u64; 170]) -> usize {
+    let p = scan::numbers(s, at, counts, tally::SIZE, tally::CAPACITY);
+    let half = memory.len() / 2;
+    let size = tally::at_most(counts[tally::SIZE], half);
+    filled(s, p, counts, &mut memory[0..size]);
+    filled(s, p, counts, &mut memory[half..half + size])
 }
 
 // A place that a call is to change, and the bytes there.
@@ -110,97 +109,71 @@ fn changes(s: &[u8], at: usize, n: u64, want: &mut [u8]) -> usize {
     p
 }
 
-// The call that the list asks for.
-fn asked(buffer: &mut [u8], length: usize, f: [u64; 9], payload: &[u8]) -> Told {
-    if f[1] == START {
-        return said(writer::start(buffer));
+fn fields(counts: &[u64; 170]) -> Fields {
+    Fields {
+        p: (counts[P] % 4_294_967_296) as u32,
+        k: (counts[K] % 4_294_967_296) as u32,
+        flag: counts[FLAG] == 1,
+        width: counts[WIDTH] as usize,
+        value: counts[VALUE],
+        size: counts[BYTES] as usize,
     }
-    let fields = Fields {
-        p: (f[3] % 4_294_967_296) as u32,
-        k: (f[4] % 4_294_967_296) as u32,
-        flag: f[5] == 1,
-        width: f[6] as usize,
-        value: f[7],
-        size: f[8] as usize,
-    };
-    said(writer::add(buffer, length, f[1] == 1, f[2] as usize, fields, payload))
 }
 
-// What a call answered against the list, and the buffer against what the list makes of it.
-fn judge(
-    s: &[u8],
-    at: usize,
-    part: u64,
-    got: Told,
-    buffer: &[u8],
-    want: &mut [u8],
-    counts: &mut [u64; 92],
-) -> usize {
-    // Number, length, and how many places change.
-    let mut f: [u64; 3] = [0; 3];
-    let p = scan::numbers(s, at, &mut f);
-    let after = changes(s, p, f[2], want);
-    if after == LOST {
-        return LOST;
+fn added(counts: &[u64; 170], payload: &[u8], buffer: &mut [u8]) -> Added {
+    let length = counts[tally::LENGTH] as usize;
+    let duty = counts[DUTY] == 1;
+    writer::add(
+        buffer,
+        length,
+        duty,
+        counts[KIND] as usize,
+        fields(counts),
+        payload,
+    )
+}
+
+// The call that the list asks for.
+fn asked(counts: &[u64; 170], payload: &[u8], buffer: &mut [u8]) -> Added {
+    if counts[DUTY] == START {
+        return writer::start(buffer);
     }
-    let right = Told {
-        number: f[0],
-        record: 0,
-        count: f[1],
-    };
-    if f[0] == 0 {
-        counts[tally::LENGTH] = f[1];
+    added(counts, payload, buffer)
+}
+
+// What a call answered and the buffer against what is right.
+fn compared(got: Told, memory: &[u8], counts: &mut [u64; 170]) {
+    let half = memory.len() / 2;
+    let size = tally::at_most(counts[tally::SIZE], half);
+    let same = same_bytes(&memory[0..size], &memory[half..half + size]);
+    let number = counts[NUMBER];
+    let answer = tally::same(got, number, 0, counts[GROWN]);
+    tally::case(counts, number, answer, same);
+    if number == 0 {
+        counts[tally::LENGTH] = counts[GROWN];
     }
-    tally::case(counts, part, right, got, same_bytes(buffer, want));
+}
+
+// What the list says of a call: its answer, and the changes, made in the second buffer.
+fn judge(s: &[u8], at: usize, got: Told, memory: &mut [u8], counts: &mut [u64; 170]) -> usize {
+    let p = scan::numbers(s, at, counts, NUMBER, tally::OLD);
+    let half = memory.len() / 2;
+    let size = tally::at_most(counts[tally::SIZE], half);
+    let after = changes(s, p, counts[PLACES], &mut memory[half..half + size]);
+    if after != LOST {
+        compared(got, memory, counts);
+    }
     after
 }
 
-// The call and what the list says of it, on the buffer and the bytes that it should have.
-fn replayed(
-    s: &[u8],
-    at: usize,
-    f: [u64; 9],
-    payload: &[u8],
-    buffer: &mut [u8],
-    want: &mut [u8],
-    counts: &mut [u64; 92],
-) -> usize {
-    let length = counts[tally::LENGTH] as usize;
-    let got = asked(buffer, length, f, payload);
-    judge(s, at, f[0], got, buffer, want, counts)
-}
-
 // A start or an addition.
-pub fn call(
-    s: &[u8],
-    at: usize,
-    buffer: &mut [u8],
-    want: &mut [u8],
-    counts: &mut [u64; 92],
-) -> usize {
-    // Part, duty, kind, p, k, flag, width, value, size.
-    let mut f: [u64; 9] = [0; 9];
+pub fn call(s: &[u8], at: usize, memory: &mut [u8], counts: &mut [u64; 170]) -> usize {
     let mut payload: [u8; 65600] = [0; 65600];
-    let p = scan::numbers(s, at, &mut f);
+    let p = scan::numbers(s, at, counts, tally::PART, NUMBER);
     let body = scan::bytes(s, p, &mut payload);
-    let n = body.v as usize;
-    let size = counts[tally::SIZE] as usize;
-    if size > buffer.len() {
-        return LOST;
-    }
-    if size > want.len() {
-        return LOST;
-    }
-    if n > PAYLOAD {
-        return LOST;
-    }
-    replayed(
-        s,
-        body.at,
-        f,
-        &payload[0..n],
-        &mut buffer[0..size],
-        &mut want[0..size],
-        counts,
-    )
+    let n = tally::at_most(body.v, PAYLOAD);
+    let half = memory.len() / 2;
+    let size = tally::at_most(counts[tally::SIZE], half);
+    let got = said(asked(counts, &payload[0..n], &mut memory[0..size]));
+    judge(s, body.at, got, memory, counts)
 }

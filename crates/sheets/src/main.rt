@@ -15,7 +15,7 @@ fn line_end(s: &[u8], at: usize) -> usize {
 }
 
 // The last line: its own number, and nothing after it.
-fn last(s: &[u8], at: usize, counts: &mut [u64; 92]) -> usize {
+fn last(s: &[u8], at: usize, counts: &mut [u64; 170]) -> usize {
     let n = scan::num(s, at);
     if n.v == counts[tally::LINE] {
         if line_end(s, n.at) == s.len() {
@@ -27,55 +27,52 @@ fn last(s: &[u8], at: usize, counts: &mut [u64; 92]) -> usize {
 }
 
 // A line, by its letter: one of the hexadecimal digits.
-fn line(
-    s: &[u8],
-    at: usize,
-    buffer: &mut [u8],
-    want: &mut [u8],
-    old: &mut [u64],
-    counts: &mut [u64; 92],
-) -> usize {
+fn line(s: &[u8], at: usize, memory: &mut [u8], counts: &mut [u64; 170]) -> usize {
     let first = scan::num(s, at);
     let letter = first.v;
     match letter {
-        0xa => calls::call(s, first.at, buffer, want, counts),
-        0xb => calls::lend(s, first.at, buffer, want, counts),
-        0xc => readings::old(s, first.at, old, counts),
-        0xe => readings::edition(s, first.at, buffer, old, counts),
+        0xa => calls::call(s, first.at, memory, counts),
+        0xb => calls::lend(s, first.at, memory, counts),
+        0xc => readings::old(s, first.at, counts),
+        0xe => readings::edition(s, first.at, memory, counts),
         0xf => last(s, first.at, counts),
         _ => LOST,
     }
 }
 
+// The place after a line, where all that it tells of has room.
+fn next(s: &[u8], at: usize, counts: &[u64; 170]) -> usize {
+    if tally::fits(counts) {
+        return line_end(s, at);
+    }
+    LOST
+}
+
 // Every line, up to one that can't be read; each takes a byte or more.
-fn lines(
-    s: &[u8],
-    buffer: &mut [u8; 200000],
-    want: &mut [u8; 200000],
-    old: &mut [u64; 64],
-    counts: &mut [u64; 92],
-) {
+fn lines(s: &[u8], memory: &mut [u8; 400000], counts: &mut [u64; 170]) {
     let mut at: usize = 0;
     for turn in 0..s.len() {
         if at >= s.len() {
             return;
         }
         tally::more(counts, tally::LINE);
-        at = line_end(s, line(s, at, buffer, want, old, counts));
+        at = next(s, line(s, at, memory, counts), counts);
     }
 }
 
-// The list is the first n bytes; where it fills them all, some may be missing.
+fn too_long() {
+    io::write_all(STDOUT_FILENO, b"the list is too long\n");
+}
+
+// The list is the first n bytes; where it fills them all, some may be missing. The memory is the buffer, and as many bytes that it should have.
 fn replay(s: &[u8], n: usize) {
-    let mut buffer: [u8; 200000] = [0; 200000];
-    let mut want: [u8; 200000] = [0; 200000];
-    let mut old: [u64; 64] = [0; 64];
-    let mut counts: [u64; 92] = [0; 92];
+    let mut memory: [u8; 400000] = [0; 400000];
+    let mut counts: [u64; 170] = [0; 170];
     if n >= s.len() {
-        io::write_all(STDOUT_FILENO, b"the list is too long\n");
+        too_long();
         return;
     }
-    lines(&s[0..n], &mut buffer, &mut want, &mut old, &mut counts);
+    lines(&s[0..n], &mut memory, &mut counts);
     tally::report(&counts);
 }
 

@@ -6,8 +6,16 @@ use crate::tally::Told;
 use sheet::Reading;
 use storage::Bitmap;
 
-// The most words of a result store.
-const STORE: usize = 128;
+// The numbers of a line after its part: edition, number, record, count, and how many words follow.
+const EDITION: usize = 95;
+
+const NUMBER: usize = 96;
+
+const RECORD: usize = 97;
+
+const COUNTED: usize = 98;
+
+const FOLLOW: usize = 99;
 
 // Says of a result store that it must be as it was, where the list would give how many words follow.
 const UNTOUCHED: u64 = 256;
@@ -30,11 +38,8 @@ fn said(r: Reading) -> Told {
     }
 }
 
-fn same_words(a: &[u64], b: &[u64]) -> bool {
-    if a.len() != b.len() {
-        return false;
-    }
-    for k in 0..a.len() {
+fn same_words(a: &[u64; 128], b: &[u64; 128]) -> bool {
+    for k in 0..tally::STORE {
         if a[k] != b[k] {
             return false;
         }
@@ -60,93 +65,60 @@ fn wanted(s: &[u8], at: usize, n: u64, out: &mut [u64]) -> usize {
         pattern(out);
         return at;
     }
-    if n > out.len() as u64 {
-        return LOST;
-    }
-    let m = n as usize;
     zeros(out);
-    scan::numbers(s, at, &mut out[0..m])
+    scan::numbers(s, at, out, 0, n as usize)
 }
 
 // The reading of a sheet into a store that holds the pattern.
-fn told(edition: u64, sheet: &[u8], old: &[u64], count: u64, store: &mut [u64]) -> Told {
+fn told(counts: &[u64; 170], sheet: &[u8], store: &mut [u64]) -> Told {
     pattern(store);
+    let words = tally::at_most(counts[tally::WORDS], tally::OLDEST);
+    let count = counts[tally::COUNT] as usize;
+    let all = &counts[..];
     said(reader::read(
-        edition as usize,
+        counts[EDITION] as usize,
         sheet,
-        old,
-        Bitmap {
-            count: count as usize,
-        },
+        &all[tally::OLD..tally::OLD + words],
+        Bitmap { count: count },
         store,
     ))
 }
 
-// One reading against its answer in the list: the place after that.
-fn reading(
-    s: &[u8],
-    at: usize,
-    sheet: &[u8],
-    old: &[u64],
-    store: &mut [u64],
-    want: &mut [u64],
-    counts: &mut [u64; 92],
-) -> usize {
-    // Part, edition, number, record, count, and how many words follow.
-    let mut f: [u64; 6] = [0; 6];
-    let p = scan::numbers(s, at, &mut f);
-    let after = wanted(s, p, f[5], want);
-    if after == LOST {
-        return LOST;
-    }
-    let got = told(f[1], sheet, old, counts[tally::COUNT], store);
-    let right = Told {
-        number: f[2],
-        record: f[3],
-        count: f[4],
-    };
-    tally::case(counts, f[0], right, got, same_words(store, want));
-    after
+// One reading of the buffer's sheet against its answer in the list; what is behind the store is compared too.
+fn reading(want: &[u64; 128], memory: &[u8], counts: &mut [u64; 170]) {
+    let mut store: [u64; 128] = [0; 128];
+    let length = tally::at_most(counts[tally::LENGTH], memory.len());
+    let capacity = tally::at_most(counts[tally::CAPACITY], tally::STORE);
+    let got = told(counts, &memory[0..length], &mut store[0..capacity]);
+    let number = counts[NUMBER];
+    let answer = tally::same(got, number, counts[RECORD], counts[COUNTED]);
+    tally::case(counts, number, answer, same_words(&store, want));
 }
 
-// The old bitmap and the result's capacity.
-pub fn old(s: &[u8], at: usize, words: &mut [u64], counts: &mut [u64; 92]) -> usize {
-    // Capacity, count, and how many words follow.
-    let mut f: [u64; 3] = [0; 3];
-    let p = scan::numbers(s, at, &mut f);
-    if f[2] > words.len() as u64 {
+// The result's capacity and the old bitmap.
+pub fn old(s: &[u8], at: usize, counts: &mut [u64; 170]) -> usize {
+    let p = scan::numbers(s, at, counts, tally::CAPACITY, tally::PART);
+    let words = tally::at_most(counts[tally::WORDS], tally::OLDEST);
+    scan::numbers(s, p, counts, tally::OLD, tally::OLD + words)
+}
+
+// A writer call may be told of a longer sheet than the buffer, but none such can be read.
+fn readable(at: usize, length: u64) -> usize {
+    if length > tally::BUFFER as u64 {
         return LOST;
     }
-    let len = f[2] as usize;
-    counts[tally::CAPACITY] = f[0];
-    counts[tally::COUNT] = f[1];
-    counts[tally::WORDS] = f[2];
-    scan::numbers(s, p, &mut words[0..len])
+    at
 }
 
 // A reading of the buffer's sheet by one edition.
-pub fn edition(s: &[u8], at: usize, buffer: &[u8], old: &[u64], counts: &mut [u64; 92]) -> usize {
-    let mut store: [u64; 128] = [0; 128];
+pub fn edition(s: &[u8], at: usize, memory: &[u8], counts: &mut [u64; 170]) -> usize {
     let mut want: [u64; 128] = [0; 128];
-    let length = counts[tally::LENGTH] as usize;
-    let len = counts[tally::WORDS] as usize;
-    let capacity = counts[tally::CAPACITY] as usize;
-    if length > buffer.len() {
-        return LOST;
+    let from = readable(at, counts[tally::LENGTH]);
+    let p = scan::numbers(s, from, counts, tally::PART, FOLLOW + 1);
+    let capacity = tally::at_most(counts[tally::CAPACITY], tally::STORE);
+    let after = wanted(s, p, counts[FOLLOW], &mut want[0..capacity]);
+    if after != LOST {
+        reading(&want, memory, counts);
     }
-    if len > old.len() {
-        return LOST;
-    }
-    if capacity > STORE {
-        return LOST;
-    }
-    reading(
-        s,
-        at,
-        &buffer[0..length],
-        &old[0..len],
-        &mut store[0..capacity],
-        &mut want[0..capacity],
-        counts,
-    )
+    after
 }

@@ -77,10 +77,13 @@ pub fn num(s: &[u8], at: usize) -> Scan {
     lost()
 }
 
-// Numbers into all of `out`: the place after them.
-pub fn numbers(s: &[u8], at: usize, out: &mut [u64]) -> usize {
+// Numbers into the places of `out` between two: the place after them in the list.
+pub fn numbers(s: &[u8], at: usize, out: &mut [u64], from: usize, to: usize) -> usize {
     let mut p = at;
-    for k in 0..out.len() {
+    if to > out.len() {
+        return LOST;
+    }
+    for k in from..to {
         let w = num(s, p);
         out[k] = w.v;
         p = w.at;

@@ -4,10 +4,10 @@ use Rattle.sheets.proofs.lines.Statement.{statement}
 use Rattle.sheets.proofs.lines.Tie as tie
 
 abbrev Inv-loop : tie.InvT-loop
-Inv-loop s buffer₀ want₀ old₀ counts₀ at₀ turn₀ turn-end buffer want old counts at turn = turn ≤ turn-end
+Inv-loop s memory₀ counts₀ at₀ turn₀ turn-end memory counts at turn = turn ≤ turn-end
 
 abbrev μ-loop : tie.MeasureT-loop
-μ-loop s buffer₀ want₀ old₀ counts₀ at₀ turn₀ turn-end buffer want old counts at turn = turn-end - turn
+μ-loop s memory₀ counts₀ at₀ turn₀ turn-end memory counts at turn = turn-end - turn
 
 loop-holds : tie.Need-loop-holds Inv-loop μ-loop
 loop-holds c = search needs
@@ -21,8 +21,8 @@ more-requires c κs = search needs
 line-requires : tie.Need-line-requires Inv-loop μ-loop
 line-requires c κs = search needs
 
-line-end-requires : tie.Need-line-end-requires Inv-loop μ-loop
-line-end-requires c κs = search needs
+next-requires : tie.Need-next-requires Inv-loop μ-loop
+next-requires c κs = search needs
 
 add-turn : tie.Need-add-turn Inv-loop μ-loop
 add-turn c = search needs
@@ -46,7 +46,7 @@ lines-spec =
     returns
     more-requires
     line-requires
-    line-end-requires
+    next-requires
     add-turn
     loop-less
     loop-again

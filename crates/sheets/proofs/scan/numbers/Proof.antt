@@ -6,10 +6,13 @@ use Rattle.sheets.proofs.scan.numbers.Statement.{statement}
 use Rattle.sheets.proofs.scan.numbers.Tie as tie
 
 abbrev Inv-loop : tie.InvT-loop
-Inv-loop s at out₀ p₀ k₀ k-end out p k = (length out ≡ length out₀) × (k-end ≤ length out₀)
+Inv-loop s at out₀ from to p₀ k₀ out p k = (length out ≡ length out₀) × (to ≤ length out₀)
 
 abbrev μ-loop : tie.MeasureT-loop
-μ-loop s at out₀ p₀ k₀ k-end out p k = k-end - k
+μ-loop s at out₀ from to p₀ k₀ out p k = to - k
+
+returns : tie.Need-returns Inv-loop μ-loop
+returns c = search needs
 
 loop-holds : tie.Need-loop-holds Inv-loop μ-loop
 loop-holds c = search needs
@@ -35,8 +38,8 @@ loop-again c = search needs
 same-length : tie.Need-same-length Inv-loop μ-loop
 same-length c = search needs
 
-returns : tie.Need-returns Inv-loop μ-loop
-returns c = search needs
+returns-2 : tie.Need-returns-2 Inv-loop μ-loop
+returns-2 c = search needs
 
 pub numbers-spec : {M : Type 1} → statement M
 numbers-spec =
@@ -44,6 +47,7 @@ numbers-spec =
     (tie.spec
     Inv-loop
     μ-loop
+    returns
     loop-holds
     num-requires
     mul-out
@@ -52,4 +56,4 @@ numbers-spec =
     loop-less
     loop-again
     same-length
-    returns)
+    returns-2)
