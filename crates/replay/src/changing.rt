@@ -2,7 +2,7 @@
 use storage::Bitmap;
 use storage::Change;
 
-fn within(op: u64, words: &mut [u64], b: Bitmap, x: usize) -> Change {
+pub fn within(op: u64, words: &mut [u64], b: Bitmap, x: usize) -> Change {
     match op {
         0x80 => bits::toggle(words, b, x),
         0x81 => bits::invert(words, b),
@@ -14,7 +14,7 @@ fn within(op: u64, words: &mut [u64], b: Bitmap, x: usize) -> Change {
     }
 }
 
-fn bit(op: u64, words: &mut [u64], b: Bitmap, x: usize) -> Change {
+pub fn bit(op: u64, words: &mut [u64], b: Bitmap, x: usize) -> Change {
     match op {
         0x90 => bitmap::trim(words, b),
         0x91 => bitmap::set(words, b, x),
@@ -25,7 +25,7 @@ fn bit(op: u64, words: &mut [u64], b: Bitmap, x: usize) -> Change {
     }
 }
 
-fn reshape(op: u64, words: &mut [u64], b: Bitmap, x: usize) -> Change {
+pub fn reshape(op: u64, words: &mut [u64], b: Bitmap, x: usize) -> Change {
     match op {
         0xa0 => shape::toggle(words, b, x),
         0xa1 => shape::shift_left(words, b, x),
@@ -35,7 +35,7 @@ fn reshape(op: u64, words: &mut [u64], b: Bitmap, x: usize) -> Change {
     }
 }
 
-fn range(op: u64, words: &mut [u64], b: Bitmap, x: usize, y: usize, z: u64) -> Change {
+pub fn range(op: u64, words: &mut [u64], b: Bitmap, x: usize, y: usize, z: u64) -> Change {
     match op {
         0xb0 => slice::set_field_strict(words, b, x, z, y),
         0xb1 => bitmap::set_field(words, b, x, z, y),
@@ -46,7 +46,7 @@ fn range(op: u64, words: &mut [u64], b: Bitmap, x: usize, y: usize, z: u64) -> C
     }
 }
 
-fn pair(op: u64, words: &mut [u64], b: Bitmap, other: &[u64], o: Bitmap) -> Change {
+pub fn pair(op: u64, words: &mut [u64], b: Bitmap, other: &[u64], o: Bitmap) -> Change {
     match op {
         0xc0 => setops::and(words, b, other, o),
         0xc1 => setops::andnot(words, b, other, o),
@@ -57,7 +57,7 @@ fn pair(op: u64, words: &mut [u64], b: Bitmap, other: &[u64], o: Bitmap) -> Chan
 }
 
 // The store that is written comes first, then the left and the right bitmap.
-pub fn combine_from(
+pub fn combine(
     op: u64,
     words: &mut [u64],
     b: Bitmap,
@@ -70,41 +70,10 @@ pub fn combine_from(
         0xd0 => combine::and_from(words, b, left, l, right, r),
         0xd1 => combine::andnot_from(words, b, left, l, right, r),
         0xd2 => combine::or_from(words, b, left, l, right, r),
-        _ => combine::xor_from(words, b, left, l, right, r),
-    }
-}
-
-pub fn combine_dup(
-    op: u64,
-    words: &mut [u64],
-    left: &[u64],
-    l: Bitmap,
-    right: &[u64],
-    r: Bitmap,
-) -> Change {
-    match op {
+        0xd3 => combine::xor_from(words, b, left, l, right, r),
         0xe0 => combine::dup_and(words, left, l, right, r),
         0xe1 => combine::dup_andnot(words, left, l, right, r),
         0xe2 => combine::dup_or(words, left, l, right, r),
         _ => combine::dup_xor(words, left, l, right, r),
-    }
-}
-
-pub fn change(
-    op: u64,
-    words: &mut [u64],
-    b: Bitmap,
-    other: &[u64],
-    o: Bitmap,
-    x: usize,
-    y: usize,
-    z: u64,
-) -> Change {
-    match op >> 4 {
-        8 => within(op, words, b, x),
-        9 => bit(op, words, b, x),
-        10 => reshape(op, words, b, x),
-        11 => range(op, words, b, x, y, z),
-        _ => pair(op, words, b, other, o),
     }
 }

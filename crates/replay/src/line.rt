@@ -88,15 +88,23 @@ fn put(numbers: &mut [u64; 1024], n: usize, x: u64) {
     }
 }
 
-// A number as far as it is read: its digits' value, how many they are, and all ones after a tilde.
-struct Number {
+// A line as far as it is read: what it is, whether it has ended, how many numbers stand before the one at hand, and of that its digits' value, how many
+// they are, and all ones after a tilde.
+struct Part {
+    kind: u64,
+    ended: bool,
+    count: usize,
     x: u64,
     digits: u64,
     flip: u64,
 }
 
-fn nothing() -> Number {
-    Number {
+// Before the number at that place.
+fn before(kind: u64, ended: bool, count: usize) -> Part {
+    Part {
+        kind: kind,
+        ended: ended,
+        count: count,
         x: 0,
         digits: 0,
         flip: 0,
@@ -104,29 +112,50 @@ fn nothing() -> Number {
 }
 
 // Whether byte c may come next: a tilde at the beginning, or one of at most 16 digits.
-fn fits(n: Number, c: u64) -> bool {
+fn fits(p: Part, c: u64) -> bool {
     if c == TILDE {
-        return n.digits == 0 && n.flip == 0;
+        return p.digits == 0 && p.flip == 0;
     }
-    digit(c) < 16 && n.digits < 16
+    digit(c) < 16 && p.digits < 16
 }
 
-fn with(n: Number, c: u64) -> Number {
+fn with(p: Part, kind: u64, c: u64) -> Part {
     if c == TILDE {
-        return Number {
-            x: n.x,
-            digits: n.digits,
+        return Part {
+            kind: kind,
+            ended: false,
+            count: p.count,
+            x: p.x,
+            digits: p.digits,
             flip: Word::ONES,
         };
     }
-    Number {
-        x: n.x << 4 | digit(c),
-        digits: std::num::wrapping_add_u64(n.digits, 1),
-        flip: n.flip,
+    Part {
+        kind: kind,
+        ended: false,
+        count: p.count,
+        x: p.x << 4 | digit(c),
+        digits: std::num::wrapping_add_u64(p.digits, 1),
+        flip: p.flip,
     }
 }
 
-fn told(kind: u64, count: usize, at: usize, end: usize) -> Line {
+// With byte c, the first of its line where `first` is 0.
+fn taken(p: Part, c: u64, first: u64) -> Part {
+    if c == NONE {
+        return before(if first == 0 { END } else { MALFORMED }, true, p.count);
+    }
+    if c == COMMA || c == NEWLINE {
+        return before(
+            p.kind,
+            c == NEWLINE,
+            std::num::wrapping_add_usize(p.count, 1),
+        );
+    }
+    with(p, if fits(p, c) { p.kind } else { MALFORMED }, c)
+}
+
+pub fn told(kind: u64, count: usize, at: usize, end: usize) -> Line {
     Line {
         kind: kind,
         count: count,
@@ -136,31 +165,20 @@ fn told(kind: u64, count: usize, at: usize, end: usize) -> Line {
 }
 
 // Reads a line's numbers, of which at most 1,024 are kept.
-pub fn read(buf: &mut [u8; 65536], from: usize, to: usize, numbers: &mut [u64; 1024]) -> Line {
-    let mut at = from;
-    let mut end = to;
-    let mut count: usize = 0;
-    let mut kind = SOUND;
-    let mut n = nothing();
+pub fn read(buf: &mut [u8; 65536], from: Line, numbers: &mut [u64; 1024]) -> Line {
+    let mut b = Byte {
+        byte: 0,
+        at: from.at,
+        end: from.end,
+    };
+    let mut p = before(SOUND, false, 0);
     for step in 0..LONGEST {
-        let b = next(buf, at, end);
-        let c = b.byte;
-        at = b.at;
-        end = b.end;
-        if c == NONE {
-            return told(if step == 0 { END } else { MALFORMED }, count, at, end);
-        }
-        if c == COMMA || c == NEWLINE {
-            put(numbers, count, n.x ^ n.flip);
-            count = std::num::wrapping_add_usize(count, 1);
-            n = nothing();
-            if c == NEWLINE {
-                return told(kind, count, at, end);
-            }
-        } else {
-            kind = if fits(n, c) { kind } else { MALFORMED };
-            n = with(n, c);
+        b = next(buf, b.at, b.end);
+        put(numbers, p.count, p.x ^ p.flip);
+        p = taken(p, b.byte, step);
+        if p.ended {
+            return told(p.kind, p.count, b.at, b.end);
         }
     }
-    told(MALFORMED, count, at, end)
+    told(MALFORMED, p.count, b.at, b.end)
 }

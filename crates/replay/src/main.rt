@@ -1,6 +1,7 @@
 // Replays a list of calls with the answers of the Rust, from standard input (oracle/README.md has its lines): a line for each mismatch, and a line for
 // each call with the number of its cases and of its mismatches.
 mod answer;
+mod call;
 mod case;
 mod changing;
 mod kernels;
@@ -49,16 +50,10 @@ fn mismatch(line: u64, op: u64, what: u64) {
 }
 
 // The list of a line as text.
-fn put_part(bytes: &[u8], most: u64) {
-    let n = case::at_most(most, bytes.len());
-    put(&bytes[..n]);
-}
-
 fn put_list(line: &[u64; 1024]) {
-    let mut space = [0u8; 64];
-    let bytes: &mut [u8] = &mut space;
-    store::load_bytes(line, 64, bytes);
-    put_part(bytes, line[16]);
+    let bytes = store::bytes(line, 512);
+    let n = store::at_most(line[16], 512);
+    put(&bytes[0..n]);
 }
 
 // The line of a call whose cases are all replayed.
@@ -104,8 +99,7 @@ fn one(n: u64, kind: u64, count: usize, numbers: &[u64; 1024], t: Tally) -> Tall
 // Replays every line.
 fn all(buf: &mut [u8; 65536]) -> Tally {
     let mut numbers = [0u64; 1024];
-    let mut at: usize = 0;
-    let mut end: usize = 0;
+    let mut l = line::told(line::SOUND, 0, 0, 0);
     let mut t = Tally {
         cases: 0,
         wrong: 0,
@@ -113,9 +107,7 @@ fn all(buf: &mut [u8; 65536]) -> Tally {
         all_wrong: 0,
     };
     for n in 0..MOST {
-        let l = line::read(buf, at, end, &mut numbers);
-        at = l.at;
-        end = l.end;
+        l = line::read(buf, l, &mut numbers);
         if l.kind == line::END {
             return t;
         }

@@ -1,12 +1,10 @@
 // The calls that change nothing: kinds 3 to 7.
-use crate::answer;
-use crate::answer::Answer;
 use storage::Bitmap;
 use storage::Found;
 use storage::Number;
 use storage::Truth;
 
-fn search(op: u64, words: &[u64], b: Bitmap, x: usize) -> Found {
+pub fn search(op: u64, words: &[u64], b: Bitmap, x: usize) -> Found {
     match op {
         0x30 => slice::first_set(words, b),
         0x31 => slice::last_set(words, b),
@@ -15,7 +13,7 @@ fn search(op: u64, words: &[u64], b: Bitmap, x: usize) -> Found {
     }
 }
 
-fn count(op: u64, words: &[u64], b: Bitmap, x: usize, y: usize) -> Number {
+pub fn count(op: u64, words: &[u64], b: Bitmap, x: usize, y: usize) -> Number {
     match op {
         0x40 => slice::first_clear(words, b),
         0x41 => slice::next_clear(words, b, x),
@@ -26,7 +24,7 @@ fn count(op: u64, words: &[u64], b: Bitmap, x: usize, y: usize) -> Number {
     }
 }
 
-fn test(op: u64, words: &[u64], b: Bitmap, other: &[u64], o: Bitmap, x: usize) -> Truth {
+pub fn test(op: u64, words: &[u64], b: Bitmap, other: &[u64], o: Bitmap, x: usize) -> Truth {
     match op {
         0x50 => slice::get(words, b, x),
         0x51 => slice::eq(words, b, other, o),
@@ -35,7 +33,7 @@ fn test(op: u64, words: &[u64], b: Bitmap, other: &[u64], o: Bitmap, x: usize) -
     }
 }
 
-fn pair_count(op: u64, words: &[u64], b: Bitmap, other: &[u64], o: Bitmap) -> Number {
+pub fn pair_count(op: u64, words: &[u64], b: Bitmap, other: &[u64], o: Bitmap) -> Number {
     match op {
         0x60 => algebra::and_count(words, b, other, o),
         0x61 => algebra::or_count(words, b, other, o),
@@ -44,29 +42,11 @@ fn pair_count(op: u64, words: &[u64], b: Bitmap, other: &[u64], o: Bitmap) -> Nu
     }
 }
 
-fn walk(op: u64, words: &[u64], b: Bitmap, other: &[u64], o: Bitmap, x: usize) -> Found {
+pub fn walk(op: u64, words: &[u64], b: Bitmap, other: &[u64], o: Bitmap, x: usize) -> Found {
     match op {
         0x70 => walk::iter_and(words, b, other, o, x),
         0x71 => walk::iter_or(words, b, other, o, x),
         0x72 => walk::iter_xor(words, b, other, o, x),
         _ => walk::iter_andnot(words, b, other, o, x),
-    }
-}
-
-pub fn read(
-    op: u64,
-    words: &[u64],
-    b: Bitmap,
-    other: &[u64],
-    o: Bitmap,
-    x: usize,
-    y: usize,
-) -> Answer {
-    match op >> 4 {
-        3 => answer::found(search(op, words, b, x)),
-        4 => answer::number(count(op, words, b, x, y)),
-        5 => answer::truth(test(op, words, b, other, o, x)),
-        6 => answer::number(pair_count(op, words, b, other, o)),
-        _ => answer::found(walk(op, words, b, other, o, x)),
     }
 }

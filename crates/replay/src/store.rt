@@ -3,10 +3,16 @@
 // A line's numbers: 0 the call, 1 the seed of the pattern, 2 to 4 the arguments x, y and z, 5 to 8 the answer, 9 to 14 capacity and word count of the
 // stores 0, 1 and 2, 15 and 16 the lengths of the result and of the list; then the words of each store, the result's words and the list.
 use word::Word;
+ghost use Prim.Native.Nat.{_≤_};
 
-pub const RESULT: usize = 3;
+const SPLIT_OFF: u64 = 0xf2;
 
-pub const LIST: usize = 4;
+// The tag of an answer where the call may have changed its store.
+const CHANGED: u64 = 2;
+
+const RESULT: usize = 3;
+
+const LIST: usize = 4;
 
 pub const ALL: usize = 5;
 
@@ -15,19 +21,19 @@ fn at(line: &[u64; 1024], i: usize) -> u64 {
     if i < 1024 { line[i] } else { 0 }
 }
 
-// How many numbers of a part the line has: a store's words in use, as far as the store goes.
-pub fn size(line: &[u64; 1024], part: usize) -> usize {
-    match part {
-        0 => word::min(line[9] as usize, line[10] as usize),
-        1 => word::min(line[11] as usize, line[12] as usize),
-        2 => word::min(line[13] as usize, line[14] as usize),
-        3 => line[15] as usize,
-        _ => line[16] as usize,
-    }
-}
-
 fn plus(a: usize, b: usize) -> usize {
     std::num::wrapping_add_usize(a, b)
+}
+
+// How many numbers of a part the line has: a store's words in use, as far as the store goes.
+fn size(line: &[u64; 1024], part: usize) -> usize {
+    if part < RESULT {
+        return word::min(
+            at(line, 9 + 2 * part) as usize,
+            at(line, 10 + 2 * part) as usize,
+        );
+    }
+    at(line, plus(12, part)) as usize
 }
 
 // Where a part begins; all parts end where part 5 would begin.
@@ -59,42 +65,61 @@ fn pattern(seed: u64, k: usize) -> u64 {
     )
 }
 
-// Store `part` before the call: the words in use, and the pattern behind them.
-pub fn load(line: &[u64; 1024], part: usize, store: &mut [u64]) {
-    let from = start(line, part);
-    let n = size(line, part);
-    for k in 0..store.len() {
-        store[k] = if k < n {
-            at(line, plus(from, k))
-        } else {
-            pattern(line[1], part << 6 | k)
-        };
-    }
+// Word k of a part.
+fn number(line: &[u64; 1024], part: usize, k: usize) -> u64 {
+    at(line, plus(start(line, part), k))
 }
 
-// Word k of what a changing call leaves where there were `count` words in use: n words from a place of the line on, then zeros, then the old word.
-fn settled(line: &[u64; 1024], from: usize, n: usize, count: usize, k: usize, old: u64) -> u64 {
-    if k < n {
-        return at(line, plus(from, k));
+// Word k of store `part` before the call: the words in use, and the pattern behind them.
+fn before(line: &[u64; 1024], part: usize, k: usize) -> u64 {
+    if k < size(line, part) {
+        return number(line, part, k);
     }
-    if k < count { 0 } else { old }
+    pattern(line[1], part << 6 | k)
 }
 
-// What a changing call leaves in a store that had `count` words in use: the words of a part, zeros up to that count, the rest as it was.
-pub fn settle(line: &[u64; 1024], part: usize, count: usize, store: &mut [u64]) {
-    let from = start(line, part);
-    let n = size(line, part);
-    for k in 0..store.len() {
-        store[k] = settled(line, from, n, count, k, store[k]);
+// The part that has the words which the call is to leave in store `part`: that store itself where it is left as it was.
+fn result(op: u64, tag: u64, part: usize) -> usize {
+    if tag == CHANGED {
+        if part == 0 {
+            return RESULT;
+        }
+        if op == SPLIT_OFF {
+            return LIST;
+        }
     }
+    part
 }
 
-pub fn same(a: &[u64], b: &[u64]) -> bool {
-    if a.len() != b.len() {
-        return false;
+// Word k of what the call is to leave in store `part`: the result's words, zeros up to the words that were in use in store 0, the rest as it was.
+fn after(line: &[u64; 1024], part: usize, k: usize) -> u64 {
+    let from = result(line[0], line[6], part);
+    if k < size(line, from) {
+        return number(line, from, k);
     }
-    for k in 0..a.len() {
-        if a[k] != b[k] {
+    if from == RESULT && k < size(line, 0) {
+        return 0;
+    }
+    before(line, part, k)
+}
+
+fn zeros() -> [u64; 64] {
+    [0u64; 64]
+}
+
+// Store `part` before the call.
+pub fn loaded(line: &[u64; 1024], part: usize) -> [u64; 64] {
+    let mut store = zeros();
+    for k in 0..64 {
+        store[k] = before(line, part, k);
+    }
+    store
+}
+
+// Whether the call leaves in store `part` what it is to leave.
+pub fn left(line: &[u64; 1024], part: usize, store: &[u64; 64]) -> bool {
+    for k in 0..64 {
+        if store[k] != after(line, part, k) {
             return false;
         }
     }
@@ -105,34 +130,53 @@ fn byte(x: u64) -> u8 {
     if x < 256 { x as u8 } else { 255 }
 }
 
-// The first n bytes of the list, and a pattern behind them.
-pub fn load_bytes(line: &[u64; 1024], n: usize, bytes: &mut [u8]) {
-    let from = start(line, LIST);
-    for k in 0..bytes.len() {
-        bytes[k] = if k < n {
-            byte(at(line, plus(from, k)))
-        } else {
-            byte(pattern(line[1], k) % 256)
-        };
+// Byte k where the list has n bytes: the list's, and a pattern behind them.
+fn byte_of(line: &[u64; 1024], n: usize, k: usize) -> u8 {
+    if k < n {
+        return byte(number(line, LIST, k));
     }
+    byte(pattern(line[1], k) % 256)
 }
 
-pub fn same_bytes(a: &[u8], b: &[u8]) -> bool {
-    if a.len() != b.len() {
-        return false;
+fn zero_bytes() -> [u8; 512] {
+    [0u8; 512]
+}
+
+// The first n bytes of the list, and a pattern behind them.
+pub fn bytes(line: &[u64; 1024], n: usize) -> [u8; 512] {
+    let mut bytes = zero_bytes();
+    for k in 0..512 {
+        bytes[k] = byte_of(line, n, k);
     }
-    for k in 0..a.len() {
-        if a[k] != b[k] {
+    bytes
+}
+
+// Whether the bytes are the list, and the pattern behind it.
+pub fn left_bytes(line: &[u64; 1024], bytes: &[u8; 512]) -> bool {
+    for k in 0..512 {
+        if bytes[k] != byte_of(line, line[16] as usize, k) {
             return false;
         }
     }
     true
 }
 
+fn zero_indexes() -> [usize; 64] {
+    [0usize; 64]
+}
+
 // The list as indexes.
-pub fn load_indexes(line: &[u64; 1024], list: &mut [usize]) {
-    let from = start(line, LIST);
-    for k in 0..list.len() {
-        list[k] = at(line, plus(from, k)) as usize;
+pub fn indexes(line: &[u64; 1024]) -> [usize; 64] {
+    let mut list = zero_indexes();
+    for k in 0..64 {
+        list[k] = number(line, LIST, k) as usize;
     }
+    list
+}
+
+pub fn at_most(x: u64, most: usize) -> usize
+    ensures { λ r. ⌜ r ≤ most ⌝ }
+{
+    let n = x as usize;
+    if n < most { n } else { most }
 }

@@ -4,10 +4,13 @@ use Rattle.replay.proofs.all.Statement.{statement}
 use Rattle.replay.proofs.all.Tie as tie
 
 abbrev Inv-loop : tie.InvT-loop
-Inv-loop buf₀ numbers₀ at₀ end₀ t₀ n₀ t8 buf numbers at end t n = n ≤ 100000000
+Inv-loop buf₀ numbers₀ l₀ t₀ n₀ t6 buf numbers l t n = n ≤ 100000000
 
 abbrev μ-loop : tie.MeasureT-loop
-μ-loop buf₀ numbers₀ at₀ end₀ t₀ n₀ t8 buf numbers at end t n = 100000000 - n
+μ-loop buf₀ numbers₀ l₀ t₀ n₀ t6 buf numbers l t n = 100000000 - n
+
+told-requires : tie.Need-told-requires Inv-loop μ-loop
+told-requires c κs = search needs
 
 loop-holds : tie.Need-loop-holds Inv-loop μ-loop
 loop-holds c = search needs
@@ -48,6 +51,7 @@ all-spec =
     (tie.spec
     Inv-loop
     μ-loop
+    told-requires
     loop-holds
     read-requires
     returns

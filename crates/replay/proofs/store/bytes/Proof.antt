@@ -1,0 +1,49 @@
+use borrow.Author.Needs.{needs}
+use Prim.Native.Nat.{_-_, _≤_}
+use Rattle.replay.proofs.store.bytes.Statement.{statement}
+use Rattle.replay.proofs.store.bytes.Tie as tie
+
+abbrev Inv-loop : tie.InvT-loop
+Inv-loop line n bytes₀ k₀ bytes k = k ≤ 512
+
+abbrev μ-loop : tie.MeasureT-loop
+μ-loop line n bytes₀ k₀ bytes k = 512 - k
+
+zero-bytes-requires : tie.Need-zero-bytes-requires Inv-loop μ-loop
+zero-bytes-requires c κs = search needs
+
+loop-holds : tie.Need-loop-holds Inv-loop μ-loop
+loop-holds c = search needs
+
+byte-of-requires : tie.Need-byte-of-requires Inv-loop μ-loop
+byte-of-requires c κs = search needs
+
+array-write-bytes : tie.Need-array-write-bytes Inv-loop μ-loop
+array-write-bytes c = search needs
+
+add-k : tie.Need-add-k Inv-loop μ-loop
+add-k c = search needs
+
+loop-less : tie.Need-loop-less Inv-loop μ-loop
+loop-less c = search needs
+
+loop-again : tie.Need-loop-again Inv-loop μ-loop
+loop-again c = search needs
+
+returns : tie.Need-returns Inv-loop μ-loop
+returns c = search needs
+
+pub bytes-spec : {M : Type 1} → statement M
+bytes-spec =
+    tie.close
+    (tie.spec
+    Inv-loop
+    μ-loop
+    zero-bytes-requires
+    loop-holds
+    byte-of-requires
+    array-write-bytes
+    add-k
+    loop-less
+    loop-again
+    returns)

@@ -1,0 +1,53 @@
+use borrow.Author.Needs.{needs}
+use Prim.Native.Nat.{_-_, _≤_}
+use Rattle.replay.proofs.store.left_bytes.Statement.{statement}
+use Rattle.replay.proofs.store.left_bytes.Tie as tie
+
+abbrev Inv-loop : tie.InvT-loop
+Inv-loop line bytes k₀ k = k ≤ 512
+
+abbrev μ-loop : tie.MeasureT-loop
+μ-loop line bytes k₀ k = 512 - k
+
+loop-holds : tie.Need-loop-holds Inv-loop μ-loop
+loop-holds c = search needs
+
+element-copy-out-if1 : tie.Need-element-copy-out-if1 Inv-loop μ-loop
+element-copy-out-if1 c = search needs
+
+element-copy-out-byte-of : tie.Need-element-copy-out-byte-of Inv-loop μ-loop
+element-copy-out-byte-of c = search needs
+
+byte-of-requires : tie.Need-byte-of-requires Inv-loop μ-loop
+byte-of-requires c κs = search needs
+
+returns : tie.Need-returns Inv-loop μ-loop
+returns c = search needs
+
+add-k : tie.Need-add-k Inv-loop μ-loop
+add-k c = search needs
+
+loop-less : tie.Need-loop-less Inv-loop μ-loop
+loop-less c = search needs
+
+loop-again : tie.Need-loop-again Inv-loop μ-loop
+loop-again c = search needs
+
+returns-2 : tie.Need-returns-2 Inv-loop μ-loop
+returns-2 c = search needs
+
+pub left-bytes-spec : {M : Type 1} → statement M
+left-bytes-spec =
+    tie.close
+    (tie.spec
+    Inv-loop
+    μ-loop
+    loop-holds
+    element-copy-out-if1
+    element-copy-out-byte-of
+    byte-of-requires
+    returns
+    add-k
+    loop-less
+    loop-again
+    returns-2)
