@@ -14,9 +14,10 @@ pub struct Both {
 }
 
 impl Both {
+    /// Both copies are written, so that neither is a page of zeros that the system has not made yet.
     pub fn new(words: Vec<u64>) -> Both {
         let map = Bitmap64::from_slice(&words);
-        Both { words, map }
+        Both { words: map.as_words().to_vec(), map }
     }
 }
 

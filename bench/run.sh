@@ -11,7 +11,10 @@ root=$(cd "$(dirname "$0")/.." && pwd)
 src=$(cd "$1" && pwd)
 out=$root/target/bench
 mkdir -p "$out"
-(cd "$root" && rt staticlib capi >"$out/staticlib.log")
+(cd "$root" && rt staticlib capi) >"$out/log" 2>&1 || {
+    cat "$out/log"
+    exit 1
+}
 for flags in "-O" "-O -C target-cpu=native"; do
     "$root/oracle/build.sh" "$src" "$out" $flags
     rustc --edition 2024 $flags -C codegen-units=1 "$root/bench/main.rs" --extern vbitmap="$out/libvbitmap.rlib" \
