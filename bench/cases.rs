@@ -35,25 +35,32 @@ pub fn scans(n: usize) {
     reading("next_clear(1), all ones", n, || ffi::next_clear(bb(&ones.words), 1) as u64, || bb(&ones.map).next_clear(1) as u64);
     let same = Both::new(a.words.clone());
     reading("eq, equal", n, || ffi::eq(bb(&a.words), bb(&same.words)) as u64, || (*bb(&*a.map) == *bb(&*same.map)) as u64);
+}
+
+/// The sum of all places that a walk hands back.
+fn walked(mut next: impl FnMut(usize) -> Option<usize>) -> u64 {
+    let (mut sum, mut at) = (0u64, next(0));
+    while let Some(i) = at {
+        sum = sum.wrapping_add(i as u64);
+        at = next(i + 1);
+    }
+    sum
+}
+
+pub fn walks(n: usize) {
     for (k, name) in DENSITIES {
-        let m = Both::new(random(n, k, 3));
-        let ours = || {
-            let (mut sum, mut at) = (0u64, ffi::next_set(bb(&m.words), 0));
-            while let Some(i) = at {
-                sum = sum.wrapping_add(i as u64);
-                at = ffi::next_set(bb(&m.words), i + 1);
-            }
-            sum
-        };
-        let theirs = || {
-            let (mut sum, mut at) = (0u64, bb(&m.map).next_set(0));
-            while let Some(i) = at {
-                sum = sum.wrapping_add(i as u64);
-                at = bb(&m.map).next_set(i + 1);
-            }
-            sum
-        };
-        reading(&format!("next_set walk, {name}"), n, ours, theirs);
+        let (m, o) = (Both::new(random(n, k, 3)), Both::new(random(n, k, 5)));
+        reading(&format!("next_set walk, {name}"), n, || walked(|i| ffi::next_set(bb(&m.words), i)), || walked(|i| bb(&m.map).next_set(i)));
+        let ours = || walked(|i| ffi::iter_and(bb(&m.words), bb(&o.words), i));
+        reading(&format!("iter_and walk, {name}"), n, ours, || {
+            let mut walk = bb(&m.map).iter_and(bb(&o.map));
+            walked(|_| walk.next())
+        });
+        let ours = || walked(|i| ffi::iter_or(bb(&m.words), bb(&o.words), i));
+        reading(&format!("iter_or walk, {name}"), n, ours, || {
+            let mut walk = bb(&m.map).iter_or(bb(&o.map));
+            walked(|_| walk.next())
+        });
     }
 }
 
@@ -88,7 +95,9 @@ pub fn set_operations(n: usize) {
     changing("or_from", &a, 0, |w, c| ffi::or_from(w, c, bb(&l.words), bb(&b.words)), |m| m.or_from(bb(&l.map), bb(&b.map)));
     changing("xor_from", &a, 0, |w, c| ffi::xor_from(w, c, bb(&l.words), bb(&b.words)), |m| m.xor_from(bb(&l.map), bb(&b.map)));
     changing("dup_and (the Rust allocates)", &a, 0, |w, c| ffi::dup_and(w, c, bb(&l.words), bb(&b.words)), |m| *m = l.map.dup_and(bb(&b.map)));
+    changing("dup_andnot (the Rust allocates)", &a, 0, |w, c| ffi::dup_andnot(w, c, bb(&l.words), bb(&b.words)), |m| *m = l.map.dup_andnot(bb(&b.map)));
     changing("dup_or (the Rust allocates)", &a, 0, |w, c| ffi::dup_or(w, c, bb(&l.words), bb(&b.words)), |m| *m = l.map.dup_or(bb(&b.map)));
+    changing("dup_xor (the Rust allocates)", &a, 0, |w, c| ffi::dup_xor(w, c, bb(&l.words), bb(&b.words)), |m| *m = l.map.dup_xor(bb(&b.map)));
     let half = Both::new(random(n / 2, 1, 4));
     changing("and_from, one half as long", &a, 0, |w, c| ffi::and_from(w, c, bb(&l.words), bb(&half.words)), |m| m.and_from(bb(&l.map), bb(&half.map)));
     changing("xor_from, one half as long", &a, 0, |w, c| ffi::xor_from(w, c, bb(&l.words), bb(&half.words)), |m| m.xor_from(bb(&l.map), bb(&half.map)));

@@ -47,6 +47,21 @@ macro_rules! pair {
     )*};
 }
 
+/// The least member from i on of two combined bitmaps.
+macro_rules! walk {
+    ($($name:ident $raw:ident;)*) => {$(
+        pub fn $name(a: &[u64], b: &[u64], i: usize) -> Option<usize> {
+            unsafe extern "C" {
+                fn $raw(w: W, c: N, n: N, o: W, oc: N, on: N, i: N, f: O, p: O) -> u32;
+            }
+            let (mut found, mut place) = (0, 0);
+            let number = unsafe { $raw(a.as_ptr(), a.len(), a.len(), b.as_ptr(), b.len(), b.len(), i, &mut found, &mut place) };
+            assert_eq!(number, 0);
+            (found != 0).then_some(place)
+        }
+    )*};
+}
+
 /// A change by numbers.
 macro_rules! change {
     ($($name:ident $raw:ident ($($arg:ident),*);)*) => {$(
@@ -112,6 +127,11 @@ pair! {
     andnot_count taxolbin_andnot_count;
 }
 
+walk! {
+    iter_and taxolbin_iter_and;
+    iter_or taxolbin_iter_or;
+}
+
 change! {
     shift_left taxolbin_shift_left (k);
     shift_right taxolbin_shift_right (k);
@@ -140,7 +160,9 @@ from! {
     or_from taxolbin_or_from;
     xor_from taxolbin_xor_from;
     dup_and taxolbin_dup_and;
+    dup_andnot taxolbin_dup_andnot;
     dup_or taxolbin_dup_or;
+    dup_xor taxolbin_dup_xor;
 }
 
 pub fn set_region(w: &mut [u64], count: &mut usize, i: usize, value: bool, k: usize) {

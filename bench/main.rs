@@ -9,6 +9,7 @@ fn main() {
     timing::head(&title);
     for n in [1_000, 1_000_000] {
         cases::scans(n);
+        cases::walks(n);
         cases::counts(n);
         cases::set_operations(n);
         cases::moves(n);
