@@ -1,6 +1,8 @@
 //! Times of the library beside the Rust it is ported from.
 mod cases;
 mod ffi;
+#[path = "../oracle/rng.rs"]
+mod rng;
 mod sheets;
 mod timing;
 

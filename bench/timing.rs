@@ -1,20 +1,9 @@
 //! Both sides in one run on the same inputs: results are compared first, then rounds of the one and of the other follow each other, and the least
 //! time of each is kept.
+use crate::rng::Rng;
 use std::hint::black_box as bb;
 use std::time::Instant;
 use vbitmap::Bitmap64;
-
-/// Random numbers, the same in every run.
-pub struct Rng(pub u64);
-
-impl Rng {
-    pub fn next(&mut self) -> u64 {
-        self.0 ^= self.0 << 13;
-        self.0 ^= self.0 >> 7;
-        self.0 ^= self.0 << 17;
-        self.0.wrapping_mul(0x2545_F491_4F6C_DD1D)
-    }
-}
 
 /// Words of which each bit is set with probability 1/2^k; the last word is not zero.
 pub fn random(n: usize, k: u32, seed: u64) -> Vec<u64> {

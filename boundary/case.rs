@@ -1,4 +1,5 @@
 // A case: what a call is given. Where a call has no use for a part, it is empty or 0. Random cases, and smaller ones of one that fails.
+use crate::rng::Rng;
 
 // Stores a, b and d with their counts n, m and l; bytes for a text, a sheet or a buffer; numbers; and an addition's duty, p, k and flag.
 #[derive(Clone, Debug, Default, PartialEq)]
@@ -29,29 +30,7 @@ pub struct Out {
     pub bytes: Vec<u8>,
 }
 
-pub struct Random(pub u64);
-
-impl Random {
-    pub fn next(&mut self) -> u64 {
-        self.0 ^= self.0 << 13;
-        self.0 ^= self.0 >> 7;
-        self.0 ^= self.0 << 17;
-        self.0.wrapping_mul(0x2545_f491_4f6c_dd1d)
-    }
-
-    // 0 where n is 0
-    pub fn below(&mut self, n: u64) -> u64 {
-        if n == 0 {
-            0
-        } else {
-            (self.next() >> 11) % n
-        }
-    }
-
-    pub fn pick<T: Copy>(&mut self, from: &[T]) -> T {
-        from[self.below(from.len() as u64) as usize]
-    }
-
+impl Rng {
     pub fn word(&mut self) -> u64 {
         match self.below(8) {
             0 | 1 => 0,

@@ -8,10 +8,13 @@ mod far;
 mod lists;
 mod model;
 mod original;
+#[path = "../oracle/rng.rs"]
+mod rng;
 mod sheets;
 
 use archive::{Call, CALLS};
-use case::{smaller, Case, Out, Random};
+use case::{smaller, Case, Out};
+use rng::Rng;
 use std::collections::BTreeMap;
 
 fn expected(name: &str, c: &Case) -> Out {
@@ -49,7 +52,7 @@ fn fail(name: &str, call: &Call, mut c: Case) -> ! {
     std::process::exit(1);
 }
 
-fn case(r: &mut Random, name: &str, most: u64) -> Case {
+fn case(r: &mut Rng, name: &str, most: u64) -> Case {
     match name {
         "read" => {
             let mut c = r.case(name, most);
@@ -76,7 +79,7 @@ fn case(r: &mut Random, name: &str, most: u64) -> Case {
 }
 
 // One call's rounds: short cases, then long ones, with a line of how they went.
-fn rounds(name: &str, call: &Call, short: u64, long: u64, r: &mut Random) {
+fn rounds(name: &str, call: &Call, short: u64, long: u64, r: &mut Rng) {
     let mut numbers = BTreeMap::new();
     let mut beside = 0;
     for k in 0..short + long {
@@ -94,7 +97,7 @@ fn rounds(name: &str, call: &Call, short: u64, long: u64, r: &mut Random) {
 }
 
 // Whole lists of calls: the writer's answers and bytes are the plain sheet's, which sees no buffer. Bytes past the sheet may change between calls.
-fn sessions(count: u64, r: &mut Random) {
+fn sessions(count: u64, r: &mut Rng) {
     let find = |name: &str| &CALLS.iter().find(|c| c.0 == name).expect("a call").1;
     let (start, add) = (find("taxolbin_start"), find("taxolbin_add"));
     let mut calls = 0;
@@ -126,7 +129,7 @@ fn main() {
     let numbers: Vec<u64> = std::env::args().skip(1).map(|a| a.parse().expect("ROUNDS SEED")).collect();
     let [short, seed] = numbers[..] else { panic!("usage: boundary ROUNDS SEED") };
     std::panic::set_hook(Box::new(|_| {}));
-    let mut r = Random(seed.wrapping_mul(2).wrapping_add(1));
+    let mut r = Rng(seed.wrapping_mul(2).wrapping_add(1));
     for (symbol, call) in CALLS {
         let name = symbol.strip_prefix("taxolbin_").expect("the prefix");
         rounds(name, call, short, short / 100 + 1, &mut r);

@@ -1,6 +1,7 @@
 // The change sheet, naively: its reader by 01's order, whose steps are the model's calls; the plain sheet, which holds records and sees no buffer; and
 // random sheets, some of them damaged.
-use crate::case::{Case, Out, Random};
+use crate::case::{Case, Out};
+use crate::rng::Rng;
 use crate::model::{self, LIMIT};
 
 // Payload bytes and first edition of the kinds 1 to 11.
@@ -222,7 +223,7 @@ pub fn write(name: &str, c: &Case) -> Out {
     out
 }
 
-impl Random {
+impl Rng {
     // Fields of an addition, most of them good.
     pub fn addition(&mut self, capacity: usize) -> Case {
         let mut c = Case { x: 1 + self.below(11), y: self.below(65), z: self.word(), ..Case::default() };

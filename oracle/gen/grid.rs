@@ -1,6 +1,7 @@
 //! The small arguments, all of them, call by call.
 use crate::calls::{Args, Op};
-use crate::random::{F, Rng};
+use crate::random::F;
+use crate::rng::Rng;
 
 const TWO: &[u64] = &[0x8000_0000_0000_0003, 0xc000_0000_0000_0001];
 const SMALL: [&[u64]; 10] = [&[], &[0], &[1], &[F], &[1 << 63], &[1, 0], &[F, F], &[0, 1], &[0, 0], &[F, 1 << 63]];

@@ -2,9 +2,12 @@
 mod calls;
 mod grid;
 mod random;
+#[path = "../rng.rs"]
+mod rng;
 
 use calls::{Args, NAMES, Op, Out, refused, run};
-use random::{F, Rng};
+use random::F;
+use rng::Rng;
 use std::collections::HashSet;
 use vbitmap::{BitSlice, Word};
 

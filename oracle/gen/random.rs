@@ -1,27 +1,11 @@
 //! Random arguments round every boundary.
 use crate::calls::{Args, Op};
+use crate::rng::Rng;
 use vbitmap::BitSlice;
 
 pub const F: u64 = !0;
 
-pub struct Rng(pub u64);
-
 impl Rng {
-    pub fn next(&mut self) -> u64 {
-        self.0 ^= self.0 << 13;
-        self.0 ^= self.0 >> 7;
-        self.0 ^= self.0 << 17;
-        self.0.wrapping_mul(0x2545_F491_4F6C_DD1D)
-    }
-
-    pub fn below(&mut self, n: u64) -> u64 {
-        if n == 0 { 0 } else { (self.next() >> 11) % n }
-    }
-
-    pub fn pick<T: Copy>(&mut self, v: &[T]) -> T {
-        v[self.below(v.len() as u64) as usize]
-    }
-
     fn word(&mut self) -> u64 {
         match self.below(10) {
             0..=2 => 0,
