@@ -10,7 +10,8 @@
  * which they are looked for. Every argument may have every value, and is then done or refused: counts above their stores and indexes up to
  * SIZE_MAX too.
  *
- * - A call that changes a bitmap takes its count by a pointer, and leaves the new count there. A refused call changes no word, no byte and no count.
+ * - A call that changes a bitmap takes its count by a pointer, and leaves the new count there. A refused call changes no word, no byte and no count;
+ *   only taxolbin_read differs, as it says, and a count that is handed out alone (a dup form's, a tail's) becomes 0.
  * - A call that answers a number hands it out through a pointer: 0 where the call is refused. A search hands out found, 1 or 0, and place, which is 0
  *   where nothing is found.
  * - A truth value comes in as a number: 0 is false, any other is true.
@@ -249,7 +250,7 @@ uint32_t taxolbin_write_list(const uint64_t *words, size_t capacity, size_t coun
 /* ---- The change sheet ---- */
 
 /* Reads a sheet in edition 1 or 2: the old bitmap, changed by the sheet, into the result. Hands out the record (the refused one, or how many there
- * are) and the count. From 9 on a refusal leaves the result all zero. [14, 1, 2, 9, 6, 10, 13, 12, 11] */
+ * are) and the count. A refusal with 14, 1 or 2 leaves the result as it was, any other leaves it all zero. [14, 1, 2, 9, 6, 10, 13, 12, 11] */
 uint32_t taxolbin_read(
     size_t edition, const uint8_t *sheet, size_t length, const uint64_t *words, size_t capacity, size_t count, uint64_t *result, size_t rcapacity,
     size_t *record, size_t *rcount);
