@@ -10,8 +10,6 @@ use storage::Change;
 
 const SET_MANY: u64 = 0xf1;
 
-const SPLIT_OFF: u64 = 0xf2;
-
 const WRITE_LIST: u64 = 0xf3;
 
 const FROM_LIST: u64 = 0xf4;
@@ -38,7 +36,7 @@ fn takes(op: u64) -> u64 {
             if op == SET_MANY {
                 return INDEXES;
             }
-            if op == SPLIT_OFF {
+            if op == store::SPLIT_OFF {
                 TWO_OUTPUTS
             } else {
                 ONE_STORE

@@ -5,7 +5,7 @@
 use word::Word;
 ghost use Prim.Native.Nat.{_≤_};
 
-const SPLIT_OFF: u64 = 0xf2;
+pub const SPLIT_OFF: u64 = 0xf2;
 
 // The tag of an answer where the call may have changed its store.
 const CHANGED: u64 = 2;
