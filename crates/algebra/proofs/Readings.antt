@@ -92,18 +92,18 @@ abbrev pub isCount : (Bool → Bool → Bool) → Bits → Bits → Number
 isCount f b o = Number.Is (size (combined f b o))
 
 module _ (f : Bool → Bool → Bool) (ws : List ℕ) (n : ℕ) (os : List ℕ) (m : ℕ) where
-  pub test-stopped : {e : Refusal} → Stop e ≡ checkedBoth (length ws) n (length os) m → Truth.Refused e ≡ emptyOf f ws n os m
-  unfolding emptyOf
-  test-stopped {e} p = sym (both-stopped ws n os m Truth.Refused (isEmpty f) e p)
-
   pub tested : {t : Bool} → BothPassed (length ws) n (length os) m → t ≡ eqb (size (made f (take n ws) (take m os))) 0 → Truth.Is t ≡ emptyOf f ws n os m
   unfolding emptyOf
   tested p e = ap Truth.Is e ∙ sym (both-read ws n os m Truth.Refused (isEmpty f) p)
 
-  pub count-stopped : {e : Refusal} → Stop e ≡ checkedBoth (length ws) n (length os) m → Number.Refused e ≡ countOf f ws n os m
-  unfolding countOf
-  count-stopped {e} p = sym (both-stopped ws n os m Number.Refused (isCount f) e p)
+  pub test-stopped : {e : Refusal} → Stop e ≡ checkedBoth (length ws) n (length os) m → Truth.Refused e ≡ emptyOf f ws n os m
+  unfolding emptyOf
+  test-stopped {e} p = sym (both-stopped ws n os m Truth.Refused (isEmpty f) e p)
 
   pub counted : {x : ℕ} → BothPassed (length ws) n (length os) m → x ≡ size (made f (take n ws) (take m os)) → Number.Is x ≡ countOf f ws n os m
   unfolding countOf
   counted p e = ap Number.Is e ∙ sym (both-read ws n os m Number.Refused (isCount f) p)
+
+  pub count-stopped : {e : Refusal} → Stop e ≡ checkedBoth (length ws) n (length os) m → Number.Refused e ≡ countOf f ws n os m
+  unfolding countOf
+  count-stopped {e} p = sym (both-stopped ws n os m Number.Refused (isCount f) e p)
