@@ -5,7 +5,7 @@ use native.Mathlib.Omega.{arith}
 use lib.Bits.{bitAnd, bitOr, bitXor, and-le-l, and-le-r, or-add-and, xor-add-and}
 use Rattle.word.proofs.Cases.{by-eq}
 
-or-none : (a b : ℕ) → bitOr a b ≡ 0 → (a ≡ 0) × (b ≡ 0)
+pub or-none : (a b : ℕ) → bitOr a b ≡ 0 → (a ≡ 0) × (b ≡ 0)
 or-none a b e =
     let s : bitOr a b + bitAnd a b ≡ a + b = or-add-and a b in
     (omega (arith, and-le-l a b, and-le-r a b), omega (arith, and-le-l a b, and-le-r a b))

@@ -1,0 +1,57 @@
+use Prim.Native.Nat.{_-_, _≤_}
+use native.Mathlib.Omega.{arith}
+use borrow.Author.Needs.{needs}
+use Rattle.arch.specs.Scans.{Alike}
+use Rattle.arch.proofs.Scans.{alike-none, alike-join}
+use Rattle.pairs.specs.Pairs.{wordsBy}
+use Rattle.pairs.proofs.zero_eights.Statement.{statement}
+use Rattle.pairs.proofs.zero_eights.Tie as tie
+
+abbrev Inv-loop : tie.InvT-loop
+Inv-loop op a b both i₀ i = (i ≤ both) × Alike (wordsBy op a b) 0 0 i
+
+abbrev μ-loop : tie.MeasureT-loop
+μ-loop op a b both i₀ i = both - i
+
+min-requires : tie.Need-min-requires Inv-loop μ-loop
+min-requires c κs = search needs
+
+loop-holds : tie.Need-loop-holds Inv-loop μ-loop
+loop-holds c = (omega arith, alike-none _ _ _ _ (omega arith))
+
+sub-loop : tie.Need-sub-loop Inv-loop μ-loop
+sub-loop c = omega arith
+
+some-in-eight-requires : tie.Need-some-in-eight-requires Inv-loop μ-loop
+some-in-eight-requires c κs = (omega arith, omega arith)
+
+returns : tie.Need-returns Inv-loop μ-loop
+returns c = c .before .before .before .loop .inv .1
+
+add-i : tie.Need-add-i Inv-loop μ-loop
+add-i c = omega arith
+
+loop-less : tie.Need-loop-less Inv-loop μ-loop
+loop-less c = omega arith
+
+loop-again : tie.Need-loop-again Inv-loop μ-loop
+loop-again c = (omega arith, alike-join (c .before .before .before .loop .inv .1) (c .before .some-in-eight .ensures (c .if1 .left)) (omega arith))
+
+returns-2 : tie.Need-returns-2 Inv-loop μ-loop
+returns-2 c = c .before .loop .inv .1
+
+pub zero-eights-spec : {M : Type 1} → statement M
+zero-eights-spec =
+    tie.close
+    (tie.spec
+    Inv-loop
+    μ-loop
+    min-requires
+    loop-holds
+    sub-loop
+    some-in-eight-requires
+    returns
+    add-i
+    loop-less
+    loop-again
+    returns-2)
