@@ -1,37 +1,16 @@
 -- The words of a set that a truth table makes of two lists of words. Assumes nothing.
-use mathlib.Core.Path.{_≡_, refl, sym, ap, ap₂, _∙_, subst}
+use mathlib.Core.Path.{_≡_, refl, sym, ap₂, _∙_, subst}
 use mathlib.Core.Bool.{Bool, true, false, _&&_, _||_}
 use mathlib.Core.List.{List}
 use Prim.Native.Nat.{ℕ, _+_, _*_, _^_, _<_}
-use native.Mathlib.Omega.{arith}
 use lib.ListN.{getD}
-use lib.Bits.{bitAnd, bitXor, and-lt, xor-lt, xor-zero-r}
-use borrow.Author.Tests.{lt-ltb}
 use Rattle.word.specs.Sets.{xorb}
 use Rattle.word.specs.Bits.{bit}
-use Rattle.word.specs.Words.{allOnes}
-use Rattle.word.proofs.Cases.{or-false, xor-true, xor-false, and-false, and-keep}
-use Rattle.word.proofs.Bits.{bit-and, bit-xor, bit-ones}
+use Rattle.word.proofs.Cases.{or-false, xor-false, and-false, and-keep}
 use Rattle.word.proofs.Lists.{member-at}
 use Rattle.storage.specs.Stores.{Bits, combined, andNot}
 use Rattle.storage.proofs.Operations.{WordOp}
 use Rattle.algebra.specs.Kernels.{made}
-
--- `x & (y ^ z)` at the two masks that are used
-pub met-and : WordOp (λ p q. p && q) (λ x y. bitAnd x (bitXor y 0))
-met-and = record {
-  bits = λ x y j h l. bit-and x (bitXor y 0) j ∙ ap (λ (z : ℕ). bit x j && bit z j) (xor-zero-r y);
-  fits = λ x y p q. and-lt 64 x (bitXor y 0) p (xor-lt 64 y 0 q (omega arith));
-}
-
-pub met-andnot : WordOp andNot (λ x y. bitAnd x (bitXor y allOnes))
-met-andnot = record {
-  bits = λ x y j h l.
-      bit-and x (bitXor y allOnes) j
-      ∙ ap (λ (t : Bool). bit x j && t)
-      (bit-xor y allOnes j ∙ ap (xorb (bit y j)) (bit-ones 64 j ∙ lt-ltb j 64 l) ∙ xor-true (bit y j));
-  fits = λ x y p q. and-lt 64 x (bitXor y allOnes) p (xor-lt 64 y allOnes q (omega arith));
-}
 
 -- x is word k of the set
 pub record Holds (c : Bits) (k x : ℕ) : Type 0 where
