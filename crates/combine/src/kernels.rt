@@ -1,4 +1,5 @@
 // The words that two bitmaps make together: how many there are, and each of them written.
+use pairs::SetOp;
 ghost use Prim.Native.Nat.{_≤_, min, max};
 ghost use lib.ListN.{length, getD};
 ghost use lib.Bits.{bitAnd, bitOr, bitXor};
@@ -31,14 +32,7 @@ pub(crate) fn copy_tail(words: &mut [u64], left: &[u64], right: &[u64], m: usize
 pub(crate) fn and_len(left: &[u64], right: &[u64]) -> usize
     ensures { λ r. ⌜ Ends bitAnd (now (left .entry)) (now (right .entry)) r ⌝ }
 {
-    let mut k = word::min(left.len(), right.len());
-    while k > 0 {
-        if left[k - 1] & right[k - 1] != 0 {
-            return k;
-        }
-        k -= 1;
-    }
-    0
+    pairs::nonzero_len(SetOp::And, left, right)
 }
 
 // Both bits, for the words below e.
@@ -57,17 +51,7 @@ pub(crate) fn and_words(words: &mut [u64], left: &[u64], right: &[u64], e: usize
 pub(crate) fn andnot_len(left: &[u64], right: &[u64]) -> usize
     ensures { λ r. ⌜ Ends wordAndNot (now (left .entry)) (now (right .entry)) r ⌝ }
 {
-    let mut k = arch::nonzero_len(left);
-    if k > right.len() {
-        return k;
-    }
-    while k > 0 {
-        if left[k - 1] & !right[k - 1] != 0 {
-            return k;
-        }
-        k -= 1;
-    }
-    0
+    pairs::nonzero_len(SetOp::AndNot, left, right)
 }
 
 // The first bit and not the second, for the words below e.
@@ -98,19 +82,7 @@ pub(crate) fn or_words(words: &mut [u64], left: &[u64], right: &[u64], e: usize)
 pub(crate) fn xor_len(left: &[u64], right: &[u64]) -> usize
     ensures { λ r. ⌜ Ends bitXor (now (left .entry)) (now (right .entry)) r ⌝ }
 {
-    let x = arch::nonzero_len(left);
-    let y = arch::nonzero_len(right);
-    if x != y {
-        return word::max(x, y);
-    }
-    let mut k = x;
-    while k > 0 {
-        if left[k - 1] ^ right[k - 1] != 0 {
-            return k;
-        }
-        k -= 1;
-    }
-    0
+    pairs::nonzero_len(SetOp::Xor, left, right)
 }
 
 // One bit only, for the words below e.
