@@ -130,7 +130,9 @@ pub fn regions(n: usize) {
     let k = 64 * n - 200;
     changing("set_region(100, true)", &a, 0, |w, c| ffi::set_region(w, c, bb(100), true, bb(k)), |m| m.set_region(bb(100), true, bb(k)));
     changing("set_region(100, false)", &a, 0, |w, c| ffi::set_region(w, c, bb(100), false, bb(k)), |m| m.set_region(bb(100), false, bb(k)));
-    changing("toggle_region(100)", &a, 0, |w, c| ffi::toggle_region(w, c, bb(100), bb(k)), |m| m.toggle_region(bb(100), bb(k)));
+    for i in [100, 164] {
+        changing(&format!("toggle_region({i})"), &a, 0, |w, c| ffi::toggle_region(w, c, bb(i), bb(k)), |m| m.toggle_region(bb(i), bb(k)));
+    }
     changing("append", &a, n, |w, c| ffi::append(w, c, bb(&a)), |m| m.append(BitSlice::new(bb(&a[..]))));
     changing("open(100, 10)", &a, 1, |w, c| ffi::open_gap(w, c, bb(100), bb(10)), |m| {
         let mut tail = m.split_off(bb(100));
