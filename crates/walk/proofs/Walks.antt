@@ -1,30 +1,37 @@
 -- A walk to the least member from a place on, word by word. Assumes nothing.
-use mathlib.Core.Path.{_≡_, refl, sym, ap, ap₂, _∙_}
+use mathlib.Core.Path.{_≡_, sym, ap, ap₂, _∙_, subst}
 use mathlib.Core.Bool.{Bool, true, false, _&&_, false≢true}
 use mathlib.Core.List.{List}
-use Prim.Native.Nat.{ℕ, _+_, _-_, _*_, _/_, _%_, _^_, _≤_, _<_, min, max}
+use Prim.Native.Nat.{ℕ, _+_, _-_, _*_, _/_, _%_, _^_, _≤_, _<_}
 use native.Mathlib.Nat.{mod-lt}
 use native.Mathlib.Omega.{arith}
-use lib.ListN.{length, take}
+use lib.ListN.{length, getD, take}
 use lib.Dec.{leb}
 use lib.Pow.{pow-pos}
 use borrow.Author.Tests.{lt-ltb, le-ltb, le-leb, lt-leb, leb-true}
 use Rattle.word.specs.Sets.{choose, leastFrom, Least}
 use Rattle.word.specs.Bits.{bit, member}
-use Rattle.word.proofs.Cases.{by-lt, by-eq, and-true, and-false}
+use Rattle.word.proofs.Cases.{by-lt, by-eq, and-true}
 use Rattle.word.proofs.Bits.{bit-zero, bit-from}
 use Rattle.word.proofs.Sets.{least, least-is}
 use Rattle.word.proofs.Words.{least-bit}
-use Rattle.word.proofs.Lists.{member-past}
+use Rattle.word.proofs.Lists.{past, at-place, member-at, member-past}
 use Rattle.storage.specs.Stores.{Bits, limit, combined, foundBelow, nextFrom}
 use Rattle.storage.specs.declared.Refusal.{Refusal}
 use Rattle.storage.specs.declared.Guard.the-variants.{Stop}
 use Rattle.storage.specs.declared.Found.{Found}
 use Rattle.storage.specs.declared.Found.the-variants.{At, Nothing, Refused}
+use Rattle.arch.specs.Scans.{Alike}
+use Rattle.arch.proofs.Scans.{alike-join}
+use Rattle.pairs.specs.Pairs.{tableOf, wordsBy}
+use Rattle.pairs.specs.Kernels.{endBy}
+use Rattle.pairs.specs.declared.SetOp.{SetOp}
+use Rattle.pairs.proofs.Tables.{by-length, by-fit, by-member}
+use Rattle.pairs.proofs.Scans.{past-end}
 use Rattle.algebra.specs.Algebra.{checkedBoth}
 use Rattle.algebra.specs.Kernels.{made}
 use Rattle.algebra.proofs.Readings.{BothPassed, both-stopped, both-read}
-use Rattle.algebra.proofs.Tables.{Holds, Keeps}
+use Rattle.algebra.proofs.Tables.{Holds}
 use Rattle.walk.specs.Walks.{walkOf}
 
 -- no member from i on is below word k, and w has those of word k that are
@@ -60,14 +67,6 @@ ahead-passed {c} {i} {k} {w} a e q p l =
     ∙ ap (λ (y : ℕ). leb i y && c .members y) (sym s)
     ∙ sym (a .bits j (omega arith)) ∙ ap (λ (y : ℕ). bit y j) e ∙ bit-zero j)
 
-pub ahead-next : {c : Bits} {i k w x : ℕ} → Ahead c i k w → w ≡ 0 → Holds c (k + 1) x → Ahead c i (k + 1) x
-ahead-next {c} {i} {k} a e h = record {
-  fits = h .fits;
-  near = omega (arith, a .near);
-  under = λ q p l. ahead-passed a e q p l;
-  bits = λ j l. h .bits j l ∙ ap (λ (t : Bool). t && c .members (64 * (k + 1) + j)) (sym (le-leb i (64 * (k + 1) + j) (omega (arith, a .near))));
-}
-
 -- ---- where it stops
 
 -- p is the least member from i on
@@ -92,14 +91,6 @@ none-is c i u = sym (ap (λ (t : Bool). choose t (At p) Nothing) (le-ltb p (64 *
     past : 64 * c .count ≤ p
     past = by-lt p (64 * c .count) (λ l. absurd (false≢true (sym (u p (r .from) l) ∙ r .here (omega (arith, r .from))))) (λ l. l)
 
--- no word from e on has a member
-pub record Ends (c : Bits) (e : ℕ) : Type 0 where
-  pub past : (q : ℕ) → 64 * e ≤ q → c .members q ≡ false
-
-pub ahead-none : {c : Bits} {i k w e : ℕ} → Ahead c i k w → w ≡ 0 → Ends c e → e ≤ k + 1 → Nothing ≡ nextFrom c i
-ahead-none {c} {i} {k} {w} {e} a z d h =
-    none-is c i (λ q p l. by-lt q (64 * (k + 1)) (λ m. ahead-passed a z q p m) (λ m. d .past q (omega arith)))
-
 -- the least bit of w
 ahead-bit : {c : Bits} {i k w : ℕ} → Ahead c i k w → (w ≡ 0 → ⊥)
     → (leastFrom (bit w) 0 64 < 64) × (leb i (64 * k + leastFrom (bit w) 0 64) ≡ true) × (c .members (64 * k + leastFrom (bit w) 0 64) ≡ true)
@@ -109,20 +100,13 @@ ahead-bit {c} {i} {k} {w} a z =
     (sym (a .bits (leastFrom (bit w) 0 64) l) ∙ least (bit w) 0 64 .here (omega arith)) in
     (l, b .0, b .1)
 
--- a word that is not 0 is one of the set's
-pub ahead-in : {c : Bits} {i k w : ℕ} → Ahead c i k w → (w ≡ 0 → ⊥) → Ends c (c .count) → k < c .count
-ahead-in {c} {i} {k} {w} a z d =
-    let b = ahead-bit a z in
-    by-lt k (c .count) (λ l. l)
-    (λ l. absurd (false≢true (sym (d .past (64 * k + leastFrom (bit w) 0 64) (omega arith)) ∙ b .2)))
-
-pub ahead-found : {c : Bits} {i k w t : ℕ} → Ahead c i k w → (w ≡ 0 → ⊥) → Ends c (c .count) → t ≡ leastFrom (bit w) 0 64 → At (64 * k + t) ≡ nextFrom c i
-ahead-found {c} {i} {k} {w} {t} a z d e =
+ahead-found : {c : Bits} {i k w t : ℕ} → Ahead c i k w → (w ≡ 0 → ⊥) → k < c .count → t ≡ leastFrom (bit w) 0 64 → At (64 * k + t) ≡ nextFrom c i
+ahead-found {c} {i} {k} {w} {t} a z h e =
     let b = ahead-bit a z in
     let j : ℕ = leastFrom (bit w) 0 64 in
     let m : j < 64 = b .0 in
     ap (λ (y : ℕ). At (64 * k + y)) e
-    ∙ found-is c i (64 * k + j) (omega (arith, ahead-in a z d)) (leb-true i (64 * k + j) (b .1)) (b .2)
+    ∙ found-is c i (64 * k + j) (omega arith) (leb-true i (64 * k + j) (b .1)) (b .2)
     (λ q p l.
     by-lt q (64 * k)
     (λ h. a .under q p h)
@@ -136,40 +120,82 @@ ahead-found {c} {i} {k} {w} {t} a z d e =
 pub least64 : (w : ℕ) → leastFrom (bit w) 0 64 ≤ 64
 least64 w = least (bit w) 0 64 .within
 
--- ---- a set that a truth table makes of two lists of words
+-- ---- a set that an operation makes of two lists of words
 
-module _ {f : Bool → Bool → Bool} {one two : Bool} (t : Keeps f one two) (xs ys : List ℕ) where
-  pub ends : (e : ℕ) → min (length xs) (length ys) ≤ e → choose one (length xs) 0 ≤ e → choose two (length ys) 0 ≤ e → Ends (made f xs ys) e
+module _ (op : SetOp) (xs ys : List ℕ) where
+  abbrev words : List ℕ
+  words = wordsBy op xs ys
+
+  abbrev set : Bits
+  set = made (tableOf op) xs ys
+
+  holds-word : (k x : ℕ) → x ≡ getD (wordsBy op xs ys) k 0 → Holds (made (tableOf op) xs ys) k x
   unfolding combined
-  ends e h p q = record {
-    past = λ i l.
-        by-lt e (length xs)
-        (λ m. ap (f (member xs i)) (member-past ys i (omega arith)) ∙ t .first (member xs i) ∙ dropped one (length xs) e (member xs i) p m)
-        (λ m.
-        ap (λ (b : Bool). f b (member ys i)) (member-past xs i (omega arith)) ∙ t .second (member ys i)
-        ∙ by-lt e (length ys)
-        (λ n. dropped two (length ys) e (member ys i) q n)
-        (λ n. ap (λ (b : Bool). two && b) (member-past ys i (omega arith)) ∙ and-false two));
+  holds-word k x e = record {
+    fits = subst (λ (y : ℕ). y < 2 ^ 64) (sym e) (by-fit op xs ys k);
+    bits = λ j l. ap (λ (y : ℕ). bit y j) e ∙ sym (member-at words k j l) ∙ by-member op xs ys (64 * k + j);
   }
-    where
-      dropped : (keep : Bool) (n e : ℕ) (b : Bool) → choose keep n 0 ≤ e → e < n → keep && b ≡ false
-      dropped true n e b h l = absurd (omega arith)
-      dropped false n e b h l = refl
 
-  whole-ends : Ends (made f xs ys) (made f xs ys .count)
+  count-long : made (tableOf op) xs ys .count ≡ length (wordsBy op xs ys)
   unfolding combined
-  whole-ends = ends (max (length xs) (length ys)) (omega arith) (most one (length xs) (omega arith)) (most two (length ys) (omega arith))
-    where
-      most : (keep : Bool) (n : ℕ) → n ≤ max (length xs) (length ys) → choose keep n 0 ≤ max (length xs) (length ys)
-      most true n h = h
-      most false n h = omega arith
+  count-long = sym (by-length op xs ys)
 
-  pub walk-in : {i k w : ℕ} → Ahead (made f xs ys) i k w → (w ≡ 0 → ⊥) → length xs ≤ limit → length ys ≤ limit → k < limit
+  -- words that are 0 have no member, nor has what is past the end
+  no-member : {a e : ℕ} → Alike (wordsBy op xs ys) 0 a e → (q : ℕ) → 64 * a ≤ q → q < 64 * e → made (tableOf op) xs ys .members q ≡ false
   unfolding combined
-  walk-in a z h l = omega (arith, ahead-in a z whole-ends)
+  no-member z q p l =
+      sym (by-member op xs ys q) ∙ ap (member words) (sym (at-place q)) ∙ member-at words (q / 64) (q % 64) (omega arith)
+      ∙ ap (λ (y : ℕ). bit y (q % 64)) (z .at (q / 64) (omega arith) (omega arith)) ∙ bit-zero (q % 64)
 
-  pub walk-found : {i k w v : ℕ} → Ahead (made f xs ys) i k w → (w ≡ 0 → ⊥) → v ≡ leastFrom (bit w) 0 64 → At (64 * k + v) ≡ nextFrom (made f xs ys) i
-  walk-found a z e = ahead-found a z whole-ends e
+  no-past : (q : ℕ) → 64 * length (wordsBy op xs ys) ≤ q → made (tableOf op) xs ys .members q ≡ false
+  unfolding combined
+  no-past q l = sym (by-member op xs ys q) ∙ member-past words q l
+
+  -- a word that is not 0 is one of the longer list's
+  pub word-below : (k x : ℕ) → x ≡ getD (wordsBy op xs ys) k 0 → (x ≡ 0 → ⊥) → length xs ≤ limit → length ys ≤ limit → k < limit
+  word-below k x e z h l = by-lt k (length words) (λ m. omega (arith, by-length op xs ys)) (λ m. absurd (z (e ∙ past words k m)))
+
+  module _ (i x : ℕ) (e : x ≡ getD (wordsBy op xs ys) (i / 64) 0) where
+    abbrev here : ℕ
+    here = x / 2 ^ (i % 64) * 2 ^ (i % 64) % 2 ^ 64
+
+    ahead : Ahead (made (tableOf op) xs ys) i (i / 64) (x / 2 ^ (i % 64) * 2 ^ (i % 64) % 2 ^ 64)
+    ahead = ahead-start i (holds-word (i / 64) x e)
+
+    pub next-here : {v : ℕ} → (here ≡ 0 → ⊥) → v ≡ leastFrom (bit here) 0 64 → At (64 * (i / 64) + v) ≡ nextFrom set i
+    next-here z t = ahead-found ahead z (omega (arith, count-long, inside)) t
+      where
+        inside : i / 64 < length (wordsBy op xs ys)
+        inside =
+            let b = ahead-bit ahead z in
+            by-lt (i / 64) (length words) (λ l. l)
+            (λ l. absurd (false≢true (sym (no-past (64 * (i / 64) + leastFrom (bit here) 0 64) (omega arith)) ∙ b .2)))
+
+    pub here-below : (here ≡ 0 → ⊥) → leastFrom (bit here) 0 64 < 64
+    here-below z = ahead-bit ahead z .0
+
+    -- further on, past words that are 0
+    module _ (z : here ≡ 0) (p : ℕ) (h : i / 64 + 1 ≤ p) (s : Alike (wordsBy op xs ys) 0 (i / 64 + 1) p) where
+      far : (y : ℕ) → y ≡ getD (wordsBy op xs ys) p 0 → Ahead (made (tableOf op) xs ys) i p y
+      far y g = record {
+        fits = holds-word p y g .fits;
+        near = omega arith;
+        under = λ q a l. by-lt q (64 * (i / 64 + 1)) (λ m. ahead-passed ahead z q a m) (λ m. no-member s q m l);
+        bits = λ j l. holds-word p y g .bits j l ∙ ap (λ (t : Bool). t && made (tableOf op) xs ys .members (64 * p + j)) (sym (le-leb i (64 * p + j) (omega arith)));
+      }
+
+      pub next-later : {y v : ℕ} → y ≡ getD (wordsBy op xs ys) p 0 → (y ≡ 0 → ⊥) → v ≡ leastFrom (bit y) 0 64 → At (64 * p + v) ≡ nextFrom set i
+      next-later {y} g n t =
+          ahead-found (far y g) n
+          (by-lt p (length words) (λ l. omega (arith, count-long)) (λ l. absurd (n (g ∙ past words p l)))) t
+
+      pub next-none : (e : ℕ) → e ≡ endBy op (length xs) (length ys) → e ≤ p → Nothing ≡ nextFrom set i
+      next-none e q l =
+          none-is set i
+          (λ r a m.
+          by-lt r (64 * (i / 64 + 1))
+          (λ n. ahead-passed ahead z r a n)
+          (λ n. no-member (alike-join s (past-end op xs ys e q (length words)) l) r n (omega (arith, count-long))))
 
 -- ---- the call
 
