@@ -1,4 +1,5 @@
 // One line: the call made on stores that are filled as the line says, and what it answers and leaves compared with the line.
+use crate::answer;
 use crate::answer::Answer;
 use crate::call;
 use crate::store;
@@ -17,6 +18,10 @@ pub const OTHER_OUTPUT: u64 = 3;
 
 pub const MALFORMED: u64 = 4;
 
+const WRITE_LIST: u64 = 0xf3;
+
+const FROM_LIST: u64 = 0xf4;
+
 // How many calls a kind has: the high digit of a call's number is its kind, by what it takes and answers.
 const CALLS: [u64; 16] = [8, 6, 5, 4, 6, 4, 4, 4, 7, 6, 5, 6, 5, 4, 4, 5];
 
@@ -28,64 +33,93 @@ fn known(op: u64) -> bool {
     op == TITLE
 }
 
-// Whether parts of these sizes have room here.
-fn has_room(a: u64, b: u64, c: u64, result: u64, list: u64) -> bool {
-    a <= 64 && b <= 64 && c <= 64 && result <= 64 && list <= 512
+// Whether the parts of the line have room here.
+fn has_room(line: &[u64; 1024]) -> bool {
+    store::at(line, 9) <= 64
+        && store::at(line, 11) <= 64
+        && store::at(line, 13) <= 64
+        && store::at(line, 15) <= 64
+        && store::at(line, 16) <= 512
 }
 
 // Whether the line has a known call, an odd seed, parts that have room here, and exactly `count` numbers.
 pub fn sound(line: &[u64; 1024], count: usize) -> bool {
-    if known(line[0]) && line[1] % 2 == 1 {
-        let room = has_room(line[9], line[11], line[13], line[15], line[16]);
-        return room && count == store::start(line, store::ALL);
+    known(store::at(line, 0))
+        && store::at(line, 1) % 2 == 1
+        && has_room(line)
+        && count == store::start(line, store::ALL)
+}
+
+// Whether the answer is the line's.
+fn answered(line: &[u64; 1024], got: Answer) -> bool {
+    got.number == store::at(line, 5)
+        && got.tag == store::at(line, 6)
+        && got.value == store::at(line, 7)
+        && got.also == store::at(line, 8)
+}
+
+// What the answer shows.
+fn told(line: &[u64; 1024], got: Answer) -> u64 {
+    if answered(line, got) {
+        AGREES
+    } else {
+        OTHER_ANSWER
     }
-    false
 }
 
-fn answered(got: Answer, number: u64, tag: u64, value: u64, also: u64) -> bool {
-    got.number == number && got.tag == tag && got.value == value && got.also == also
-}
-
-// What differs, of the answer, the words and the second output.
-fn told(answer: bool, words: bool, output: bool) -> u64 {
-    if !answer {
+// What the answer and the bytes show.
+fn told_text(line: &[u64; 1024], got: Answer, bytes: &[u8; 512]) -> u64 {
+    if !answered(line, got) {
         return OTHER_ANSWER;
     }
-    if !words {
-        return OTHER_WORDS;
+    if store::left_bytes(line, store::length(line), bytes) {
+        AGREES
+    } else {
+        OTHER_OUTPUT
     }
-    if output { AGREES } else { OTHER_OUTPUT }
 }
 
-fn call_text(line: &[u64; 1024], a: &mut [u64]) -> u64 {
-    let mut bytes = store::bytes(line, call::given(line[0], line[16]));
-    let got = call::on_text(line, a, &mut bytes);
-    told(
-        answered(got, line[5], line[6], line[7], line[8]),
-        true,
-        store::left_bytes(line, &bytes),
-    )
+// Writes into x bytes, which are a pattern before.
+fn write_list(line: &[u64; 1024], words: &[u64]) -> u64 {
+    let mut bytes = store::bytes(line, 0);
+    let n = store::at_most(store::at(line, 2), 512);
+    let got = print::write_list(words, store::bitmap_at(line, 10), &mut bytes[0..n]);
+    told_text(line, answer::number(got), &bytes)
 }
 
-fn make(line: &[u64; 1024], a: &mut [u64], b: &mut [u64]) -> u64 {
-    if call::is_text(line[0]) {
-        return call_text(line, a);
+// Reads the bytes of the list.
+fn from_list(line: &[u64; 1024], words: &mut [u64]) -> u64 {
+    let bytes = store::bytes(line, store::length(line));
+    let n = store::at_most(store::at(line, 16), 512);
+    let got = text::from_list(words, store::bitmap_at(line, 10), &bytes[0..n]);
+    told_text(line, answer::change(got), &bytes)
+}
+
+fn make(line: &[u64; 1024], words: &mut [u64], other: &mut [u64]) -> u64 {
+    let op = store::at(line, 0);
+    match op {
+        WRITE_LIST => write_list(line, words),
+        FROM_LIST => from_list(line, words),
+        _ => told(line, call::on_words(line, words, other)),
     }
-    let got = call::on_words(line, a, b);
-    told(
-        answered(got, line[5], line[6], line[7], line[8]),
-        true,
-        true,
-    )
 }
 
-// Replays a sound line.
+// Replays a sound line: each call has as much of its stores as the line says.
 pub fn replay(line: &[u64; 1024]) -> u64 {
     let mut a = store::loaded(line, 0);
     let mut b = store::loaded(line, 1);
-    let what = make(line, &mut a, &mut b);
+    let n = store::room(line, 0);
+    let m = store::room(line, 1);
+    let what = make(line, &mut a[0..n], &mut b[0..m]);
     if what != AGREES {
         return what;
     }
-    told(true, store::left(line, 0, &a), store::left(line, 1, &b))
+    if !store::left(line, 0, &a) {
+        return OTHER_WORDS;
+    }
+    if store::left(line, 1, &b) {
+        AGREES
+    } else {
+        OTHER_OUTPUT
+    }
 }

@@ -2,6 +2,7 @@
 //
 // A line's numbers: 0 the call, 1 the seed of the pattern, 2 to 4 the arguments x, y and z, 5 to 8 the answer, 9 to 14 capacity and word count of the
 // stores 0, 1 and 2, 15 and 16 the lengths of the result and of the list; then the words of each store, the result's words and the list.
+use storage::Bitmap;
 use word::Word;
 ghost use Prim.Native.Nat.{_≤_};
 
@@ -17,12 +18,18 @@ const LIST: usize = 4;
 pub const ALL: usize = 5;
 
 // Number i of a line; 0 past the end.
-fn at(line: &[u64; 1024], i: usize) -> u64 {
+pub fn at(line: &[u64; 1024], i: usize) -> u64 {
     if i < 1024 { line[i] } else { 0 }
 }
 
 fn plus(a: usize, b: usize) -> usize {
     std::num::wrapping_add_usize(a, b)
+}
+
+pub fn bitmap_at(line: &[u64; 1024], i: usize) -> Bitmap {
+    Bitmap {
+        count: at(line, i) as usize,
+    }
 }
 
 // How many numbers of a part the line has: a store's words in use, as far as the store goes.
@@ -151,10 +158,10 @@ pub fn bytes(line: &[u64; 1024], n: usize) -> [u8; 512] {
     bytes
 }
 
-// Whether the bytes are the list, and the pattern behind it.
-pub fn left_bytes(line: &[u64; 1024], bytes: &[u8; 512]) -> bool {
+// Whether the bytes are the first n of the list, and the pattern behind them.
+pub fn left_bytes(line: &[u64; 1024], n: usize, bytes: &[u8; 512]) -> bool {
     for k in 0..512 {
-        if bytes[k] != byte_of(line, line[16] as usize, k) {
+        if bytes[k] != byte_of(line, n, k) {
             return false;
         }
     }
@@ -179,4 +186,16 @@ pub fn at_most(x: u64, most: usize) -> usize
 {
     let n = x as usize;
     if n < most { n } else { most }
+}
+
+// The capacity of store `part`, as far as there is room here.
+pub fn room(line: &[u64; 1024], part: usize) -> usize
+    ensures { λ r. ⌜ r ≤ 64 ⌝ }
+{
+    at_most(at(line, plus(9, plus(part, part))), 64)
+}
+
+// The length of the list.
+pub fn length(line: &[u64; 1024]) -> usize {
+    at(line, 16) as usize
 }

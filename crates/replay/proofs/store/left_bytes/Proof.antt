@@ -4,19 +4,16 @@ use Rattle.replay.proofs.store.left_bytes.Statement.{statement}
 use Rattle.replay.proofs.store.left_bytes.Tie as tie
 
 abbrev Inv-loop : tie.InvT-loop
-Inv-loop line bytes k₀ k = k ≤ 512
+Inv-loop line n bytes k₀ k = k ≤ 512
 
 abbrev μ-loop : tie.MeasureT-loop
-μ-loop line bytes k₀ k = 512 - k
+μ-loop line n bytes k₀ k = 512 - k
 
 loop-holds : tie.Need-loop-holds Inv-loop μ-loop
 loop-holds c = search needs
 
 element-copy-out-if1 : tie.Need-element-copy-out-if1 Inv-loop μ-loop
 element-copy-out-if1 c = search needs
-
-element-copy-out-byte-of : tie.Need-element-copy-out-byte-of Inv-loop μ-loop
-element-copy-out-byte-of c = search needs
 
 byte-of-requires : tie.Need-byte-of-requires Inv-loop μ-loop
 byte-of-requires c κs = search needs
@@ -44,7 +41,6 @@ left-bytes-spec =
     μ-loop
     loop-holds
     element-copy-out-if1
-    element-copy-out-byte-of
     byte-of-requires
     returns
     add-k
