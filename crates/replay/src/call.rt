@@ -1,12 +1,11 @@
 // The calls, each on as much of its stores and lists as the line says.
-use crate::answer;
-use crate::answer::Answer;
 use crate::changing;
 use crate::kernels;
 use crate::reading;
 use crate::store;
 use storage::Bitmap;
 use storage::Change;
+use told::Told;
 
 const SET_MANY: u64 = 0xf1;
 
@@ -32,16 +31,16 @@ fn head_of(line: &[u64; 1024]) -> Head {
 }
 
 // The calls that change nothing: kinds 0, 1 and 3 to 7.
-fn read(h: Head, words: &[u64], other: &[u64]) -> Answer {
+fn read(h: Head, words: &[u64], other: &[u64]) -> Told {
     let op = h.op;
     match op >> 4 {
         0 => kernels::of_word(op, h.x as u64, h.y as u64),
         1 => kernels::scan(op, words),
-        3 => answer::found(reading::search(op, words, h.b, h.x)),
-        4 => answer::number(reading::count(op, words, h.b, h.x, h.y)),
-        5 => answer::truth(reading::test(op, words, h.b, other, h.o, h.x)),
-        6 => answer::number(reading::pair_count(op, words, h.b, other, h.o)),
-        _ => answer::found(reading::walk(op, words, h.b, other, h.o, h.x)),
+        3 => told::found(reading::search(op, words, h.b, h.x)),
+        4 => told::number(reading::count(op, words, h.b, h.x, h.y)),
+        5 => told::truth(reading::test(op, words, h.b, other, h.o, h.x)),
+        6 => told::number(reading::pair_count(op, words, h.b, other, h.o)),
+        _ => told::found(reading::walk(op, words, h.b, other, h.o, h.x)),
     }
 }
 
@@ -72,28 +71,28 @@ fn changed(line: &[u64; 1024], h: Head, words: &mut [u64], other: &[u64]) -> Cha
     }
 }
 
-fn set_many(line: &[u64; 1024], b: Bitmap, words: &mut [u64]) -> Answer {
+fn set_many(line: &[u64; 1024], b: Bitmap, words: &mut [u64]) -> Told {
     let list = store::indexes(line);
     let n = store::at_most(store::at(line, 16), 64);
-    answer::change(bitmap::set_many(words, b, &list[0..n]))
+    told::change(bitmap::set_many(words, b, &list[0..n]))
 }
 
 // The calls that are like no other: kind 15, without the two of text.
-fn single(line: &[u64; 1024], h: Head, words: &mut [u64], other: &mut [u64]) -> Answer {
+fn single(line: &[u64; 1024], h: Head, words: &mut [u64], other: &mut [u64]) -> Told {
     let op = h.op;
     match op {
         SET_MANY => set_many(line, h.b, words),
-        store::SPLIT_OFF => answer::split(shape::split_off(words, h.b, h.x, other)),
-        _ => answer::field(slice::get_field(words, h.b, h.x, h.y)),
+        store::SPLIT_OFF => told::split(shape::split_off(words, h.b, h.x, other)),
+        _ => told::field(slice::get_field(words, h.b, h.x, h.y)),
     }
 }
 
 // The calls on words.
-pub fn on_words(line: &[u64; 1024], words: &mut [u64], other: &mut [u64]) -> Answer {
+pub fn on_words(line: &[u64; 1024], words: &mut [u64], other: &mut [u64]) -> Told {
     let h = head_of(line);
     match h.op >> 4 {
         2 => kernels::kernel(h.op, words, h.x, h.y, h.z),
-        8..=14 => answer::change(changed(line, h, words, other)),
+        8..=14 => told::change(changed(line, h, words, other)),
         15 => single(line, h, words, other),
         _ => read(h, words, other),
     }

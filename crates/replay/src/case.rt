@@ -1,8 +1,7 @@
 // One line: the call made on stores that are filled as the line says, and what it answers and leaves compared with the line.
-use crate::answer;
-use crate::answer::Answer;
 use crate::call;
 use crate::store;
+use told::Told;
 
 // In place of a call: the list names the call whose cases stand above.
 pub const TITLE: u64 = 256;
@@ -51,7 +50,7 @@ pub fn sound(line: &[u64; 1024], count: usize) -> bool {
 }
 
 // Whether the answer is the line's.
-fn answered(line: &[u64; 1024], got: Answer) -> bool {
+fn answered(line: &[u64; 1024], got: Told) -> bool {
     got.number == store::at(line, 5)
         && got.tag == store::at(line, 6)
         && got.value == store::at(line, 7)
@@ -59,7 +58,7 @@ fn answered(line: &[u64; 1024], got: Answer) -> bool {
 }
 
 // What the answer shows.
-fn told(line: &[u64; 1024], got: Answer) -> u64 {
+fn shown(line: &[u64; 1024], got: Told) -> u64 {
     if answered(line, got) {
         AGREES
     } else {
@@ -68,7 +67,7 @@ fn told(line: &[u64; 1024], got: Answer) -> u64 {
 }
 
 // What the answer and the bytes show.
-fn told_text(line: &[u64; 1024], got: Answer, bytes: &[u8; 512]) -> u64 {
+fn shown_text(line: &[u64; 1024], got: Told, bytes: &[u8; 512]) -> u64 {
     if !answered(line, got) {
         return OTHER_ANSWER;
     }
@@ -84,7 +83,7 @@ fn write_list(line: &[u64; 1024], words: &[u64]) -> u64 {
     let mut bytes = store::bytes(line, 0);
     let n = store::at_most(store::at(line, 2), 512);
     let got = print::write_list(words, store::bitmap_at(line, 10), &mut bytes[0..n]);
-    told_text(line, answer::number(got), &bytes)
+    shown_text(line, told::number(got), &bytes)
 }
 
 // Reads the bytes of the list.
@@ -92,7 +91,7 @@ fn from_list(line: &[u64; 1024], words: &mut [u64]) -> u64 {
     let bytes = store::bytes(line, store::length(line));
     let n = store::at_most(store::at(line, 16), 512);
     let got = text::from_list(words, store::bitmap_at(line, 10), &bytes[0..n]);
-    told_text(line, answer::change(got), &bytes)
+    shown_text(line, told::change(got), &bytes)
 }
 
 fn make(line: &[u64; 1024], words: &mut [u64], other: &mut [u64]) -> u64 {
@@ -100,7 +99,7 @@ fn make(line: &[u64; 1024], words: &mut [u64], other: &mut [u64]) -> u64 {
     match op {
         WRITE_LIST => write_list(line, words),
         FROM_LIST => from_list(line, words),
-        _ => told(line, call::on_words(line, words, other)),
+        _ => shown(line, call::on_words(line, words, other)),
     }
 }
 

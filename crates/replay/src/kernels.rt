@@ -1,60 +1,54 @@
 // The calls of word and arch, and storage's own: kinds 0 to 2.
-use crate::answer;
-use crate::answer::Answer;
+use told::Told;
 use word::Word;
 
-pub fn of_word(op: u64, x: u64, y: u64) -> Answer {
+pub fn of_word(op: u64, x: u64, y: u64) -> Told {
     match op {
-        0x00 => answer::size(Word::count_ones(x)),
-        0x01 => answer::size(Word::trailing_zeros(x)),
-        0x02 => answer::size(Word::leading_zeros(x)),
-        0x03 => answer::value(Word::reverse_bits(x)),
-        0x04 => answer::value(Word::clear_lowest_set(x)),
-        0x05 => answer::value(Word::low_mask(x as usize)),
-        0x06 => answer::value(Word::bit(x as usize)),
-        _ => answer::value(Word::wrapping_mul(x, y)),
+        0x00 => told::size(Word::count_ones(x)),
+        0x01 => told::size(Word::trailing_zeros(x)),
+        0x02 => told::size(Word::leading_zeros(x)),
+        0x03 => told::value(Word::reverse_bits(x)),
+        0x04 => told::value(Word::clear_lowest_set(x)),
+        0x05 => told::value(Word::low_mask(x as usize)),
+        0x06 => told::value(Word::bit(x as usize)),
+        _ => told::value(Word::wrapping_mul(x, y)),
     }
 }
 
 // How many words the front part has, and the last of them.
-fn front(words: &[u64]) -> Answer {
+fn front(words: &[u64]) -> Told {
     let part = slice::trimmed(words);
     let n = part.len();
     let last = if n > 0 { part[n - 1] } else { 0 };
-    Answer {
-        number: 0,
-        tag: 1,
-        value: n as u64,
-        also: last,
-    }
+    told::pair(n as u64, last)
 }
 
-pub fn scan(op: u64, words: &[u64]) -> Answer {
+pub fn scan(op: u64, words: &[u64]) -> Told {
     match op {
-        0x10 => answer::found_word(arch::first_nonzero(words)),
-        0x11 => answer::found_word(arch::first_not_ones(words)),
-        0x12 => answer::size(arch::nonzero_len(words)),
-        0x13 => answer::test(arch::is_zero(words)),
-        0x14 => answer::size(arch::count_set_bits(words)),
+        0x10 => told::found_word(arch::first_nonzero(words)),
+        0x11 => told::found_word(arch::first_not_ones(words)),
+        0x12 => told::size(arch::nonzero_len(words)),
+        0x13 => told::test(arch::is_zero(words)),
+        0x14 => told::size(arch::count_set_bits(words)),
         _ => front(words),
     }
 }
 
-pub fn kernel(op: u64, words: &mut [u64], x: usize, y: usize, z: u64) -> Answer {
+pub fn kernel(op: u64, words: &mut [u64], x: usize, y: usize, z: u64) -> Told {
     match op {
-        0x22 => answer::size(arch::select::select_u64(z, x)),
-        0x24 => answer::guard(storage::check(x, y)),
+        0x22 => told::size(arch::select::select_u64(z, x)),
+        0x24 => told::guard(storage::check(x, y)),
         0x20 => {
             arch::fill_region(words, x, y, z != 0);
-            answer::changed(0)
+            told::changed()
         }
         0x21 => {
             arch::fill_words(words, x, y, z);
-            answer::changed(0)
+            told::changed()
         }
         _ => {
             storage::grow(words, x, y);
-            answer::changed(0)
+            told::changed()
         }
     }
 }

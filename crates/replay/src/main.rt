@@ -1,6 +1,5 @@
 // Replays a list of calls with the answers of the Rust, from standard input (oracle/README.md has its lines): a line for each mismatch, and a line for
 // each call with the number of its cases and of its mismatches.
-mod answer;
 mod call;
 mod case;
 mod changing;
