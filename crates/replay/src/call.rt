@@ -7,8 +7,6 @@ use storage::Bitmap;
 use storage::Change;
 use told::Told;
 
-const SET_MANY: u64 = 0xf1;
-
 // The call, its arguments, and the bitmaps of the stores 0 and 1.
 struct Head {
     op: u64,
@@ -30,7 +28,7 @@ fn head_of(line: &[u64; 1024]) -> Head {
     }
 }
 
-// The calls that change nothing: kinds 0, 1 and 3 to 7.
+// The calls that change nothing: kinds 0, 1 and 3 to 7, and get_field.
 fn read(h: Head, words: &[u64], other: &[u64]) -> Told {
     let op = h.op;
     match op >> 4 {
@@ -40,13 +38,14 @@ fn read(h: Head, words: &[u64], other: &[u64]) -> Told {
         4 => told::number(reading::count(op, words, h.b, h.x, h.y)),
         5 => told::truth(reading::test(op, words, h.b, other, h.o, h.x)),
         6 => told::number(reading::pair_count(op, words, h.b, other, h.o)),
-        _ => told::found(reading::walk(op, words, h.b, other, h.o, h.x)),
+        7 => told::found(reading::walk(op, words, h.b, other, h.o, h.x)),
+        _ => told::field(slice::get_field(words, h.b, h.x, h.y)),
     }
 }
 
 fn combined(line: &[u64; 1024], h: Head, words: &mut [u64], other: &[u64]) -> Change {
     let c = store::loaded(line, 2);
-    let n = store::room(line, 2);
+    let n = store::room(line, 13);
     changing::combine(
         h.op,
         words,
@@ -71,29 +70,23 @@ fn changed(line: &[u64; 1024], h: Head, words: &mut [u64], other: &[u64]) -> Cha
     }
 }
 
-fn set_many(line: &[u64; 1024], b: Bitmap, words: &mut [u64]) -> Told {
-    let list = store::indexes(line);
-    let n = store::at_most(store::at(line, 16), 64);
-    told::change(bitmap::set_many(words, b, &list[0..n]))
-}
-
-// The calls that are like no other: kind 15, without the two of text.
-fn single(line: &[u64; 1024], h: Head, words: &mut [u64], other: &mut [u64]) -> Told {
-    let op = h.op;
-    match op {
-        SET_MANY => set_many(line, h.b, words),
-        store::SPLIT_OFF => told::split(shape::split_off(words, h.b, h.x, other)),
-        _ => told::field(slice::get_field(words, h.b, h.x, h.y)),
-    }
-}
-
-// The calls on words.
-pub fn on_words(line: &[u64; 1024], words: &mut [u64], other: &mut [u64]) -> Told {
+// The calls that differ by their kind alone.
+pub fn on_words(line: &[u64; 1024], words: &mut [u64], other: &[u64]) -> Told {
     let h = head_of(line);
     match h.op >> 4 {
         2 => kernels::kernel(h.op, words, h.x, h.y, h.z),
         8..=14 => told::change(changed(line, h, words, other)),
-        15 => single(line, h, words, other),
         _ => read(h, words, other),
     }
+}
+
+pub fn set_many(line: &[u64; 1024], words: &mut [u64]) -> Told {
+    let list = store::indexes(line);
+    let n = store::at_most(store::at(line, 16), 64);
+    told::change(bitmap::set_many(words, store::bitmap_at(line, 10), &list[0..n]))
+}
+
+pub fn split_off(line: &[u64; 1024], words: &mut [u64], tail: &mut [u64]) -> Told {
+    let at = store::at(line, 2) as usize;
+    told::split(shape::split_off(words, store::bitmap_at(line, 10), at, tail))
 }

@@ -17,6 +17,8 @@ pub const OTHER_OUTPUT: u64 = 3;
 
 pub const MALFORMED: u64 = 4;
 
+const SET_MANY: u64 = 0xf1;
+
 const WRITE_LIST: u64 = 0xf3;
 
 const FROM_LIST: u64 = 0xf4;
@@ -32,20 +34,15 @@ fn known(op: u64) -> bool {
     op == TITLE
 }
 
-// Whether the parts of the line have room here.
-fn has_room(line: &[u64; 1024]) -> bool {
-    store::at(line, 9) <= 64
-        && store::at(line, 11) <= 64
-        && store::at(line, 13) <= 64
-        && store::at(line, 15) <= 64
-        && store::at(line, 16) <= 512
-}
-
 // Whether the line has a known call, an odd seed, parts that have room here, and exactly `count` numbers.
 pub fn sound(line: &[u64; 1024], count: usize) -> bool {
     known(store::at(line, 0))
         && store::at(line, 1) % 2 == 1
-        && has_room(line)
+        && store::at(line, 9) <= 64
+        && store::at(line, 11) <= 64
+        && store::at(line, 13) <= 64
+        && store::at(line, 15) <= 64
+        && store::at(line, 16) <= 512
         && count == store::start(line, store::ALL)
 }
 
@@ -97,6 +94,8 @@ fn from_list(line: &[u64; 1024], words: &mut [u64]) -> u64 {
 fn make(line: &[u64; 1024], words: &mut [u64], other: &mut [u64]) -> u64 {
     let op = store::at(line, 0);
     match op {
+        SET_MANY => shown(line, call::set_many(line, words)),
+        store::SPLIT_OFF => shown(line, call::split_off(line, words, other)),
         WRITE_LIST => write_list(line, words),
         FROM_LIST => from_list(line, words),
         _ => shown(line, call::on_words(line, words, other)),
@@ -107,8 +106,8 @@ fn make(line: &[u64; 1024], words: &mut [u64], other: &mut [u64]) -> u64 {
 pub fn replay(line: &[u64; 1024]) -> u64 {
     let mut a = store::loaded(line, 0);
     let mut b = store::loaded(line, 1);
-    let n = store::room(line, 0);
-    let m = store::room(line, 1);
+    let n = store::room(line, 9);
+    let m = store::room(line, 11);
     let what = make(line, &mut a[0..n], &mut b[0..m]);
     if what != AGREES {
         return what;

@@ -53,15 +53,8 @@ fn next(buf: &mut [u8; 65536], at: usize, end: usize) -> Byte {
         }
     }
     let n = io::read_full(STDIN_FILENO, buf);
-    if n == 0 {
-        return Byte {
-            byte: NONE,
-            at: 0,
-            end: 0,
-        };
-    }
     Byte {
-        byte: wide(buf[0]),
+        byte: if n == 0 { NONE } else { wide(buf[0]) },
         at: 1,
         end: n,
     }
@@ -111,30 +104,33 @@ fn before(kind: u64, ended: bool, count: usize) -> Part {
     }
 }
 
-// Whether byte c may come next: a tilde at the beginning, or one of at most 16 digits.
-fn fits(p: Part, c: u64) -> bool {
-    if c == TILDE {
-        return p.digits == 0 && p.flip == 0;
-    }
-    digit(c) < 16 && p.digits < 16
-}
-
-fn with(p: Part, kind: u64, c: u64) -> Part {
-    if c == TILDE {
-        return Part {
-            kind: kind,
-            ended: false,
-            count: p.count,
-            x: p.x,
-            digits: p.digits,
-            flip: Word::ONES,
-        };
-    }
+// With a tilde, which fits at the beginning.
+fn flipped(p: Part) -> Part {
     Part {
-        kind: kind,
+        kind: if p.digits == 0 && p.flip == 0 {
+            p.kind
+        } else {
+            MALFORMED
+        },
         ended: false,
         count: p.count,
-        x: p.x << 4 | digit(c),
+        x: p.x,
+        digits: p.digits,
+        flip: Word::ONES,
+    }
+}
+
+// With a digit of that value, of which at most 16 fit.
+fn with(p: Part, d: u64) -> Part {
+    Part {
+        kind: if d < 16 && p.digits < 16 {
+            p.kind
+        } else {
+            MALFORMED
+        },
+        ended: false,
+        count: p.count,
+        x: p.x << 4 | d,
         digits: std::num::wrapping_add_u64(p.digits, 1),
         flip: p.flip,
     }
@@ -142,17 +138,16 @@ fn with(p: Part, kind: u64, c: u64) -> Part {
 
 // With byte c, the first of its line where `first` is 0.
 fn taken(p: Part, c: u64, first: u64) -> Part {
-    if c == NONE {
-        return before(if first == 0 { END } else { MALFORMED }, true, p.count);
-    }
-    if c == COMMA || c == NEWLINE {
-        return before(
+    match c {
+        NONE => before(if first == 0 { END } else { MALFORMED }, true, p.count),
+        COMMA | NEWLINE => before(
             p.kind,
             c == NEWLINE,
             std::num::wrapping_add_usize(p.count, 1),
-        );
+        ),
+        TILDE => flipped(p),
+        _ => with(p, digit(c)),
     }
-    with(p, if fits(p, c) { p.kind } else { MALFORMED }, c)
 }
 
 pub fn told(kind: u64, count: usize, at: usize, end: usize) -> Line {

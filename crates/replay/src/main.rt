@@ -30,10 +30,6 @@ fn number(n: u64) {
     io::print_decimal(STDOUT_FILENO, n);
 }
 
-fn plus(a: u64, b: u64) -> u64 {
-    std::num::wrapping_add_u64(a, b)
-}
-
 // Names the line, the call by its number, and what differs.
 fn mismatch(line: u64, op: u64, what: u64) {
     put(b"line");
@@ -48,16 +44,11 @@ fn mismatch(line: u64, op: u64, what: u64) {
     }
 }
 
-// The list of a line as text.
-fn put_list(line: &[u64; 1024]) {
-    let bytes = store::bytes(line, 512);
-    let n = store::at_most(line[16], 512);
-    put(&bytes[0..n]);
-}
-
-// The line of a call whose cases are all replayed.
+// The line of a call whose cases are all replayed: the list has its name.
 fn summary(line: &[u64; 1024], t: Tally) -> Tally {
-    put_list(line);
+    let name = store::bytes(line, 512);
+    let n = store::at_most(store::at(line, 16), 512);
+    put(&name[0..n]);
     number(t.cases);
     number(t.wrong);
     put(b"\n");
@@ -71,16 +62,16 @@ fn summary(line: &[u64; 1024], t: Tally) -> Tally {
 
 fn counted(t: Tally, wrong: u64) -> Tally {
     Tally {
-        cases: plus(t.cases, 1),
-        wrong: plus(t.wrong, wrong),
-        all_cases: plus(t.all_cases, 1),
-        all_wrong: plus(t.all_wrong, wrong),
+        cases: std::num::wrapping_add_u64(t.cases, 1),
+        wrong: std::num::wrapping_add_u64(t.wrong, wrong),
+        all_cases: std::num::wrapping_add_u64(t.all_cases, 1),
+        all_wrong: std::num::wrapping_add_u64(t.all_wrong, wrong),
     }
 }
 
 // Replays a line of that kind and count of numbers.
 fn one(n: u64, kind: u64, count: usize, numbers: &[u64; 1024], t: Tally) -> Tally {
-    let op = numbers[0];
+    let op = store::at(numbers, 0);
     let mut what = case::MALFORMED;
     if kind == line::SOUND && case::sound(numbers, count) {
         if op == case::TITLE {

@@ -82,16 +82,16 @@ fn before(line: &[u64; 1024], part: usize, k: usize) -> u64 {
     if k < size(line, part) {
         return number(line, part, k);
     }
-    pattern(line[1], part << 6 | k)
+    pattern(at(line, 1), part << 6 | k)
 }
 
 // The part that has the words which the call is to leave in store `part`: that store itself where it is left as it was.
-fn result(op: u64, tag: u64, part: usize) -> usize {
-    if tag == CHANGED {
+fn result(line: &[u64; 1024], part: usize) -> usize {
+    if at(line, 6) == CHANGED {
         if part == 0 {
             return RESULT;
         }
-        if op == SPLIT_OFF {
+        if at(line, 0) == SPLIT_OFF {
             return LIST;
         }
     }
@@ -100,7 +100,7 @@ fn result(op: u64, tag: u64, part: usize) -> usize {
 
 // Word k of what the call is to leave in store `part`: the result's words, zeros up to the words that were in use in store 0, the rest as it was.
 fn after(line: &[u64; 1024], part: usize, k: usize) -> u64 {
-    let from = result(line[0], line[6], part);
+    let from = result(line, part);
     if k < size(line, from) {
         return number(line, from, k);
     }
@@ -110,13 +110,9 @@ fn after(line: &[u64; 1024], part: usize, k: usize) -> u64 {
     before(line, part, k)
 }
 
-fn zeros() -> [u64; 64] {
-    [0u64; 64]
-}
-
 // Store `part` before the call.
 pub fn loaded(line: &[u64; 1024], part: usize) -> [u64; 64] {
-    let mut store = zeros();
+    let mut store = [0u64; 64];
     for k in 0..64 {
         store[k] = before(line, part, k);
     }
@@ -142,16 +138,12 @@ fn byte_of(line: &[u64; 1024], n: usize, k: usize) -> u8 {
     if k < n {
         return byte(number(line, LIST, k));
     }
-    byte(pattern(line[1], k) % 256)
-}
-
-fn zero_bytes() -> [u8; 512] {
-    [0u8; 512]
+    byte(pattern(at(line, 1), k) % 256)
 }
 
 // The first n bytes of the list, and a pattern behind them.
 pub fn bytes(line: &[u64; 1024], n: usize) -> [u8; 512] {
-    let mut bytes = zero_bytes();
+    let mut bytes = [0u8; 512];
     for k in 0..512 {
         bytes[k] = byte_of(line, n, k);
     }
@@ -168,13 +160,9 @@ pub fn left_bytes(line: &[u64; 1024], n: usize, bytes: &[u8; 512]) -> bool {
     true
 }
 
-fn zero_indexes() -> [usize; 64] {
-    [0usize; 64]
-}
-
 // The list as indexes.
 pub fn indexes(line: &[u64; 1024]) -> [usize; 64] {
-    let mut list = zero_indexes();
+    let mut list = [0usize; 64];
     for k in 0..64 {
         list[k] = number(line, LIST, k) as usize;
     }
@@ -188,11 +176,11 @@ pub fn at_most(x: u64, most: usize) -> usize
     if n < most { n } else { most }
 }
 
-// The capacity of store `part`, as far as there is room here.
-pub fn room(line: &[u64; 1024], part: usize) -> usize
+// The capacity that is number i, as far as there is room here.
+pub fn room(line: &[u64; 1024], i: usize) -> usize
     ensures { λ r. ⌜ r ≤ 64 ⌝ }
 {
-    at_most(at(line, plus(9, plus(part, part))), 64)
+    at_most(at(line, i), 64)
 }
 
 // The length of the list.

@@ -9,9 +9,6 @@ Inv-loop line n bytes₀ k₀ bytes k = k ≤ 512
 abbrev μ-loop : tie.MeasureT-loop
 μ-loop line n bytes₀ k₀ bytes k = 512 - k
 
-zero-bytes-requires : tie.Need-zero-bytes-requires Inv-loop μ-loop
-zero-bytes-requires c κs = search needs
-
 loop-holds : tie.Need-loop-holds Inv-loop μ-loop
 loop-holds c = search needs
 
@@ -39,7 +36,6 @@ bytes-spec =
     (tie.spec
     Inv-loop
     μ-loop
-    zero-bytes-requires
     loop-holds
     byte-of-requires
     array-write-bytes

@@ -9,9 +9,6 @@ Inv-loop line list₀ k₀ list k = k ≤ 64
 abbrev μ-loop : tie.MeasureT-loop
 μ-loop line list₀ k₀ list k = 64 - k
 
-zero-indexes-requires : tie.Need-zero-indexes-requires Inv-loop μ-loop
-zero-indexes-requires c κs = search needs
-
 loop-holds : tie.Need-loop-holds Inv-loop μ-loop
 loop-holds c = search needs
 
@@ -42,7 +39,6 @@ indexes-spec =
     (tie.spec
     Inv-loop
     μ-loop
-    zero-indexes-requires
     loop-holds
     number-requires
     mul-list

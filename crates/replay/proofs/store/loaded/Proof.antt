@@ -9,9 +9,6 @@ Inv-loop line part store₀ k₀ store k = k ≤ 64
 abbrev μ-loop : tie.MeasureT-loop
 μ-loop line part store₀ k₀ store k = 64 - k
 
-zeros-requires : tie.Need-zeros-requires Inv-loop μ-loop
-zeros-requires c κs = search needs
-
 loop-holds : tie.Need-loop-holds Inv-loop μ-loop
 loop-holds c = search needs
 
@@ -42,7 +39,6 @@ loaded-spec =
     (tie.spec
     Inv-loop
     μ-loop
-    zeros-requires
     loop-holds
     before-requires
     mul-store
