@@ -33,24 +33,28 @@ pub fn pair(x: u64, y: u64) -> Told
     }
 }
 
+// A value alone.
 pub fn value(x: u64) -> Told
     ensures { λ r. ⌜ Tells r 0 1 x 0 ⌝ }
 {
     pair(x, 0)
 }
 
+// A count or a place.
 pub fn size(n: usize) -> Told
     ensures { λ r. ⌜ Tells r 0 1 n 0 ⌝ }
 {
     pair(n as u64, 0)
 }
 
+// 1 for true.
 pub fn test(yes: bool) -> Told
     ensures { λ r. ⌜ Tells r 0 1 (val yes) 0 ⌝ }
 {
     pair(yes as u64, 0)
 }
 
+// Done, and no value.
 pub fn nothing() -> Told
     ensures { λ r. ⌜ Tells r 0 0 0 0 ⌝ }
 {
@@ -86,6 +90,7 @@ pub fn changed() -> Told
     }
 }
 
+// What is tested, or the refusal.
 pub fn truth(t: Truth) -> Told
     ensures { λ r. ⌜ OfTruth t r ⌝ }
 {
@@ -95,6 +100,7 @@ pub fn truth(t: Truth) -> Told
     }
 }
 
+// What is counted, or the refusal.
 pub fn number(n: Number) -> Told
     ensures { λ r. ⌜ OfNumber n r ⌝ }
 {
@@ -104,6 +110,7 @@ pub fn number(n: Number) -> Told
     }
 }
 
+// A field's bits, or the refusal.
 pub fn field(f: Field) -> Told
     ensures { λ r. ⌜ OfField f r ⌝ }
 {
@@ -113,6 +120,7 @@ pub fn field(f: Field) -> Told
     }
 }
 
+// The place of what is found, nothing, or the refusal.
 pub fn found(f: Found) -> Told
     ensures { λ r. ⌜ OfFound f r ⌝ }
 {
@@ -133,6 +141,7 @@ pub fn found_word(f: FoundWord) -> Told
     }
 }
 
+// A store that passes, or the refusal.
 pub fn guard(g: Guard) -> Told
     ensures { λ r. ⌜ OfGuard g r ⌝ }
 {
