@@ -1,5 +1,5 @@
 -- The words of a set that a truth table makes of two lists of words. Assumes nothing.
-use mathlib.Core.Path.{_≡_, refl, sym, ap₂, _∙_, subst}
+use mathlib.Core.Path.{_≡_, refl, sym, ap₂, _∙_}
 use mathlib.Core.Bool.{Bool, true, false, _&&_, _||_}
 use mathlib.Core.List.{List}
 use Prim.Native.Nat.{ℕ, _+_, _*_, _^_, _<_}
@@ -24,10 +24,6 @@ module _ {f : Bool → Bool → Bool} {op : ℕ → ℕ → ℕ} (t : WordOp f o
     fits = t .fits (getD xs k 0) (getD ys k 0) p q;
     bits = λ j l. t .bits (getD xs k 0) (getD ys k 0) j q l ∙ ap₂ f (sym (member-at xs k j l)) (sym (member-at ys k j l));
   }
-
-  -- the same of a word that was worked out before
-  pub holds-is : (xs ys : List ℕ) (k : ℕ) {x : ℕ} → getD xs k 0 < 2 ^ 64 → getD ys k 0 < 2 ^ 64 → x ≡ op (getD xs k 0) (getD ys k 0) → Holds (made f xs ys) k x
-  holds-is xs ys k p q e = subst (Holds (made f xs ys) k) (sym e) (holds xs ys k p q)
 
 -- ---- where only one of the two lists has words
 
