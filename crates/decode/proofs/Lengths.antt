@@ -11,7 +11,7 @@ use borrow.Author.Tests.{eq-eqb, ne-eqb}
 use Rattle.word.specs.Sets.{choose}
 use Rattle.word.proofs.Cases.{by-lt}
 use Rattle.storage.specs.declared.Refusal.the-variants.{BadPayload, NewerKind}
-use Rattle.sheet.specs.Kinds.{Row, rowOf, sizeBy, sizeIn, bytesBy, ruleOf, known}
+use Rattle.sheet.specs.Kinds.{Row, rowOf, bytesIn, sizeBy, sizeIn, bytesBy, ruleOf, known}
 use Rattle.sheet.specs.declared.Known.the-variants.{Bytes, Newer}
 use Rattle.sheet.proofs.Tables.{past-kinds}
 use Rattle.decode.specs.declared.Asked.{Asked}
@@ -46,6 +46,10 @@ pub of-size : bytesOf 7 ≡ 5
 unfolding bytesOf
 of-size = refl
 
+pub of-reverse : bytesOf 8 ≡ 0
+unfolding bytesOf
+of-reverse = refl
+
 pub of-pair : (kind : ℕ) → 9 ≤ kind → kind ≤ 11 → bytesOf kind ≡ 8
 unfolding bytesOf
 of-pair kind a b =
@@ -72,7 +76,7 @@ row-bytes : (e n : ℕ) (o : Option Row) → Bytes n ≡ known (sizeBy e o) → 
 row-bytes e n none p = absurd (never p)
 row-bytes e n (some r) p = go (leb (r .since) e) p
   where
-    go : (t : Bool) → Bytes n ≡ known (choose t (some (r .bytes)) none) → n ≡ r .bytes
+    go : (t : Bool) → Bytes n ≡ known (choose t (some (bytesIn r)) none) → n ≡ bytesIn r
     go true q = one q
     go false q = absurd (never q)
 

@@ -1,20 +1,23 @@
 -- Payloads as the code reads them: numbers of at most eight bytes, and fields cut out of them. Assumes nothing.
 use Prim.Native.Nat.{ℕ, _+_, _*_, _/_, _%_, _^_, _-_, _≤_, _<_}
-use mathlib.Core.Path.{_≡_, sym, ap, ap₂, _∙_, subst}
-use mathlib.Core.Bool.{Bool, true, false, _&&_}
-use mathlib.Core.List.{List}
+use mathlib.Core.Path.{_≡_, refl, sym, ap, ap₂, _∙_, subst}
+use mathlib.Core.Bool.{Bool}
+use mathlib.Core.List.{List, [], _∷_}
+use mathlib.Core.Option.{none, some}
 use native.Mathlib.Omega.{arith}
 use lib.ListN.{length, take, drop, length-drop}
 use lib.Seq.{length-take-le, take-all, drop-drop}
 use lib.Dec.{leb}
-use borrow.Author.Tests.{le-leb, lt-leb, eq-eqb, ne-eqb}
+use borrow.Author.Tests.{le-leb, lt-leb}
 use Rattle.word.specs.Bits.{isOne}
-use Rattle.word.proofs.Cases.{by-lt, and-false}
+use Rattle.word.proofs.Cases.{by-lt}
 use Rattle.storage.specs.declared.Refusal.the-variants.{BadPayload}
-use Rattle.sheet.specs.Bytes.{number, bits}
-use Rattle.sheet.specs.Kinds.{only, unused, flag, ruleOf}
+use Rattle.sheet.specs.Bytes.{number}
+use Rattle.sheet.specs.Kinds.{rowOf, numberIn, ruleOf}
+use Rattle.sheet.proofs.Payloads.{rule-good, rule-spoilt, rule-over}
 use Rattle.sheet.specs.declared.Edit.{Edit}
 use Rattle.sheet.specs.declared.Edit.the-variants.{Set, Unset, SetRegion, SetField, Shift, Rotate, Resize, Reverse, ToggleRegion, Open, Close}
+use Rattle.decode.specs.declared.Asked.{Asked}
 use Rattle.decode.specs.declared.Asked.the-variants.{For, Refused}
 use Rattle.decode.specs.Asks.{asks}
 use Rattle.decode.proofs.Numbers.{number-cut}
@@ -31,25 +34,33 @@ below l x n h e = subst (λ (m : ℕ). x < 256 ^ m) e (h .1)
 pub rest : (k : ℕ) (l : List ℕ) (x : ℕ) → Is (take (length l - k) (drop k l)) x → Is (drop k l) x
 rest k l x h = subst (λ (y : List ℕ). Is y x) (take-all (length l - k) (drop k l) (omega (arith, length-drop k l))) h
 
-yes-edit : (t : Bool) (e f : Edit) → t ≡ true → f ≡ e → For f ≡ asks (only t e)
-yes-edit t e f h q = ap For q ∙ ap (λ (t : Bool). asks (only t e)) (sym h)
+-- a payload's edit, or none
+is-edit : (k : ℕ) (l : List ℕ) (e : Edit) → ruleOf k l ≡ some e → For e ≡ asks (ruleOf k l)
+is-edit k l e q = ap asks (sym q)
 
-no-edit : (t : Bool) (e : Edit) → t ≡ false → Refused BadPayload ≡ asks (only t e)
-no-edit t e h = ap (λ (t : Bool). asks (only t e)) (sym h)
+no-edit : (k : ℕ) (l : List ℕ) → ruleOf k l ≡ none → Refused BadPayload ≡ asks (ruleOf k l)
+no-edit k l q = ap asks (sym q)
 
--- a one-bit field
-one-bit : (d b m : ℕ) → (b < m → d ≡ 0) → (m ≤ b → d ≡ 1) → leb m b ≡ isOne d
-one-bit d b m z o = by-lt b m (λ h. lt-leb m b h ∙ ap isOne (sym (z h))) (λ h. le-leb m b h ∙ ap isOne (sym (o h)))
+by-kind : (kind k : ℕ) (l : List ℕ) (a : Asked) → kind ≡ k → a ≡ asks (ruleOf k l) → a ≡ asks (ruleOf kind l)
+by-kind kind k l a e q = q ∙ ap (λ (k : ℕ). asks (ruleOf k l)) (sym e)
+
+-- a flag is 1 from m on
+one-bit : (b m d : ℕ) → (b < m → d ≡ 0) → (m ≤ b → d ≡ 1) → isOne d ≡ leb m b
+one-bit b m d z o = by-lt b m (λ h. ap isOne (z h) ∙ sym (lt-leb m b h)) (λ h. ap isOne (o h) ∙ sym (le-leb m b h))
 
 -- ---- kinds 1 and 2
 
-pub place-set : (kind : ℕ) (l : List ℕ) (p : ℕ) → Is l p → kind ≡ 1 → For (Set p) ≡ asks (ruleOf kind l)
-unfolding ruleOf
-place-set kind l p h k = ap (λ (x : ℕ). For (Set x)) (h .0) ∙ ap (λ (k : ℕ). asks (ruleOf k l)) (sym k)
+module _ (kind : ℕ) (l : List ℕ) (p : ℕ) (n : length l ≡ 4) (h : Is l p) where
+  up : p < 2 ^ 32
+  up = below l p 4 h n
 
-pub place-unset : (kind : ℕ) (l : List ℕ) (p : ℕ) → Is l p → kind ≡ 2 → For (Unset p) ≡ asks (ruleOf kind l)
-unfolding ruleOf
-place-unset kind l p h k = ap (λ (x : ℕ). For (Unset x)) (h .0) ∙ ap (λ (k : ℕ). asks (ruleOf k l)) (sym k)
+  pub place-set : kind ≡ 1 → For (Set p) ≡ asks (ruleOf kind l)
+  unfolding rowOf numberIn
+  place-set k = by-kind kind 1 l _ k (is-edit 1 l (Set p) (rule-good 1 _ refl l (p ∷ []) 0 (up, tt) (omega arith) (omega (arith, h .0)) refl (omega arith, omega (arith, up), tt)))
+
+  pub place-unset : kind ≡ 2 → For (Unset p) ≡ asks (ruleOf kind l)
+  unfolding rowOf numberIn
+  place-unset k = by-kind kind 2 l _ k (is-edit 2 l (Unset p) (rule-good 2 _ refl l (p ∷ []) 0 (up, tt) (omega arith) (omega (arith, h .0)) refl (omega arith, omega (arith, up), tt)))
 
 -- ---- kind 3
 
@@ -59,27 +70,34 @@ module _ (l : List ℕ) (b x : ℕ) (n : length l ≡ 9) (hb : Is (take 1 l) b) 
       number-cut 1 l ∙ ap (λ (m : ℕ). number (take 1 l) * 256 ^ m + number (drop 1 l)) (length-drop 1 l ∙ ap (λ (m : ℕ). m - 1) n)
       ∙ ap₂ (λ (y z : ℕ). y * 2 ^ 64 + z) (sym (hb .0)) (sym (hx .0))
 
+  region-b : b < 256
+  region-b = below (take 1 l) b 1 hb (length-take-le 1 l (omega arith))
+
+  region-x : x < 2 ^ 64
+  region-x = below (drop 1 l) x 8 hx (length-drop 1 l ∙ ap (λ (m : ℕ). m - 1) n)
+
+  -- the flag, p and k, and the unused bits
+  abbrev region-values : List ℕ
+  region-values = b / 128 ∷ (b % 128 * 33554432 + x / 549755813888) ∷ x / 128 % 4294967296 ∷ []
+
+  region-sized : (b / 128 < 2 ^ 1) × ((b % 128 * 33554432 + x / 549755813888 < 2 ^ 32) × ((x / 128 % 4294967296 < 2 ^ 32) × Unit {0}))
+  region-sized = (omega (arith, region-b), (omega (arith, region-x), (omega arith, tt)))
+
+  region-is : number l ≡ (b / 128 * 2 ^ 64 + ((b % 128 * 33554432 + x / 549755813888) * 2 ^ 32 + (x / 128 % 4294967296 * 2 ^ 0 + 0))) * 2 ^ 7 + x % 128
+  region-is = region-number ∙ omega arith
+
   pub region-bad : (x % 128 ≡ 0 → ⊥) → Refused BadPayload ≡ asks (ruleOf 3 l)
-  unfolding ruleOf
-  region-bad z = no-edit (unused 7 (number l)) _ (ne-eqb (number l % 2 ^ 7) 0 (omega (arith, region-number)))
+  unfolding rowOf numberIn
+  region-bad z = no-edit 3 l (rule-spoilt 3 _ refl l region-values (x % 128) region-sized (omega arith) region-is z)
 
   pub region-good : x % 128 ≡ 0 → For (SetRegion (leb 128 b) (b % 128 * 33554432 + x / 549755813888) (x / 128 % 4294967296)) ≡ asks (ruleOf 3 l)
-  unfolding ruleOf
+  unfolding rowOf numberIn
   region-good z =
-      yes-edit (unused 7 X) (SetRegion (flag 71 X) (bits 39 32 X) (bits 7 32 X)) _ (eq-eqb (X % 2 ^ 7) 0 (omega arith))
-      (λ i. SetRegion (one-bit (bits 71 1 X) b 128 (λ h. omega (arith, ub, ux)) (λ h. omega (arith, ub, ux)) i)
-      (let e : b % 128 * 33554432 + x / 549755813888 ≡ bits 39 32 X = omega (arith, ub, ux) in e i)
-      (let e : x / 128 % 4294967296 ≡ bits 7 32 X = omega (arith, ub, ux) in e i))
-      ∙ ap (λ (y : ℕ). asks (only (unused 7 y) (SetRegion (flag 71 y) (bits 39 32 y) (bits 7 32 y)))) (sym region-number)
-    where
-      X : ℕ
-      X = b * 2 ^ 64 + x
-
-      ub : b < 256
-      ub = below (take 1 l) b 1 hb (length-take-le 1 l (omega arith))
-
-      ux : x < 2 ^ 64
-      ux = below (drop 1 l) x 8 hx (length-drop 1 l ∙ ap (λ (m : ℕ). m - 1) n)
+      is-edit 3 l _
+      (rule-good 3 _ refl l region-values (x % 128) region-sized (omega arith) region-is z
+      (omega arith, omega (arith, region-b), (omega arith, omega (arith, region-x), (omega arith, omega arith, tt)))
+      ∙ ap (λ (t : Bool). some (SetRegion t (b % 128 * 33554432 + x / 549755813888) (x / 128 % 4294967296)))
+      (one-bit b 128 (b / 128) (λ h. omega arith) (λ h. omega (arith, region-b))))
 
 -- ---- kind 4
 
@@ -92,51 +110,43 @@ module _ (l : List ℕ) (p b x : ℕ) (n : length l ≡ 13) (hp : Is (take 4 l) 
       number-cut 4 l ∙ ap (λ (m : ℕ). number (take 4 l) * 256 ^ m + number (drop 4 l)) tail
       ∙ ap₂ (λ (y z : ℕ). y * 2 ^ 72 + z) (sym (hp .0)) (region-number (drop 4 l) b x tail hb (subst (λ (y : List ℕ). Is y x) (sym (drop-drop 1 4 l)) hx))
 
-  up : p < 2 ^ 32
-  up = below (take 4 l) p 4 hp (length-take-le 4 l (omega arith))
+  field-p : p < 2 ^ 32
+  field-p = below (take 4 l) p 4 hp (length-take-le 4 l (omega arith))
 
-  ub : b < 256
-  ub = below (take 1 (drop 4 l)) b 1 hb (length-take-le 1 (drop 4 l) (omega (arith, tail)))
+  field-b : b < 256
+  field-b = below (take 1 (drop 4 l)) b 1 hb (length-take-le 1 (drop 4 l) (omega (arith, tail)))
 
-  ux : x < 2 ^ 64
-  ux = below (drop 5 l) x 8 hx (length-drop 5 l ∙ ap (λ (m : ℕ). m - 5) n)
-
-  pub field-odd : (x % 2 ≡ 0 → ⊥) → Refused BadPayload ≡ asks (ruleOf 4 l)
-  unfolding ruleOf
-  field-odd z =
-      no-edit (unused 1 (number l) && leb (bits 65 7 (number l)) 64) _
-      (ap (λ (t : Bool). t && leb (bits 65 7 (number l)) 64) (ne-eqb (number l % 2 ^ 1) 0 (omega (arith, field-number))))
-
-  width : bits 65 7 (p * 2 ^ 72 + (b * 2 ^ 64 + x)) ≡ b / 2
-  width = omega (arith, ub, ux)
-
-  pub field-wide : 64 < b / 2 → Refused BadPayload ≡ asks (ruleOf 4 l)
-  unfolding ruleOf
-  field-wide z =
-      no-edit (unused 1 (number l) && leb (bits 65 7 (number l)) 64) _
-      (ap (λ (t : Bool). unused 1 (number l) && t) (ap (λ (y : ℕ). leb y 64) (ap (bits 65 7) field-number ∙ width) ∙ lt-leb (b / 2) 64 z)
-      ∙ and-false (unused 1 (number l)))
-
-  pub field-good : x % 2 ≡ 0 → b / 2 ≤ 64 → For (SetField p (b / 2) (b % 2 * 9223372036854775808 + x / 2)) ≡ asks (ruleOf 4 l)
-  unfolding ruleOf
-  field-good z w =
-      yes-edit (unused 1 X && leb (bits 65 7 X) 64) (SetField (bits 72 32 X) (bits 65 7 X) (bits 1 64 X)) _
-      (ap₂ (λ (s t : Bool). s && t) (eq-eqb (X % 2 ^ 1) 0 (omega arith)) (ap (λ (y : ℕ). leb y 64) width ∙ le-leb (b / 2) 64 w))
-      (λ i. SetField (place i) (sym width i) (value i))
-      ∙ ap (λ (y : ℕ). asks (only (unused 1 y && leb (bits 65 7 y) 64) (SetField (bits 72 32 y) (bits 65 7 y) (bits 1 64 y)))) (sym field-number)
-    where
-      X : ℕ
-      X = p * 2 ^ 72 + (b * 2 ^ 64 + x)
-
-      place : p ≡ bits 72 32 X
-      place = omega (arith, up, ub, ux)
-
-      value : b % 2 * 9223372036854775808 + x / 2 ≡ bits 1 64 X
-      value = omega (arith, ub, ux)
+  field-x : x < 2 ^ 64
+  field-x = below (drop 5 l) x 8 hx (length-drop 5 l ∙ ap (λ (m : ℕ). m - 5) n)
 
   -- the value fits a word
   pub value-fits : b % 2 * 9223372036854775808 + x / 2 < 2 ^ 64
-  value-fits = omega (arith, ux)
+  value-fits = omega (arith, field-x)
+
+  -- p, the width and the value, and the unused bit
+  abbrev field-values : List ℕ
+  field-values = p ∷ b / 2 ∷ (b % 2 * 9223372036854775808 + x / 2) ∷ []
+
+  field-sized : (p < 2 ^ 32) × ((b / 2 < 2 ^ 7) × ((b % 2 * 9223372036854775808 + x / 2 < 2 ^ 64) × Unit {0}))
+  field-sized = (field-p, (omega (arith, field-b), (value-fits, tt)))
+
+  field-is : number l ≡ (p * 2 ^ 71 + (b / 2 * 2 ^ 64 + ((b % 2 * 9223372036854775808 + x / 2) * 2 ^ 0 + 0))) * 2 ^ 1 + x % 2
+  field-is = field-number ∙ omega arith
+
+  pub field-odd : (x % 2 ≡ 0 → ⊥) → Refused BadPayload ≡ asks (ruleOf 4 l)
+  unfolding rowOf numberIn
+  field-odd z = no-edit 4 l (rule-spoilt 4 _ refl l field-values (x % 2) field-sized (omega arith) field-is z)
+
+  pub field-wide : 64 < b / 2 → Refused BadPayload ≡ asks (ruleOf 4 l)
+  unfolding rowOf numberIn
+  field-wide z = no-edit 4 l (rule-over 4 _ refl l field-values (x % 2) field-sized (omega arith) field-is (λ i. omega (arith, i .2 .1)))
+
+  pub field-good : x % 2 ≡ 0 → b / 2 ≤ 64 → For (SetField p (b / 2) (b % 2 * 9223372036854775808 + x / 2)) ≡ asks (ruleOf 4 l)
+  unfolding rowOf numberIn
+  field-good z w =
+      is-edit 4 l _
+      (rule-good 4 _ refl l field-values (x % 2) field-sized (omega arith) field-is z
+      (omega arith, omega (arith, field-p), (omega arith, w, (omega arith, omega (arith, value-fits), tt))))
 
 -- ---- kinds 5, 6 and 7
 
@@ -144,80 +154,100 @@ module _ (l : List ℕ) (x : ℕ) (n : length l ≡ 5) (h : Is l x) where
   five : x < 2 ^ 40
   five = below l x 5 h n
 
-  spare : x % 128 ≡ 0 → unused 7 x ≡ true
-  spare z = eq-eqb (x % 2 ^ 7) 0 (omega arith)
+  -- the direction and k, and the unused bits
+  abbrev turn-values : List ℕ
+  turn-values = x / 549755813888 ∷ x / 128 % 4294967296 ∷ []
 
-  spoilt : (x % 128 ≡ 0 → ⊥) → unused 7 x ≡ false
-  spoilt z = ne-eqb (x % 2 ^ 7) 0 (omega arith)
+  turn-sized : (x / 549755813888 < 2 ^ 1) × ((x / 128 % 4294967296 < 2 ^ 32) × Unit {0})
+  turn-sized = (omega (arith, five), (omega arith, tt))
 
-  direction : leb 549755813888 x ≡ flag 39 x
-  direction = one-bit (bits 39 1 x) x 549755813888 (λ k. omega (arith, five)) (λ k. omega (arith, five))
+  turn-is : number l ≡ (x / 549755813888 * 2 ^ 32 + (x / 128 % 4294967296 * 2 ^ 0 + 0)) * 2 ^ 7 + x % 128
+  turn-is = sym (h .0) ∙ omega arith
+
+  direction : isOne (x / 549755813888) ≡ leb 549755813888 x
+  direction = one-bit x 549755813888 (x / 549755813888) (λ k. omega arith) (λ k. omega (arith, five))
 
   pub turn-bad : (kind : ℕ) → 5 ≤ kind → kind ≤ 6 → (x % 128 ≡ 0 → ⊥) → Refused BadPayload ≡ asks (ruleOf kind l)
-  unfolding ruleOf
+  unfolding rowOf numberIn
   turn-bad kind a b z =
       by-lt kind 6
-      (λ k. no-edit (unused 7 (number l)) _ (ap (unused 7) (sym (h .0)) ∙ spoilt z) ∙ ap (λ (k : ℕ). asks (ruleOf k l)) (let e : 5 ≡ kind = omega arith in e))
-      (λ k. no-edit (unused 7 (number l)) _ (ap (unused 7) (sym (h .0)) ∙ spoilt z) ∙ ap (λ (k : ℕ). asks (ruleOf k l)) (let e : 6 ≡ kind = omega arith in e))
+      (λ k. by-kind kind 5 l _ (omega arith) (no-edit 5 l (rule-spoilt 5 _ refl l turn-values (x % 128) turn-sized (omega arith) turn-is z)))
+      (λ k. by-kind kind 6 l _ (omega arith) (no-edit 6 l (rule-spoilt 6 _ refl l turn-values (x % 128) turn-sized (omega arith) turn-is z)))
 
   pub turn-shift : (kind : ℕ) → kind ≡ 5 → x % 128 ≡ 0 → For (Shift (leb 549755813888 x) (x / 128 % 4294967296)) ≡ asks (ruleOf kind l)
-  unfolding ruleOf
+  unfolding rowOf numberIn
   turn-shift kind k z =
-      yes-edit (unused 7 x) (Shift (flag 39 x) (bits 7 32 x)) _ (spare z) (ap (λ (t : Bool). Shift t (bits 7 32 x)) direction)
-      ∙ ap (λ (y : ℕ). asks (only (unused 7 y) (Shift (flag 39 y) (bits 7 32 y)))) (h .0) ∙ ap (λ (k : ℕ). asks (ruleOf k l)) (sym k)
+      by-kind kind 5 l _ k
+      (is-edit 5 l _
+      (rule-good 5 _ refl l turn-values (x % 128) turn-sized (omega arith) turn-is z (omega arith, omega (arith, five), (omega arith, omega arith, tt))
+      ∙ ap (λ (t : Bool). some (Shift t (x / 128 % 4294967296))) direction))
 
   pub turn-rotate : (kind : ℕ) → kind ≡ 6 → x % 128 ≡ 0 → For (Rotate (leb 549755813888 x) (x / 128 % 4294967296)) ≡ asks (ruleOf kind l)
-  unfolding ruleOf
+  unfolding rowOf numberIn
   turn-rotate kind k z =
-      yes-edit (unused 7 x) (Rotate (flag 39 x) (bits 7 32 x)) _ (spare z) (ap (λ (t : Bool). Rotate t (bits 7 32 x)) direction)
-      ∙ ap (λ (y : ℕ). asks (only (unused 7 y) (Rotate (flag 39 y) (bits 7 32 y)))) (h .0) ∙ ap (λ (k : ℕ). asks (ruleOf k l)) (sym k)
+      by-kind kind 6 l _ k
+      (is-edit 6 l _
+      (rule-good 6 _ refl l turn-values (x % 128) turn-sized (omega arith) turn-is z (omega arith, omega (arith, five), (omega arith, omega arith, tt))
+      ∙ ap (λ (t : Bool). some (Rotate t (x / 128 % 4294967296))) direction))
 
-  resized : x / 128 ≡ bits 7 33 x
-  resized = omega (arith, five)
+  size-sized : (x / 128 < 2 ^ 33) × Unit {0}
+  size-sized = (omega (arith, five), tt)
+
+  size-is : number l ≡ (x / 128 * 2 ^ 0 + 0) * 2 ^ 7 + x % 128
+  size-is = sym (h .0) ∙ omega arith
 
   pub size-bad : (x % 128 ≡ 0 → ⊥) → Refused BadPayload ≡ asks (ruleOf 7 l)
-  unfolding ruleOf
-  size-bad z =
-      no-edit (unused 7 x && leb (bits 7 33 x) 4294967296) (Resize (bits 7 33 x)) (ap (λ (t : Bool). t && leb (bits 7 33 x) 4294967296) (spoilt z))
-      ∙ ap (λ (y : ℕ). asks (only (unused 7 y && leb (bits 7 33 y) 4294967296) (Resize (bits 7 33 y)))) (h .0)
+  unfolding rowOf numberIn
+  size-bad z = no-edit 7 l (rule-spoilt 7 _ refl l (x / 128 ∷ []) (x % 128) size-sized (omega arith) size-is z)
 
   pub size-over : 4294967296 < x / 128 → Refused BadPayload ≡ asks (ruleOf 7 l)
-  unfolding ruleOf
-  size-over z =
-      no-edit (unused 7 x && leb (bits 7 33 x) 4294967296) (Resize (bits 7 33 x))
-      (ap (λ (t : Bool). unused 7 x && t) (ap (λ (y : ℕ). leb y 4294967296) (sym resized) ∙ lt-leb (x / 128) 4294967296 z) ∙ and-false (unused 7 x))
-      ∙ ap (λ (y : ℕ). asks (only (unused 7 y && leb (bits 7 33 y) 4294967296) (Resize (bits 7 33 y)))) (h .0)
+  unfolding rowOf numberIn
+  size-over z = no-edit 7 l (rule-over 7 _ refl l (x / 128 ∷ []) (x % 128) size-sized (omega arith) size-is (λ i. omega (arith, i .1)))
 
   pub size-good : x % 128 ≡ 0 → x / 128 ≤ 4294967296 → For (Resize (x / 128)) ≡ asks (ruleOf 7 l)
-  unfolding ruleOf
-  size-good z w =
-      yes-edit (unused 7 x && leb (bits 7 33 x) 4294967296) (Resize (bits 7 33 x)) _
-      (ap₂ (λ (s t : Bool). s && t) (spare z) (ap (λ (y : ℕ). leb y 4294967296) (sym resized) ∙ le-leb (x / 128) 4294967296 w)) (ap Resize resized)
-      ∙ ap (λ (y : ℕ). asks (only (unused 7 y && leb (bits 7 33 y) 4294967296) (Resize (bits 7 33 y)))) (h .0)
+  unfolding rowOf numberIn
+  size-good z w = is-edit 7 l _ (rule-good 7 _ refl l (x / 128 ∷ []) (x % 128) size-sized (omega arith) size-is z (omega arith, w, tt))
 
 -- ---- kinds 9, 10 and 11
 
 module _ (l : List ℕ) (x : ℕ) (n : length l ≡ 8) (h : Is l x) (kind : ℕ) where
-  high : x / 4294967296 ≡ bits 32 32 (number l)
-  high = omega (arith, below l x 8 h n, h .0)
+  eight : x < 2 ^ 64
+  eight = below l x 8 h n
 
-  low : x % 4294967296 ≡ bits 0 32 (number l)
-  low = omega (arith, h .0)
+  -- p and k
+  abbrev pair-values : List ℕ
+  pair-values = x / 4294967296 ∷ x % 4294967296 ∷ []
+
+  pair-sized : (x / 4294967296 < 2 ^ 32) × ((x % 4294967296 < 2 ^ 32) × Unit {0})
+  pair-sized = (omega (arith, eight), (omega arith, tt))
+
+  pair-is : number l ≡ (x / 4294967296 * 2 ^ 32 + (x % 4294967296 * 2 ^ 0 + 0)) * 2 ^ 0 + 0
+  pair-is = sym (h .0) ∙ omega arith
 
   pub pair-toggle : kind ≡ 9 → For (ToggleRegion (x / 4294967296) (x % 4294967296)) ≡ asks (ruleOf kind l)
-  unfolding ruleOf
-  pair-toggle k = ap₂ (λ (p q : ℕ). For (ToggleRegion p q)) high low ∙ ap (λ (k : ℕ). asks (ruleOf k l)) (sym k)
+  unfolding rowOf numberIn
+  pair-toggle k =
+      by-kind kind 9 l _ k
+      (is-edit 9 l _ (rule-good 9 _ refl l pair-values 0 pair-sized (omega arith) pair-is refl (omega arith, omega (arith, eight), (omega arith, omega arith, tt))))
 
   pub pair-open : kind ≡ 10 → For (Open (x / 4294967296) (x % 4294967296)) ≡ asks (ruleOf kind l)
-  unfolding ruleOf
-  pair-open k = ap₂ (λ (p q : ℕ). For (Open p q)) high low ∙ ap (λ (k : ℕ). asks (ruleOf k l)) (sym k)
+  unfolding rowOf numberIn
+  pair-open k =
+      by-kind kind 10 l _ k
+      (is-edit 10 l _ (rule-good 10 _ refl l pair-values 0 pair-sized (omega arith) pair-is refl (omega arith, omega (arith, eight), (omega arith, omega arith, tt))))
 
   pub pair-close : kind ≡ 11 → For (Close (x / 4294967296) (x % 4294967296)) ≡ asks (ruleOf kind l)
-  unfolding ruleOf
-  pair-close k = ap₂ (λ (p q : ℕ). For (Close p q)) high low ∙ ap (λ (k : ℕ). asks (ruleOf k l)) (sym k)
+  unfolding rowOf numberIn
+  pair-close k =
+      by-kind kind 11 l _ k
+      (is-edit 11 l _ (rule-good 11 _ refl l pair-values 0 pair-sized (omega arith) pair-is refl (omega arith, omega (arith, eight), (omega arith, omega arith, tt))))
 
 -- ---- kind 8
 
-pub just-reverse : (kind : ℕ) (l : List ℕ) → kind ≡ 8 → For Reverse ≡ asks (ruleOf kind l)
-unfolding ruleOf
-just-reverse kind l k = ap (λ (k : ℕ). asks (ruleOf k l)) (sym k)
+pub just-reverse : (kind : ℕ) (l : List ℕ) → length l ≡ 0 → kind ≡ 8 → For Reverse ≡ asks (ruleOf kind l)
+unfolding rowOf numberIn number
+just-reverse kind l n k = by-kind kind 8 l _ k (is-edit 8 l _ (rule-good 8 _ refl l [] 0 tt (omega arith) (nothing l n) refl tt))
+  where
+    nothing : (l : List ℕ) → length l ≡ 0 → number l ≡ 0
+    nothing [] n = refl
+    nothing (b ∷ l) n = absurd (omega arith)

@@ -1,7 +1,7 @@
 -- The reader gives exactly the answer that the sheet's meaning names, for any edition, state and step.
 use Prim.Native.Nat.{ℕ, zero, suc, _+_, _-_, _≤_, _<_}
 use mathlib.Core.Path.{_≡_, refl, sym, ap, _∙_, subst}
-use mathlib.Core.List.{List}
+use mathlib.Core.List.{List, [], _++_}
 use mathlib.Core.Logic.{_↔_, inl, inr}
 use mathlib.Core.Option.{Option, none, some}
 use native.Mathlib.Omega.{arith}
@@ -10,68 +10,74 @@ use native.Mathlib.Nat.{add-zero, add-suc, suc-add, zero-add}
 use lib.ListN.{length}
 use Rattle.storage.specs.declared.Refusal.{Refusal}
 use Rattle.storage.specs.declared.Refusal.the-variants.{StoreTooLong, CountOverStore, WidthOver, IndexOver, PastLength, NoSpace, NotList, NotAscii, NotSheet, CutRecord, BytesRemain, BadPayload, NewerKind, NoEdition}
-use Rattle.sheet.specs.Reader.{Edition, Answer, refused, done, Turn, stop, next, countIn, endAt, act, then, records, copied, read}
-use Rattle.sheet.specs.Meaning.{Header, start, Whole, item, onward, editOf, effect, Sound, edits, Reached, AtRecord, Newer, Bad, Full, Means}
-use Rattle.sheet.proofs.Turns.{none-some, some-inj, take-true, take-false, header?, headed-true, headed-false, does, effect-append, Did, went, newer, bad, full, did, act-did, record-whole, record-cut, all-read, bytes-left}
+use Rattle.sheet.specs.Reader.{Edition, Item, Answer, refused, done, Turn, stop, next, endAt, edit, act, then, records, copied, read}
+use Rattle.sheet.specs.Meaning.{Header, total, start, Whole, onward, effect, Sound, begin, Reached, AtRecord, Newer, Bad, Full, Means}
+use Rattle.sheet.proofs.Stands.{stands, stands-whole, stands-is, asks, asked, item, Fine, sound-more, Less, sound-less}
+use Rattle.sheet.proofs.Turns.{none-some, some-inj, take-true, take-false, header?, headed-true, headed-false, listed, editOf, edit-known, does, effect-append, Did, went, newer, bad, full, did, act-did, record-whole, record-cut, all-read, bytes-left}
 
 module _ {A S : Type 0} (E : Edition A S) (sheet : List ℕ) where
   -- the first i records are sound and applied, and make s of s₀
   abbrev Reaches : S → ℕ → S → Type 0
-  Reaches s₀ i s = ((j : ℕ) → j < i → Sound E sheet j) × (effect E (edits E sheet i) s₀ ≡ some s)
+  Reaches s₀ i s = (es : List A) × Sound E sheet i es × (effect E es s₀ ≡ some s)
 
-  reaches-suc : (s₀ : S) (i : ℕ) (s t : S) → Reaches s₀ i s → Sound E sheet i → does E (editOf E (item sheet i)) s ≡ some t → Reaches s₀ (suc i) t
-  unfolding edits
-  reaches-suc s₀ i s t h g e = (
-    (λ j l. go j l (decLe (suc j) i)),
-    effect-append E (edits E sheet i) (editOf E (item sheet i)) s₀ ∙ ap (onward (does E (editOf E (item sheet i)))) (h .1) ∙ e,
+  reaches-suc : (s₀ : S) (i : ℕ) (s t : S) → Reaches s₀ i s → Whole sheet i → Fine E sheet i → does E (editOf E (item E sheet i)) s ≡ some t → Reaches s₀ (suc i) t
+  reaches-suc s₀ i s t (es, h, p) w g e = (
+    es ++ listed (editOf E (item E sheet i)),
+    sound-more E sheet i es h w g,
+    effect-append E es (editOf E (item E sheet i)) s₀ ∙ ap (onward (does E (editOf E (item E sheet i)))) p ∙ e,
   )
-    where
-      go : (j : ℕ) → j < suc i → Dec (j < i) → Sound E sheet j
-      go j l (yes k) = h .0 j k
-      go j l (no k) = let e : i ≡ j = omega arith in subst (Sound E sheet) e g
 
-  reaches-pred : (s₀ : S) (i : ℕ) (t : S) → Reaches s₀ (suc i) t → (s : S) × Reaches s₀ i s × Sound E sheet i × (does E (editOf E (item sheet i)) s ≡ some t)
-  unfolding edits
-  reaches-pred s₀ i t h = go (effect E (edits E sheet i) s₀) refl (sym (effect-append E (edits E sheet i) (editOf E (item sheet i)) s₀) ∙ h .1)
+  reaches-pred : (s₀ : S) (i : ℕ) (t : S) → Reaches s₀ (suc i) t → (s : S) × Reaches s₀ i s × Whole sheet i × Fine E sheet i × (does E (editOf E (item E sheet i)) s ≡ some t)
+  reaches-pred s₀ i t (es, h, p) = go (effect E before s₀) refl (sym (effect-append E before (editOf E (item E sheet i)) s₀) ∙ ap (λ (l : List A). effect E l s₀) (sym (less .is)) ∙ p)
     where
-      go : (o : Option S) → effect E (edits E sheet i) s₀ ≡ o → onward (does E (editOf E (item sheet i))) o ≡ some t → (s : S) × Reaches s₀ i s × Sound E sheet i × (does E (editOf E (item sheet i)) s ≡ some t)
+      less : Less E sheet i es
+      less = sound-less E sheet i es h
+
+      before : List A
+      before = less .before
+
+      go : (o : Option S) → effect E before s₀ ≡ o → onward (does E (editOf E (item E sheet i))) o ≡ some t
+          → (s : S) × Reaches s₀ i s × Whole sheet i × Fine E sheet i × (does E (editOf E (item E sheet i)) s ≡ some t)
       go none p q = absurd (none-some q)
-      go (some s) p q = (s, ((λ j l. h .0 j (omega arith)), p), h .0 i (omega arith), q)
+      go (some s) p q = (s, (before, less .sound, p), less .whole, less .fine, q)
 
-  reach-bound : (i : ℕ) → 4 ≤ length sheet → ((j : ℕ) → j < i → Sound E sheet j) → start sheet i ≤ length sheet
+  reach-bound : (i : ℕ) (es : List A) → 4 ≤ length sheet → Sound E sheet i es → start sheet i ≤ length sheet
   unfolding start
-  reach-bound zero l h = l
-  reach-bound (suc i) l h = h i (omega arith) .0
+  reach-bound zero es l h = l
+  reach-bound (suc i) es l h = sound-less E sheet i es h .whole
 
   -- one more record of whole frame
-  turned : (n i : ℕ) (s : S) → Whole sheet i → (o : Turn S) → Did E s (item sheet i) o
+  turned : (n i : ℕ) (s : S) → Whole sheet i → (o : Turn S) → Did E s (item E sheet i) o
       → records E sheet (suc n) i (start sheet i) s ≡ then E (records E sheet n (suc i) (start sheet (suc i))) (suc i) o
   unfolding start
   turned n i s w o d =
-      record-whole E sheet n i (start sheet i) s w ∙ ap (then E (records E sheet n (suc i) (start sheet (suc i))) (suc i)) (act-did E (item sheet i) s o d)
+      record-whole E sheet n i (start sheet i) s w ∙ ap (then E (records E sheet n (suc i) (start sheet (suc i))) (suc i)) (act-did E (item E sheet i) s o d)
 
   -- the first i records are read
   advance : (s₀ : S) (i n : ℕ) (s : S) → Reaches s₀ i s → records E sheet (i + n) 0 4 s₀ ≡ records E sheet n i (start sheet i) s
-  unfolding start effect edits
-  advance s₀ zero n s h = ap (λ (m : ℕ). records E sheet m 0 4 s₀) (zero-add n) ∙ ap (records E sheet n 0 4) (some-inj (h .1))
+  unfolding start effect
+  advance s₀ zero n s (es, h, p) = ap (λ (m : ℕ). records E sheet m 0 4 s₀) (zero-add n) ∙ ap (records E sheet n 0 4) (some-inj (sym (ap (λ (l : List A). effect E l s₀) (nothing es h)) ∙ p))
+    where
+      nothing : (es : List A) → Sound E sheet 0 es → es ≡ []
+      nothing es begin = refl
   advance s₀ (suc i) n t h =
-      let (s, r, g, q) = reaches-pred s₀ i t h in
-      ap (λ (m : ℕ). records E sheet m 0 4 s₀) (suc-add i n ∙ sym (add-suc i n)) ∙ advance s₀ i (suc n) s r ∙ turned n i s (g .0) (next t) (went t (g .1) q refl)
+      let (s, r, w, g, q) = reaches-pred s₀ i t h in
+      ap (λ (m : ℕ). records E sheet m 0 4 s₀) (suc-add i n ∙ sym (add-suc i n)) ∙ advance s₀ i (suc n) s r ∙ turned n i s w (next t) (went t g q refl)
 
   module _ (old : Option S) (good : Header sheet) (s₀ : S) (fits : old ≡ some s₀) where
     abbrev reached : (i : ℕ) (s : S) → Reaches s₀ i s → Reached E sheet old i
-    reached i s h = record { headed = good; from = s₀; fits = fits; sound = h .0; state = s; applied = h .1 }
+    reached i s h = record { headed = good; from = s₀; fits = fits; edits = h .0; sound = h .1; state = s; applied = h .2 }
 
-    at-end : (i : ℕ) (s : S) → i ≡ countIn sheet → Reaches s₀ i s → Dec (start sheet i < length sheet) → Means E sheet old (records E sheet 0 i (start sheet i) s)
+    at-end : (i : ℕ) (s : S) → i ≡ total sheet → Reaches s₀ i s → Dec (start sheet i < length sheet) → Means E sheet old (records E sheet 0 i (start sheet i) s)
     at-end i s c h (yes l) =
         subst (Means E sheet old) (sym (bytes-left E sheet i (start sheet i) s l))
-        (c, reached (countIn sheet) s (subst (λ (m : ℕ). Reaches s₀ m s) c h), subst (λ (m : ℕ). start sheet m < length sheet) c l)
+        (c, reached (total sheet) s (subst (λ (m : ℕ). Reaches s₀ m s) c h), subst (λ (m : ℕ). start sheet m < length sheet) c l)
     at-end i s c h (no l) =
-        let e : start sheet i ≡ length sheet = omega (arith, reach-bound i (good .0) (h .0)) in
+        let e : start sheet i ≡ length sheet = omega (arith, reach-bound i (h .0) (good .0) (h .1)) in
         subst (Means E sheet old) (sym (all-read E sheet i (start sheet i) s e))
-        (record { numbered = c; reached = reached (countIn sheet) s (subst (λ (m : ℕ). Reaches s₀ m s) c h); ends = subst (λ (m : ℕ). start sheet m ≡ length sheet) c e; makes = refl })
+        (record { numbered = c; reached = reached (total sheet) s (subst (λ (m : ℕ). Reaches s₀ m s) c h); ends = subst (λ (m : ℕ). start sheet m ≡ length sheet) c e; makes = refl })
 
-    forward : (n i : ℕ) (s : S) → i + n ≡ countIn sheet → Reaches s₀ i s → Means E sheet old (records E sheet n i (start sheet i) s)
+    forward : (n i : ℕ) (s : S) → i + n ≡ total sheet → Reaches s₀ i s → Means E sheet old (records E sheet n i (start sheet i) s)
     forward zero i s c h = at-end i s (sym (add-zero i) ∙ c) h (decLe (suc (start sheet i)) (length sheet))
     forward (suc n) i s c h =
         go (decLe (endAt sheet (start sheet i)) (length sheet)) (λ t r. forward n (suc i) t (suc-add i n ∙ sym (add-suc i n) ∙ c) r)
@@ -82,59 +88,86 @@ module _ {A S : Type 0} (E : Edition A S) (sheet : List ℕ) where
         after : Turn S → Type 0
         after o = Means E sheet old (then E (records E sheet n (suc i) (start sheet (suc i))) (suc i) o)
 
-        on : Whole sheet i → ((t : S) → Reaches s₀ (suc i) t → Means E sheet old (records E sheet n (suc i) (start sheet (suc i)) t)) → (o : Turn S) → Did E s (item sheet i) o → Means E sheet old (then E (records E sheet n (suc i) (start sheet (suc i))) (suc i) o)
-        on w k o (went t g d q) = subst after (sym q) (k t (reaches-suc s₀ i s t h (w, g) d))
-        on w k o (newer d p q) = subst after (sym q) (here (Newer E sheet) (w, d, p))
-        on w k o (bad d m p x q) = subst after (sym q) (here (Bad E sheet) (w, d, m, p, x))
-        on w k o (full e p x q) = subst after (sym q) (inr (here (Full E sheet) (w, e, p, x)))
+        on : Whole sheet i → ((t : S) → Reaches s₀ (suc i) t → Means E sheet old (records E sheet n (suc i) (start sheet (suc i)) t)) → (o : Turn S) → Did E s (item E sheet i) o → Means E sheet old (then E (records E sheet n (suc i) (start sheet (suc i))) (suc i) o)
+        on w k o (went t g d q) = subst after (sym q) (k t (reaches-suc s₀ i s t h w g d))
+        on w k o (newer d p q) = subst after (sym q) (here (Newer E sheet) (item E sheet i, stands sheet (start sheet i) w, d, p))
+        on w k o (bad d m p x q) = subst after (sym q) (here (Bad E sheet) (item E sheet i, stands sheet (start sheet i) w, d, m, p, (λ e a. none-some (sym (edit-known E (item E sheet i) s d m p ∙ x) ∙ asked E (item E sheet i) e a))))
+        on w k o (full e p x q) = subst after (sym q) (inr (here (Full E sheet) (item E sheet i, stands sheet (start sheet i) w, e, asks E (item E sheet i) e p, x)))
 
         go : Dec (Whole sheet i) → ((t : S) → Reaches s₀ (suc i) t → Means E sheet old (records E sheet n (suc i) (start sheet (suc i)) t)) → Means E sheet old (records E sheet (suc n) i (start sheet i) s)
         go (yes w) k =
-            subst (Means E sheet old) (sym (turned n i s w (act E (item sheet i) s) (did E (item sheet i) s))) (on w k (act E (item sheet i) s) (did E (item sheet i) s))
+            subst (Means E sheet old) (sym (turned n i s w (act E (item E sheet i) s) (did E (item E sheet i) s))) (on w k (act E (item E sheet i) s) (did E (item E sheet i) s))
         go (no w) k = subst (Means E sheet old) (sym (record-cut E sheet n i (start sheet i) s w)) (here (λ s i. ¬ Whole sheet i) w)
 
   -- ---- and back
 
   module _ (old : Option S) where
-    arrive : (i n : ℕ) → i + n ≡ countIn sheet → (h : Reached E sheet old i) → records E sheet (countIn sheet) 0 4 (h .from) ≡ records E sheet n i (start sheet i) (h .state)
-    arrive i n c h = ap (λ (m : ℕ). records E sheet m 0 4 (h .from)) (sym c) ∙ advance (h .from) i n (h .state) (h .sound, h .applied)
+    arrive : (i n : ℕ) → i + n ≡ total sheet → (h : Reached E sheet old i) → records E sheet (total sheet) 0 4 (h .from) ≡ records E sheet n i (start sheet i) (h .state)
+    arrive i n c h = ap (λ (m : ℕ). records E sheet m 0 4 (h .from)) (sym c) ∙ advance (h .from) i n (h .state) (h .edits, h .sound, h .applied)
 
-    read-copied : (i : ℕ) (h : Reached E sheet old i) → read E sheet old ≡ records E sheet (countIn sheet) 0 4 (h .from)
+    read-copied : (i : ℕ) (h : Reached E sheet old i) → read E sheet old ≡ records E sheet (total sheet) 0 4 (h .from)
     unfolding read
     read-copied i h = take-true _ _ (headed-true sheet (h .headed)) ∙ ap (copied E sheet) (h .fits)
 
-    stops : (P : S → ℕ → Type 0) (k : ℕ) (a : AtRecord E sheet old k P) (e : Refusal) → Whole sheet (a .index) → Did E (a .reached .state) (item sheet (a .index)) (stop e) → read E sheet old ≡ refused e k
+    stops : (P : S → ℕ → Type 0) (k : ℕ) (a : AtRecord E sheet old k P) (e : Refusal) → Whole sheet (a .index) → Did E (a .reached .state) (item E sheet (a .index)) (stop e) → read E sheet old ≡ refused e k
     stops P k a e w d =
-        let n : ℕ = countIn sheet - suc (a .index) in
+        let n : ℕ = total sheet - suc (a .index) in
         let l = a .within in
-        let c : a .index + suc n ≡ countIn sheet = omega arith in
+        let c : a .index + suc n ≡ total sheet = omega arith in
         read-copied (a .index) (a .reached) ∙ arrive (a .index) (suc n) c (a .reached) ∙ turned n (a .index) (a .reached .state) w (stop e) d
         ∙ ap (refused e) (sym (a .numbered))
 
     cut : (k : ℕ) → AtRecord E sheet old k (λ s i. ¬ Whole sheet i) → read E sheet old ≡ refused CutRecord k
     cut k a =
-        let n : ℕ = countIn sheet - suc (a .index) in
+        let n : ℕ = total sheet - suc (a .index) in
         let l = a .within in
-        let c : a .index + suc n ≡ countIn sheet = omega arith in
+        let c : a .index + suc n ≡ total sheet = omega arith in
         read-copied (a .index) (a .reached) ∙ arrive (a .index) (suc n) c (a .reached)
         ∙ record-cut E sheet n (a .index) (start sheet (a .index)) (a .reached .state) (a .here) ∙ ap (refused CutRecord) (sym (a .numbered))
 
-    finish : (h : Reached E sheet old (countIn sheet)) → read E sheet old ≡ records E sheet 0 (countIn sheet) (start sheet (countIn sheet)) (h .state)
-    finish h = read-copied (countIn sheet) h ∙ arrive (countIn sheet) 0 (add-zero (countIn sheet)) h
+    finish : (h : Reached E sheet old (total sheet)) → read E sheet old ≡ records E sheet 0 (total sheet) (start sheet (total sheet)) (h .state)
+    finish h = read-copied (total sheet) h ∙ arrive (total sheet) 0 (add-zero (total sheet)) h
+
+    newer-read : (k : ℕ) → AtRecord E sheet old k (Newer E sheet) → read E sheet old ≡ refused NewerKind k
+    newer-read k a =
+        let (r, h, d, p) = a .here in
+        let q = stands-is sheet (start sheet (a .index)) r h in
+        stops (Newer E sheet) k a NewerKind (stands-whole sheet (start sheet (a .index)) r h)
+        (newer (ap (λ (x : Item). x .duty) q ∙ d) (ap (λ (x : Item). E .size (x .kind)) q ∙ p) refl)
+
+    bad-read : (k : ℕ) → AtRecord E sheet old k (Bad E sheet) → read E sheet old ≡ refused BadPayload k
+    bad-read k a =
+        let (r, h, d, n, p, x) = a .here in
+        let q = stands-is sheet (start sheet (a .index)) r h in
+        let d′ = ap (λ (x : Item). x .duty) q ∙ d in
+        let p′ = ap (λ (x : Item). E .size (x .kind)) q ∙ p in
+        let y : Item = item E sheet (a .index) in
+        stops (Bad E sheet) k a BadPayload (stands-whole sheet (start sheet (a .index)) r h)
+        (bad d′ n p′ (not-some (edit E y n) (λ e z. x e (asks E r e (ap (editOf E) (sym q) ∙ edit-known E y (a .reached .state) d′ n p′ ∙ z)))) refl)
+      where
+        not-some : (o : Option A) → ((e : A) → o ≡ some e → ⊥) → o ≡ none
+        not-some none h = refl
+        not-some (some e) h = absurd (h e refl)
+
+    full-read : (k : ℕ) → AtRecord E sheet old k (Full E sheet) → read E sheet old ≡ refused NoSpace k
+    full-read k a =
+        let (r, h, e, x, p) = a .here in
+        stops (Full E sheet) k a NoSpace (stands-whole sheet (start sheet (a .index)) r h)
+        (full e (ap (editOf E) (stands-is sheet (start sheet (a .index)) r h) ∙ asked E r e x) p refl)
 
     -- a reading gives the answer that the sheet means
     backward : (a : Answer S) → Means E sheet old a → read E sheet old ≡ a
     unfolding read
     backward (refused NotSheet k) h = take-false _ _ (headed-false sheet (h .1)) ∙ ap (refused NotSheet) (sym (h .0))
     backward (refused NoSpace k) (inl h) = take-true _ _ (headed-true sheet (h .1)) ∙ ap (copied E sheet) (h .2) ∙ ap (refused NoSpace) (sym (h .0))
-    backward (refused NoSpace k) (inr a) = let h = a .here in stops (Full E sheet) k a NoSpace (h .0) (full (h .1) (h .2) (h .3) refl)
+    backward (refused NoSpace k) (inr a) = full-read k a
     backward (refused CutRecord k) a = cut k a
-    backward (refused NewerKind k) a = let h = a .here in stops (Newer E sheet) k a NewerKind (h .0) (newer (h .1) (h .2) refl)
-    backward (refused BadPayload k) a = let h = a .here in stops (Bad E sheet) k a BadPayload (h .0) (bad (h .1) (h .2) (h .3) (h .4) refl)
-    backward (refused BytesRemain k) h = finish (h .1) ∙ bytes-left E sheet (countIn sheet) (start sheet (countIn sheet)) (h .1 .state) (h .2) ∙ ap (refused BytesRemain) (sym (h .0))
+    backward (refused NewerKind k) a = newer-read k a
+    backward (refused BadPayload k) a = bad-read k a
+    backward (refused BytesRemain k) h = finish (h .1) ∙ bytes-left E sheet (total sheet) (start sheet (total sheet)) (h .1 .state) (h .2) ∙ ap (refused BytesRemain) (sym (h .0))
     backward (done k s) h =
-        finish (h .reached) ∙ all-read E sheet (countIn sheet) (start sheet (countIn sheet)) (h .reached .state) (h .ends)
-        ∙ ap (done (countIn sheet)) (h .makes) ∙ ap (λ (m : ℕ). done m s) (sym (h .numbered))
+        finish (h .reached) ∙ all-read E sheet (total sheet) (start sheet (total sheet)) (h .reached .state) (h .ends)
+        ∙ ap (done (total sheet)) (h .makes) ∙ ap (λ (m : ℕ). done m s) (sym (h .numbered))
     backward (refused StoreTooLong k) h = absurd h
     backward (refused CountOverStore k) h = absurd h
     backward (refused WidthOver k) h = absurd h
@@ -145,7 +178,7 @@ module _ {A S : Type 0} (E : Edition A S) (sheet : List ℕ) where
     backward (refused NoEdition k) h = absurd h
 
     means : Means E sheet old (read E sheet old)
-    unfolding read start effect edits
+    unfolding read start effect
     means = go (header? sheet) old refl
       where
         go : Dec (Header sheet) → (o : Option S) → old ≡ o → Means E sheet old (read E sheet old)
@@ -153,7 +186,7 @@ module _ {A S : Type 0} (E : Edition A S) (sheet : List ℕ) where
         go (yes h) none e = subst (Means E sheet old) (sym (take-true _ _ (headed-true sheet h) ∙ ap (copied E sheet) e)) (inl (refl, h, e))
         go (yes h) (some s₀) e =
             subst (Means E sheet old) (sym (take-true _ _ (headed-true sheet h) ∙ ap (copied E sheet) e))
-            (forward old h s₀ e (countIn sheet) 0 s₀ (zero-add (countIn sheet)) ((λ j l. absurd (omega arith)), refl))
+            (forward old h s₀ e (total sheet) 0 s₀ (zero-add (total sheet)) ([], begin, refl))
 
     -- the reader's answer is the one that the sheet means, and no other
     pub exact : (a : Answer S) → (read E sheet old ≡ a) ↔ Means E sheet old a

@@ -11,16 +11,15 @@ use lib.Seq.{take-append-seam, drop-append-add, getD-append-seam, getD-append-ad
 use lib.Dec.{leb}
 use borrow.Author.Tests.{le-leb, lt-leb, le-ltb, eq-eqb}
 use Rattle.sheet.specs.Bytes.{bytes}
-use Rattle.sheet.specs.Kinds.{sizeIn, kindOf, payloadOf}
+use Rattle.sheet.specs.Kinds.{sizeIn, kindOf, payloadOf, Ranged}
 use Rattle.sheet.specs.Reader.{Item, done, countIn, sizeAt, endAt, itemAt, edited, known, act, stepped, then, records, read}
 use Rattle.sheet.specs.Meaning.{Header, onward, effect}
-use Rattle.sheet.specs.Reads.{editionOf}
+use Rattle.sheet.specs.Reads.{editionOf, latest}
 use Rattle.sheet.specs.Writer.{Entry, edit, note, laid, bytesOf, framesFault, sheetFault}
 use Rattle.sheet.specs.Plain.{body, sheetOf, editsIn}
 use Rattle.sheet.specs.declared.Edit.{Edit}
 use Rattle.storage.specs.Stores.{Bits}
 use Rattle.sheet.proofs.Turns.{none-some, some-inj, take-true, take-false, headed-true, act-remark, record-whole, all-read}
-use Rattle.sheet.specs.Promises.{Ranged}
 use Rattle.sheet.proofs.Payloads.{read-back, kind-small, payload-short, size-latest}
 
 -- a record that fits its frame
@@ -32,7 +31,7 @@ abbrev pub AllProper : List Entry → Type 0
 AllProper [] = Unit {0}
 AllProper (e ∷ es) = Proper e × AllProper es
 
-abbrev itemOf : Entry → Item
+abbrev pub itemOf : Entry → Item
 itemOf (edit e) = record { duty = true; kind = kindOf e; payload = payloadOf e }
 itemOf (note kind payload) = record { duty = false; kind = kind; payload = payload }
 
@@ -64,7 +63,7 @@ module _ (pre : List ℕ) (first : ℕ) (p rest : List ℕ) (short : length p �
   laid-end = omega (arith, laid-size, length-append pre (laid first p), length-append (bytes 2 (length p)) p)
 
 module _ (pre : List ℕ) (rest : List ℕ) where
-  item-of : (e : Entry) → Proper e → itemAt (pre ++ (bytesOf e ++ rest)) (length pre) ≡ itemOf e
+  pub item-of : (e : Entry) → Proper e → itemAt (pre ++ (bytesOf e ++ rest)) (length pre) ≡ itemOf e
   unfolding bytesOf
   item-of (edit e) h =
       let a : (128 + kindOf e) % 128 ≡ kindOf e = omega (arith, kind-small e) in
@@ -75,12 +74,12 @@ module _ (pre : List ℕ) (rest : List ℕ) where
       let b : leb 128 k ≡ false = lt-leb 128 k (omega arith) in
       laid-item pre k p rest (h .1) ∙ λ i. record { duty = b i; kind = a i; payload = p }
 
-  end-of : (e : Entry) → Proper e → endAt (pre ++ (bytesOf e ++ rest)) (length pre) ≡ length (pre ++ bytesOf e)
+  pub end-of : (e : Entry) → Proper e → endAt (pre ++ (bytesOf e ++ rest)) (length pre) ≡ length (pre ++ bytesOf e)
   unfolding bytesOf
   end-of (edit e) h = laid-end pre (128 + kindOf e) (payloadOf e) rest (payload-short e)
   end-of (note k p) h = laid-end pre k p rest (h .1)
 
-  whole-of : (e : Entry) → Proper e → endAt (pre ++ (bytesOf e ++ rest)) (length pre) ≤ length (pre ++ (bytesOf e ++ rest))
+  pub whole-of : (e : Entry) → Proper e → endAt (pre ++ (bytesOf e ++ rest)) (length pre) ≤ length (pre ++ (bytesOf e ++ rest))
   whole-of e h = omega (arith, end-of e h, length-append pre (bytesOf e), length-append pre (bytesOf e ++ rest), length-append (bytesOf e) rest)
 
 -- ---- all records
@@ -122,7 +121,7 @@ InEdition n [] = Unit {0}
 InEdition n (edit e ∷ es) = (sizeIn n (kindOf e) ≡ some (length (payloadOf e))) × InEdition n es
 InEdition n (note k p ∷ es) = InEdition n es
 
-pub in-latest : (es : List Entry) → InEdition 2 es
+pub in-latest : (es : List Entry) → InEdition latest es
 in-latest [] = tt
 in-latest (edit e ∷ es) = (size-latest e, in-latest es)
 in-latest (note k p ∷ es) = in-latest es

@@ -1,185 +1,325 @@
--- What is laid out of an edit is read back as it, and a good payload is the layout of its edit.
-use Prim.Native.Nat.{ℕ, zero, suc, _+_, _*_, _^_, _%_, _≤_, _<_}
+-- What is laid out of an edit is read back as it, and a good payload is the layout of its edit: by the rows of the table.
+use Prim.Native.Nat.{ℕ, zero, suc, _+_, _*_, _^_, _/_, _%_, _≤_, _<_}
 use mathlib.Core.Path.{_≡_, refl, sym, ap, ap₂, _∙_, subst}
 use mathlib.Core.Bool.{Bool, true, false, _&&_}
+use mathlib.Core.List.{List, [], _∷_}
 use mathlib.Core.Logic.{_↔_}
-use mathlib.Core.Option.{some}
+use mathlib.Core.Option.{Option, none, some}
 use native.Mathlib.Omega.{arith}
-use native.Mathlib.Nat.{mod-eq-of-lt}
-use lib.ListN.{length}
-use borrow.Author.Tests.{le-leb, eq-eqb}
-use Rattle.word.specs.Sets.{val}
+use native.Mathlib.Nat.{mod-eq-of-lt, add-zero, add-suc, suc-add, zero-add}
+use lib.ListN.{length, getElem?}
+use lib.Pow.{high, low, pow-pos, recompose, shl-lt}
+use lib.Dec.{leb, eqb}
+use borrow.Author.Tests.{le-leb, leb-true, eq-eqb, ne-eqb, eqb-true}
+use Rattle.word.specs.Sets.{choose, val}
 use Rattle.word.specs.Bits.{isOne}
-use Rattle.word.proofs.Cases.{by-lt}
-use Rattle.sheet.specs.Bytes.{number, bytes, bits}
-use Rattle.sheet.specs.Kinds.{only, unused, rowOf, sizeIn, parseBy, ruleOf, kindOf, numbered, bytesBy, payloadOf}
-use Rattle.sheet.specs.Reads.{latest}
-use Rattle.sheet.specs.Promises.{Ranged, Laid, PayloadsExact}
+use Rattle.word.proofs.Cases.{by-lt, and-true}
+use Rattle.sheet.specs.Bytes.{number, bytes}
+use Rattle.sheet.specs.Layout.{Field, widths, packed, unpacked, inRange, InRange}
+use Rattle.sheet.specs.Kinds.{Row, place, flag, width, word, size, nth, table, bytesIn, valuesIn, numberIn, parse, rowOf, sizeBy, sizeIn, parseBy, ruleOf, kindOf, fieldsOf, numberBy, numbered, bytesBy, fieldsBy, payloadOf, Ranged}
+use Rattle.sheet.specs.Meaning.{Asks}
+use Rattle.sheet.specs.Reads.{latest, editionOf}
+use Rattle.sheet.specs.Reader.{Item}
 use Rattle.sheet.specs.declared.Edit.{Edit}
 use Rattle.sheet.specs.declared.Edit.the-variants.{Set, Unset, SetRegion, SetField, Shift, Rotate, Resize, Reverse, ToggleRegion, Open, Close}
-use Rattle.sheet.proofs.Tables.{below-at, zero-kind, past-kinds, fine}
-use Rattle.sheet.proofs.Turns.{none-some, some-inj}
-use Rattle.sheet.proofs.Rules.{length-bytes, number-mod, number-fits, bytes-number, RuleFor, each-rule}
+use Rattle.sheet.proofs.Tables.{past-end}
+use Rattle.sheet.proofs.Turns.{none-some, some-inj, take-true, take-false}
+use Rattle.sheet.proofs.Rules.{length-bytes, number-mod, AllBytes, number-fits, bytes-number, byte-bits}
+use Rattle.sheet.proofs.Layouts.{Sized, Fits, fitting, fitting-fits, range-sized, in-range, range-in, packed-small, unpacked-packed, packed-unpacked}
 
--- ---- a flag, and the fields beside it
+-- ---- a row's payload, as one number
 
-bit-back : (b : Bool) (x : ℕ) → x ≡ val b → isOne x ≡ b
-bit-back true x e = ap isOne e
-bit-back false x e = ap isOne e
+-- what a number asks for whose fields and unused bits are known
+pub parsed-as : (r : Row) (x : ℕ) (vs : List ℕ) (u : ℕ) → Sized (r .fields) vs → u < 2 ^ r .spare → x ≡ numberIn r vs + u
+    → parse r x ≡ choose (eqb u 0 && inRange (r .fields) vs) (some (r .make vs)) none
+unfolding parse numberIn
+parsed-as r x vs u h l e =
+    ap₂ (λ (m : ℕ) (ws : List ℕ). choose (eqb m 0 && inRange (r .fields) ws) (some (r .make ws)) none)
+    (ap (λ (y : ℕ). y % 2 ^ r .spare) e ∙ low (packed (r .fields) vs) (r .spare) l)
+    (ap (λ (y : ℕ). unpacked (r .fields) (y / 2 ^ r .spare)) e ∙ ap (unpacked (r .fields)) (high (packed (r .fields) vs) (r .spare) l)
+    ∙ unpacked-packed (r .fields) vs h)
 
-bit-small : (b : Bool) → val b < 2
-bit-small true = omega arith
-bit-small false = omega arith
+-- values in their ranges are read back
+pub parsed-good : (r : Row) (vs : List ℕ) → Fits (r .fields) → InRange (r .fields) vs → parse r (numberIn r vs) ≡ some (r .make vs)
+parsed-good r vs t h =
+    parsed-as r (numberIn r vs) vs 0 (range-sized (r .fields) vs t h) (pow-pos (r .spare)) (sym (add-zero (numberIn r vs)))
+    ∙ take-true _ _ (in-range (r .fields) vs h)
 
-only-some : {t : Bool} {e f : Edit} → t ≡ true → e ≡ f → only t e ≡ some f
-only-some h p = rw (h, p)
-
-both : {a b : Bool} → a ≡ true → b ≡ true → (a && b) ≡ true
-both p q = rw (p, q)
-
-pair-high : (p k : ℕ) → p < 2 ^ 32 → k < 2 ^ 32 → bits 32 32 (p * 2 ^ 32 + k) ≡ p
-pair-high p k a b = omega arith
-
-pair-low : (p k : ℕ) → p < 2 ^ 32 → k < 2 ^ 32 → bits 0 32 (p * 2 ^ 32 + k) ≡ k
-pair-low p k a b = omega arith
-
-turn-high : (d k : ℕ) → d < 2 → k < 2 ^ 32 → bits 39 1 ((d * 2 ^ 32 + k) * 2 ^ 7) ≡ d
-turn-high d k a b = omega arith
-
-turn-low : (d k : ℕ) → d < 2 → k < 2 ^ 32 → bits 7 32 ((d * 2 ^ 32 + k) * 2 ^ 7) ≡ k
-turn-low d k a b = omega arith
-
-region-flag : (v p k : ℕ) → v < 2 → p < 2 ^ 32 → k < 2 ^ 32 → bits 71 1 (((v * 2 ^ 32 + p) * 2 ^ 32 + k) * 2 ^ 7) ≡ v
-region-flag v p k a b c = omega arith
-
-region-high : (v p k : ℕ) → v < 2 → p < 2 ^ 32 → k < 2 ^ 32 → bits 39 32 (((v * 2 ^ 32 + p) * 2 ^ 32 + k) * 2 ^ 7) ≡ p
-region-high v p k a b c = omega arith
-
-region-low : (v p k : ℕ) → v < 2 → p < 2 ^ 32 → k < 2 ^ 32 → bits 7 32 (((v * 2 ^ 32 + p) * 2 ^ 32 + k) * 2 ^ 7) ≡ k
-region-low v p k a b c = omega arith
-
-region-small : (v p k : ℕ) → v < 2 → p < 2 ^ 32 → k < 2 ^ 32 → ((v * 2 ^ 32 + p) * 2 ^ 32 + k) * 2 ^ 7 < 256 ^ 9
-region-small v p k a b c = omega arith
-
-turn-small : (d k : ℕ) → d < 2 → k < 2 ^ 32 → (d * 2 ^ 32 + k) * 2 ^ 7 < 256 ^ 5
-turn-small d k a b = omega arith
-
-no-unused : (x : ℕ) → unused 7 (x * 2 ^ 7) ≡ true
-no-unused x = eq-eqb (x * 2 ^ 7 % 2 ^ 7) 0 (omega arith)
-
-parsed : (e : Edit) → Ranged e → parseBy (rowOf (kindOf e)) (numbered e) ≡ some e
-unfolding rowOf kindOf numbered
-parsed (Set p) h = refl
-parsed (Unset p) h = refl
-parsed (SetRegion v p k) h =
-    let s = bit-small v in
-    let a = bit-back v _ (region-flag (val v) p k s (h .0) (h .1)) in
-    let b = region-high (val v) p k s (h .0) (h .1) in
-    let c = region-low (val v) p k s (h .0) (h .1) in
-    only-some (no-unused ((val v * 2 ^ 32 + p) * 2 ^ 32 + k)) (λ i. SetRegion (a i) (b i) (c i))
-parsed (SetField p w v) h =
-    let x : ℕ = ((p * 2 ^ 7 + w) * 2 ^ 64 + v) * 2 ^ 1 in
-    let a : bits 72 32 x ≡ p = omega arith in
-    let b : bits 65 7 x ≡ w = omega arith in
-    let c : bits 1 64 x ≡ v = omega arith in
-    let d : x % 2 ^ 1 ≡ 0 = omega arith in
-    only-some (both (eq-eqb _ _ d) (le-leb (bits 65 7 x) 64 (rw b (h .1)))) (λ i. SetField (a i) (b i) (c i))
-parsed (Shift d k) h =
-    let a = bit-back d _ (turn-high (val d) k (bit-small d) h) in
-    let b = turn-low (val d) k (bit-small d) h in
-    only-some (no-unused (val d * 2 ^ 32 + k)) (λ i. Shift (a i) (b i))
-parsed (Rotate d k) h =
-    let a = bit-back d _ (turn-high (val d) k (bit-small d) h) in
-    let b = turn-low (val d) k (bit-small d) h in
-    only-some (no-unused (val d * 2 ^ 32 + k)) (λ i. Rotate (a i) (b i))
-parsed (Resize n) h =
-    let a : bits 7 33 (n * 2 ^ 7) ≡ n = omega arith in
-    only-some (both (no-unused n) (le-leb (bits 7 33 (n * 2 ^ 7)) 4_294_967_296 (rw a h))) (ap Resize a)
-parsed Reverse h = refl
-parsed (ToggleRegion p k) h = λ i. some (ToggleRegion (pair-high p k (h .0) (h .1) i) (pair-low p k (h .0) (h .1) i))
-parsed (Open p k) h = λ i. some (Open (pair-high p k (h .0) (h .1) i) (pair-low p k (h .0) (h .1) i))
-parsed (Close p k) h = λ i. some (Close (pair-high p k (h .0) (h .1) i) (pair-low p k (h .0) (h .1) i))
-
-small : (e : Edit) → Ranged e → numbered e < 256 ^ bytesBy (rowOf (kindOf e))
-unfolding rowOf kindOf numbered
-small (Set p) h = omega arith
-small (Unset p) h = omega arith
-small (SetRegion v p k) h = region-small (val v) p k (bit-small v) (h .0) (h .1)
-small (SetField p w v) h = omega arith
-small (Shift d k) h = turn-small (val d) k (bit-small d) h
-small (Rotate d k) h = turn-small (val d) k (bit-small d) h
-small (Resize n) h = omega arith
-small Reverse h = omega arith
-small (ToggleRegion p k) h = omega arith
-small (Open p k) h = omega arith
-small (Close p k) h = omega arith
-
-pub read-back : (e : Edit) → Ranged e → ruleOf (kindOf e) (payloadOf e) ≡ some e
-unfolding ruleOf payloadOf
-read-back e h =
-    ap (parseBy (rowOf (kindOf e))) (number-mod (bytesBy (rowOf (kindOf e))) (numbered e) ∙ mod-eq-of-lt (small e h)) ∙ parsed e h
-
--- ---- kinds and lengths
-
-kind-from : (e : Edit) → 1 ≤ kindOf e
-unfolding kindOf
-kind-from (Set p) = omega arith
-kind-from (Unset p) = omega arith
-kind-from (SetRegion v p k) = omega arith
-kind-from (SetField p w v) = omega arith
-kind-from (Shift d k) = omega arith
-kind-from (Rotate d k) = omega arith
-kind-from (Resize n) = omega arith
-kind-from Reverse = omega arith
-kind-from (ToggleRegion p k) = omega arith
-kind-from (Open p k) = omega arith
-kind-from (Close p k) = omega arith
-
-pub kind-small : (e : Edit) → kindOf e ≤ 11
-unfolding kindOf
-kind-small (Set p) = omega arith
-kind-small (Unset p) = omega arith
-kind-small (SetRegion v p k) = omega arith
-kind-small (SetField p w v) = omega arith
-kind-small (Shift d k) = omega arith
-kind-small (Rotate d k) = omega arith
-kind-small (Resize n) = omega arith
-kind-small Reverse = omega arith
-kind-small (ToggleRegion p k) = omega arith
-kind-small (Open p k) = omega arith
-kind-small (Close p k) = omega arith
-
-pub payload-length : (e : Edit) → length (payloadOf e) ≡ bytesBy (rowOf (kindOf e))
-unfolding payloadOf
-payload-length e = length-bytes (bytesBy (rowOf (kindOf e))) (numbered e)
-
-pub payload-short : (e : Edit) → length (payloadOf e) ≤ 65_535
-payload-short e = omega (arith, payload-length e, fine (kindOf e) (kind-from e) (kind-small e) .1)
-
-pub size-latest : (e : Edit) → sizeIn 2 (kindOf e) ≡ some (length (payloadOf e))
-size-latest e = fine (kindOf e) (kind-from e) (kind-small e) .0 ∙ ap some (sym (payload-length e))
-
--- (c) of 12
-pub payloads-exact : PayloadsExact
-unfolding ruleOf payloadOf
-payloads-exact zero p e s h = absurd (none-some (sym (zero-kind latest) ∙ s))
-payloads-exact (suc k) p e s h = by-lt k 11 here (λ l. absurd (none-some (sym (past-kinds latest (suc k) (omega arith)) ∙ s)))
+-- and a number that asks for an edit is that of its values, in their ranges
+pub parsed-back : (r : Row) (x : ℕ) (e : Edit) → x < 2 ^ (widths (r .fields) + r .spare) → parse r x ≡ some e
+    → (r .make (valuesIn r x) ≡ e) × InRange (r .fields) (valuesIn r x) × (numberIn r (valuesIn r x) ≡ x)
+unfolding parse numberIn
+parsed-back r x e l q = go (eqb (x % 2 ^ r .spare) 0 && inRange (r .fields) (valuesIn r x)) refl q
   where
-    here : k < 11 → (ruleOf (suc k) p ≡ some e) ↔ Laid (suc k) p e
-    here l = (to, back)
+    go : (t : Bool) → eqb (x % 2 ^ r .spare) 0 && inRange (r .fields) (valuesIn r x) ≡ t → choose t (some (r .make (valuesIn r x))) none ≡ some e
+        → (r .make (valuesIn r x) ≡ e) × InRange (r .fields) (valuesIn r x) × (numberIn r (valuesIn r x) ≡ x)
+    go false p z = absurd (none-some z)
+    go true p z =
+        let (a, b) = and-true (eqb (x % 2 ^ r .spare) 0) (inRange (r .fields) (valuesIn r x)) p in
+        let back : x / 2 ^ r .spare % 2 ^ widths (r .fields) * 2 ^ r .spare + x % 2 ^ r .spare ≡ x = recompose (widths (r .fields)) (r .spare) l in (
+          some-inj z,
+          range-in (r .fields) (valuesIn r x) b,
+          ap (λ (y : ℕ). y * 2 ^ r .spare) (packed-unpacked (r .fields) (x / 2 ^ r .spare)) ∙ omega (arith, eqb-true (x % 2 ^ r .spare) 0 a),
+        )
+
+-- ---- the rows: what is computed of each
+
+-- a row whose fields fit their bits, that fills whole bytes, few enough, and that the latest edition has
+abbrev check : Row → Bool
+check r = fitting (r .fields) && (eqb (widths (r .fields) + r .spare) (8 * bytesIn r) && (leb (bytesIn r) 13 && leb (r .since) latest))
+
+-- a row of kind k: its edits are of that kind, and have the values that they are made of
+pub record GoodRow (k : ℕ) (r : Row) : Type 0 where
+  pub checked : check r ≡ true
+  pub kind : (vs : List ℕ) → kindOf (r .make vs) ≡ k
+  pub kept : (vs : List ℕ) → InRange (r .fields) vs → fieldsOf (r .make vs) ≡ vs
+
+module _ {k : ℕ} {r : Row} (g : GoodRow k r) where
+  later : eqb (widths (r .fields) + r .spare) (8 * bytesIn r) && (leb (bytesIn r) 13 && leb (r .since) latest) ≡ true
+  later = and-true (fitting (r .fields)) _ (g .checked) .1
+
+  last : leb (bytesIn r) 13 && leb (r .since) latest ≡ true
+  last = and-true (eqb (widths (r .fields) + r .spare) (8 * bytesIn r)) _ later .1
+
+  pub fits : Fits (r .fields)
+  fits = fitting-fits (r .fields) (and-true (fitting (r .fields)) _ (g .checked) .0)
+
+  pub octets : widths (r .fields) + r .spare ≡ 8 * bytesIn r
+  octets = eqb-true _ _ (and-true (eqb (widths (r .fields) + r .spare) (8 * bytesIn r)) _ later .0)
+
+  short : bytesIn r ≤ 13
+  short = leb-true _ _ (and-true (leb (bytesIn r) 13) _ last .0)
+
+  has : r .since ≤ latest
+  has = leb-true _ _ (and-true (leb (bytesIn r) 13) _ last .1)
+
+is-val : (t : Bool) → isOne (val t) ≡ t
+is-val true = refl
+is-val false = refl
+
+one-value : (a : Field) (vs : List ℕ) → InRange (a ∷ []) vs → nth vs 0 ∷ [] ≡ vs
+one-value a [] h = absurd h
+one-value a (x ∷ []) h = refl
+one-value a (x ∷ y ∷ vs) h = absurd (h .2)
+
+two-values : (a b : Field) (vs : List ℕ) → InRange (a ∷ b ∷ []) vs → nth vs 0 ∷ nth vs 1 ∷ [] ≡ vs
+two-values a b [] h = absurd h
+two-values a b (x ∷ vs) h = rest vs (h .2)
+  where
+    rest : (vs : List ℕ) → InRange (b ∷ []) vs → x ∷ nth vs 0 ∷ [] ≡ x ∷ vs
+    rest vs h = ap (λ (l : List ℕ). x ∷ l) (one-value b vs h)
+
+three-values : (a b c : Field) (vs : List ℕ) → InRange (a ∷ b ∷ c ∷ []) vs → nth vs 0 ∷ nth vs 1 ∷ nth vs 2 ∷ [] ≡ vs
+three-values a b c [] h = absurd h
+three-values a b c (x ∷ vs) h = ap (λ (l : List ℕ). x ∷ l) (two-values b c vs (h .2))
+
+no-values : (vs : List ℕ) → InRange [] vs → [] ≡ vs
+no-values [] h = refl
+no-values (x ∷ vs) h = absurd h
+
+flagged : (fs : List Field) (vs : List ℕ) → InRange (flag ∷ fs) vs → val (isOne (nth vs 0)) ≡ nth vs 0
+flagged fs [] h = absurd h
+flagged fs (zero ∷ vs) h = refl
+flagged fs (suc zero ∷ vs) h = refl
+flagged fs (suc (suc x) ∷ vs) h = absurd (omega (arith, h .1))
+
+infixr 20 _▸_
+-- rows of kinds from k on
+data GoodRows : ℕ → List Row → Type 0 where
+  none-left : {k : ℕ} → GoodRows k []
+  _▸_ : {k : ℕ} {r : Row} {rs : List Row} → GoodRow k r → GoodRows (suc k) rs → GoodRows k (r ∷ rs)
+
+good-rows : GoodRows 1 table
+unfolding bytesIn kindOf fieldsOf
+good-rows =
+    record { checked = refl; kind = λ vs. refl; kept = one-value place }
+    ▸ record { checked = refl; kind = λ vs. refl; kept = one-value place }
+    ▸ record { checked = refl; kind = λ vs. refl; kept = λ vs h. ap (λ (x : ℕ). x ∷ nth vs 1 ∷ nth vs 2 ∷ []) (flagged (place ∷ place ∷ []) vs h) ∙ three-values flag place place vs h }
+    ▸ record { checked = refl; kind = λ vs. refl; kept = three-values place width word }
+    ▸ record { checked = refl; kind = λ vs. refl; kept = directed }
+    ▸ record { checked = refl; kind = λ vs. refl; kept = directed }
+    ▸ record { checked = refl; kind = λ vs. refl; kept = one-value size }
+    ▸ record { checked = refl; kind = λ vs. refl; kept = no-values }
+    ▸ record { checked = refl; kind = λ vs. refl; kept = two-values place place }
+    ▸ record { checked = refl; kind = λ vs. refl; kept = two-values place place }
+    ▸ record { checked = refl; kind = λ vs. refl; kept = two-values place place }
+    ▸ none-left
+  where
+    directed : (vs : List ℕ) → InRange (flag ∷ place ∷ []) vs → val (isOne (nth vs 0)) ∷ nth vs 1 ∷ [] ≡ vs
+    directed vs h = ap (λ (x : ℕ). x ∷ nth vs 1 ∷ []) (flagged (place ∷ []) vs h) ∙ two-values flag place vs h
+
+good-at : (rs : List Row) (i k : ℕ) (r : Row) → GoodRows i rs → getElem? rs k ≡ some r → GoodRow (i + k) r
+good-at [] i k r g e = absurd (none-some e)
+good-at (x ∷ rs) i zero r (g ▸ gs) e = subst (GoodRow (i + 0)) (some-inj e) (subst (λ (n : ℕ). GoodRow n x) (sym (add-zero i)) g)
+good-at (x ∷ rs) i (suc k) r (g ▸ gs) e = subst (λ (n : ℕ). GoodRow n r) (suc-add i k ∙ sym (add-suc i k)) (good-at rs (suc i) k r gs e)
+
+-- the row of a kind is good
+pub good-row : (k : ℕ) (r : Row) → rowOf k ≡ some r → GoodRow k r
+unfolding rowOf
+good-row zero r e = absurd (none-some e)
+good-row (suc k) r e = let n : 1 + k ≡ suc k = omega arith in subst (λ (n : ℕ). GoodRow n r) n (good-at table 1 k r good-rows e)
+
+-- an edit is made by the row of its kind, of its values
+pub record RowFor (e : Edit) : Type 0 where
+  pub row : Row
+  pub at : rowOf (kindOf e) ≡ some row
+  pub makes : row .make (fieldsOf e) ≡ e
+
+pub row-for : (e : Edit) → RowFor e
+unfolding rowOf kindOf fieldsOf
+row-for (Set p) = record { row = _; at = refl; makes = refl }
+row-for (Unset p) = record { row = _; at = refl; makes = refl }
+row-for (SetRegion v p k) = record { row = _; at = refl; makes = ap (λ (t : Bool). SetRegion t p k) (is-val v) }
+row-for (SetField p w v) = record { row = _; at = refl; makes = refl }
+row-for (Shift d k) = record { row = _; at = refl; makes = ap (λ (t : Bool). Shift t k) (is-val d) }
+row-for (Rotate d k) = record { row = _; at = refl; makes = ap (λ (t : Bool). Rotate t k) (is-val d) }
+row-for (Resize n) = record { row = _; at = refl; makes = refl }
+row-for Reverse = record { row = _; at = refl; makes = refl }
+row-for (ToggleRegion p k) = record { row = _; at = refl; makes = refl }
+row-for (Open p k) = record { row = _; at = refl; makes = refl }
+row-for (Close p k) = record { row = _; at = refl; makes = refl }
+
+-- kind and payload are what is laid out of an edit
+pub record Lays (kind : ℕ) (p : List ℕ) (e : Edit) : Type 0 where
+  pub kind-is : kindOf e ≡ kind
+  pub ranged : Ranged e
+  pub bytes-are : payloadOf e ≡ p
+
+-- ---- what follows for every kind
+
+module _ (e : Edit) where
+  abbrev r : Row
+  r = row-for e .row
+
+  pub good : GoodRow (kindOf e) r
+  good = good-row (kindOf e) r (row-for e .at)
+
+  pub kind-small : kindOf e ≤ length table
+  unfolding rowOf
+  kind-small = go (kindOf e) (row-for e .at)
+    where
+      go : (k : ℕ) → rowOf k ≡ some r → k ≤ length table
+      go zero q = omega arith
+      go (suc k) q = by-lt k (length table) (λ l. l) (λ l. absurd (none-some (sym (past-end table k l) ∙ q)))
+
+  pub numbered-is : numbered e ≡ numberIn r (fieldsOf e)
+  unfolding numbered
+  numbered-is = ap (λ (o : Option Row). numberBy o (fieldsOf e)) (row-for e .at)
+
+  bytes-is : bytesBy (rowOf (kindOf e)) ≡ bytesIn r
+  bytes-is = ap bytesBy (row-for e .at)
+
+  pub payload-length : length (payloadOf e) ≡ bytesBy (rowOf (kindOf e))
+  unfolding payloadOf
+  payload-length = length-bytes (bytesBy (rowOf (kindOf e))) (numbered e)
+
+  pub payload-short : length (payloadOf e) ≤ 65_535
+  payload-short = omega (arith, payload-length, bytes-is, short good)
+
+  pub size-latest : sizeIn latest (kindOf e) ≡ some (length (payloadOf e))
+  unfolding sizeIn
+  size-latest = ap (sizeBy latest) (row-for e .at) ∙ take-true _ _ (le-leb (r .since) latest (has good)) ∙ ap some (sym (payload-length ∙ bytes-is))
+
+  module _ (h : Ranged e) where
+    pub ranged : InRange (r .fields) (fieldsOf e)
+    unfolding Ranged
+    ranged = subst (λ (o : Option Row). InRange (fieldsBy o) (fieldsOf e)) (row-for e .at) h
+
+    small : numberIn r (fieldsOf e) < 256 ^ bytesIn r
+    unfolding numberIn
+    small =
+        subst (λ (n : ℕ). numberIn r (fieldsOf e) < n) (ap (λ (n : ℕ). 2 ^ n) (octets good) ∙ sym (byte-bits (bytesIn r)))
+        (shl-lt (widths (r .fields)) (r .spare) (packed-small (r .fields) (fieldsOf e) (range-sized (r .fields) (fieldsOf e) (fits good) ranged)))
+
+    -- what is laid out is read back
+    pub read-back : ruleOf (kindOf e) (payloadOf e) ≡ some e
+    unfolding ruleOf payloadOf
+    read-back =
+        ap₂ parseBy (row-for e .at) (number-mod (bytesBy (rowOf (kindOf e))) (numbered e) ∙ ap₂ (λ (x n : ℕ). x % 256 ^ n) numbered-is bytes-is ∙ mod-eq-of-lt small)
+        ∙ parsed-good r (fieldsOf e) (fits good) ranged ∙ ap some (row-for e .makes)
+
+module _ (k : ℕ) (r : Row) (at : rowOf k ≡ some r) (p : List ℕ) (l : length p ≡ bytesIn r) (h : AllBytes p) where
+  good-k : GoodRow k r
+  good-k = good-row k r at
+
+  number-small : number p < 2 ^ (widths (r .fields) + r .spare)
+  number-small =
+      subst (λ (n : ℕ). number p < n) (byte-bits (length p) ∙ ap (λ (n : ℕ). 2 ^ (8 * n)) l ∙ ap (λ (n : ℕ). 2 ^ n) (sym (octets good-k))) (number-fits p h)
+
+  -- a good payload is the layout of its edit
+  laid-again : (e : Edit) → parse r (number p) ≡ some e → Lays k p e
+  unfolding payloadOf Ranged numbered
+  laid-again e q =
+      let vs : List ℕ = valuesIn r (number p) in
+      let (m, i, n) = parsed-back r (number p) e number-small q in
+      let kind : kindOf e ≡ k = ap kindOf (sym m) ∙ good-k .kind vs in
+      let values : fieldsOf e ≡ vs = ap fieldsOf (sym m) ∙ good-k .kept vs i in
+      let row : rowOf (kindOf e) ≡ some r = ap rowOf kind ∙ at in
+      record {
+        kind-is = kind;
+        ranged = subst (λ (o : Option Row). InRange (fieldsBy o) (fieldsOf e)) (sym row) (subst (InRange (r .fields)) (sym values) i);
+        bytes-are =
+            ap₂ bytes (ap bytesBy row ∙ sym l) (ap₂ numberBy row values ∙ n) ∙ bytes-number p h;
+      }
+
+-- ---- (c) of 12
+
+-- a kind that an edition has
+pub record Held (n k m : ℕ) : Type 0 where
+  pub row : Row
+  pub at : rowOf k ≡ some row
+  pub long : m ≡ bytesIn row
+
+pub held : (n k m : ℕ) → sizeIn n k ≡ some m → Held n k m
+unfolding sizeIn
+held n k m s = go (rowOf k) refl s
+  where
+    go : (o : Option Row) → rowOf k ≡ o → sizeBy n o ≡ some m → Held n k m
+    go none q s = absurd (none-some s)
+    go (some r) q s = on (leb (r .since) n) s
       where
-        size : bytesBy (rowOf (suc k)) ≡ length p
-        size = some-inj (sym (fine (suc k) (omega arith) (omega arith) .0) ∙ s)
+        on : (t : Bool) → choose t (some (bytesIn r)) none ≡ some m → Held n k m
+        on true s = record { row = r; at = q; long = sym (some-inj s) }
+        on false s = absurd (none-some s)
 
-        to : ruleOf (suc k) p ≡ some e → Laid (suc k) p e
-        to q =
-            let fits : number p < 256 ^ bytesBy (rowOf (suc k)) = subst (λ (n : ℕ). number p < 256 ^ n) (sym size) (number-fits p h) in
-            let (a, b, c) = below-at RuleFor 11 k each-rule l (number p) e fits q in
-            record {
-              kind-is = a;
-              ranged = c;
-              bytes-are = ap₂ (λ (m x : ℕ). bytes (bytesBy (rowOf m)) x) a b ∙ ap (λ (n : ℕ). bytes n (number p)) size ∙ bytes-number p h;
-            }
+pub asks-lays : (n c m : ℕ) (r : Item) (e : Edit) → r .duty ≡ true → sizeIn n (r .kind) ≡ some m → AllBytes (r .payload)
+    → Asks (editionOf c n) r e ↔ Lays (r .kind) (r .payload) e
+unfolding editionOf ruleOf
+asks-lays n c m r e d s h = (to, back)
+  where
+    its : Held n (r .kind) m
+    its = held n (r .kind) m s
 
-        back : Laid (suc k) p e → ruleOf (suc k) p ≡ some e
-        back g = ap₂ ruleOf (sym (g .kind-is)) (sym (g .bytes-are)) ∙ read-back e (g .ranged)
+    to : Asks (editionOf c n) r e → Lays (r .kind) (r .payload) e
+    to a =
+        laid-again (r .kind) (its .row) (its .at) (r .payload) (some-inj (sym (a .sized) ∙ s) ∙ its .long) h e
+        (ap (λ (o : Option Row). parseBy o (number (r .payload))) (sym (its .at)) ∙ a .ruled)
+
+    back : Lays (r .kind) (r .payload) e → Asks (editionOf c n) r e
+    back g =
+        let long : length (r .payload) ≡ m =
+        ap length (sym (g .bytes-are)) ∙ payload-length e ∙ ap (λ (k : ℕ). bytesBy (rowOf k)) (g .kind-is) ∙ ap bytesBy (its .at) ∙ sym (its .long) in
+        record { duty = d; sized = s ∙ ap some (sym long); ruled = ap₂ ruleOf (sym (g .kind-is)) (sym (g .bytes-are)) ∙ read-back e (g .ranged) }
+
+-- ---- for a decoder: what a payload asks for, whose values and unused bits are known
+
+module _ (k : ℕ) (r : Row) (at : rowOf k ≡ some r) (p vs : List ℕ) (u : ℕ) (h : Sized (r .fields) vs) (l : u < 2 ^ r .spare) (e : number p ≡ numberIn r vs + u) where
+  rule-as : ruleOf k p ≡ choose (eqb u 0 && inRange (r .fields) vs) (some (r .make vs)) none
+  unfolding ruleOf
+  rule-as = ap (λ (o : Option Row). parseBy o (number p)) at ∙ parsed-as r (number p) vs u h l e
+
+  pub rule-good : u ≡ 0 → InRange (r .fields) vs → ruleOf k p ≡ some (r .make vs)
+  rule-good z i = rule-as ∙ take-true _ _ (ap₂ (λ (s t : Bool). s && t) (eq-eqb u 0 z) (in-range (r .fields) vs i))
+
+  -- an unused bit is set
+  pub rule-spoilt : (u ≡ 0 → ⊥) → ruleOf k p ≡ none
+  rule-spoilt z = rule-as ∙ take-false _ _ (ap (λ (t : Bool). t && inRange (r .fields) vs) (ne-eqb u 0 z))
+
+  -- a value is out of its range
+  pub rule-over : (InRange (r .fields) vs → ⊥) → ruleOf k p ≡ none
+  rule-over z = rule-as ∙ go (eqb u 0) (inRange (r .fields) vs) refl
+    where
+      go : (s t : Bool) → inRange (r .fields) vs ≡ t → choose (s && t) (some (r .make vs)) none ≡ none
+      go s true q = absurd (z (range-in (r .fields) vs q))
+      go true false q = refl
+      go false false q = refl

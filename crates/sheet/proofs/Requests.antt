@@ -1,5 +1,5 @@
 -- What is asked of the writer: its checks are the plain sheet's tests, and what they let pass fits its frame.
-use Prim.Native.Nat.{ℕ, zero, suc, _≤_}
+use Prim.Native.Nat.{ℕ, zero, suc, _^_, _≤_, _<_}
 use mathlib.Core.Path.{_≡_, refl, sym, ap, _∙_, subst}
 use mathlib.Core.Bool.{Bool, true, false, _||_}
 use mathlib.Core.List.{List, [], _∷_}
@@ -8,11 +8,12 @@ use native.Mathlib.Omega.{arith}
 use lib.ListN.{length, getElem?}
 use lib.Dec.{ltb, eqb}
 use borrow.Author.Tests.{lt-ltb, ne-eqb}
-use Rattle.word.specs.Sets.{choose}
+use Rattle.word.specs.Sets.{choose, val}
 use Rattle.word.proofs.Cases.{by-lt, or-true}
 use Rattle.storage.specs.declared.Refusal.{Refusal}
 use Rattle.storage.specs.declared.Refusal.the-variants.{WidthOver, IndexOver, BadPayload, NewerKind}
-use Rattle.sheet.specs.Kinds.{kindOf}
+use Rattle.sheet.specs.Layout.{InRange}
+use Rattle.sheet.specs.Kinds.{place, kindOf, Ranged}
 use Rattle.sheet.specs.Writer.{Request, duty, remark, Entry, note, Checked, bad, good, makers, madeBy, checkedOf}
 use Rattle.sheet.specs.Plain.{wrongKind, refusalOf, editFor, entryOf, Typed}
 use Rattle.sheet.specs.declared.Fields.{Fields}
@@ -93,22 +94,46 @@ sure-at [] h k f t = tt
 sure-at (m ∷ ms) h zero f t = h .0 f t
 sure-at (m ∷ ms) h (suc k) f t = sure-at ms (h .1) k f t
 
+-- values in the ranges of the table
+one : (p : ℕ) → p < 2 ^ 32 → InRange (place ∷ []) (p ∷ [])
+one p h = (omega arith, omega arith, tt)
+
+two : (p k : ℕ) → p < 2 ^ 32 → k < 2 ^ 32 → InRange (place ∷ place ∷ []) (p ∷ k ∷ [])
+two p k a b = (omega arith, omega arith, one k b)
+
+bit : (d : Bool) → val d ≤ 1
+bit true = omega arith
+bit false = omega arith
+
 all-sure : AllSure makers
+unfolding Ranged
 all-sure = (
-  (λ f t. t .0),
+  (λ f t. one (f .p) (t .0)),
   (
-    (λ f t. t .0),
+    (λ f t. one (f .p) (t .0)),
     (
-      (λ f t. (t .0, t .1)),
+      (λ f t. (omega arith, bit (f .flag), two (f .p) (f .k) (t .0) (t .1))),
       (
-        (λ f t. by-test (ltb 64 (f .width)) WidthOver _ (λ q. (t .0, not-over 64 (f .width) q, t .2))),
+        (λ f t. by-test (ltb 64 (f .width)) WidthOver _ (λ q. (omega arith, omega arith, (omega arith, not-over 64 (f .width) q, (omega arith, omega arith, tt))))),
         (
-          (λ f t. t .1),
+          (λ f t. (omega arith, bit (f .flag), one (f .k) (t .1))),
           (
-            (λ f t. t .1),
+            (λ f t. (omega arith, bit (f .flag), one (f .k) (t .1))),
             (
-              (λ f t. by-test (ltb 4_294_967_296 (f .size)) IndexOver _ (λ q. not-over 4_294_967_296 (f .size) q)),
-              ((λ f t. tt), ((λ f t. (t .0, t .1)), ((λ f t. (t .0, t .1)), ((λ f t. (t .0, t .1)), tt)))),
+              (λ f t. by-test (ltb 4_294_967_296 (f .size)) IndexOver _ (λ q. (omega arith, not-over 4_294_967_296 (f .size) q, tt))),
+              (
+                (λ f t. tt),
+                (
+                  (λ f t. two (f .p) (f .k) (t .0) (t .1)),
+                  (
+                    (λ f t. two (f .p) (f .k) (t .0) (t .1)),
+                    (
+                      (λ f t. two (f .p) (f .k) (t .0) (t .1)),
+                      tt,
+                    ),
+                  ),
+                ),
+              ),
             ),
           ),
         ),

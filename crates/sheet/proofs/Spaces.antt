@@ -19,7 +19,8 @@ use Rattle.shape.specs.Shapes.{togglingRegion}
 use Rattle.shape.proofs.Promises.{toggles-region, region-nothing as toggles-nothing, raises, lowers, resizes}
 use Rattle.gap.proofs.Promises.{opens, closes}
 use Rattle.sheet.specs.Reads.{step}
-use Rattle.sheet.specs.Promises.{Ranged, OnlySpace}
+use Rattle.sheet.specs.Promises.{OnlySpace}
+use Rattle.sheet.specs.Kinds.{Ranged}
 use Rattle.sheet.specs.declared.Edit.{Edit}
 use Rattle.sheet.specs.declared.Edit.the-variants.{Set, Unset, SetRegion, SetField, Shift, Rotate, Resize, Reverse, ToggleRegion, Open, Close}
 
@@ -32,7 +33,7 @@ member-low c b l h k i m = by-lt i (64 * b .count) (λ u. omega arith) (λ u. ab
 
 module _ (c : ℕ) (b : Bits) (x : Refusal) (l : c ≤ limit) (h : Bounded b) (k : b .count ≤ c) where
   only : (e : Edit) → Ranged e → step e c b ≡ refused x → x ≡ NoSpace
-  unfolding step reversing rotatingLeft rotatingRight
+  unfolding step reversing rotatingLeft rotatingRight Ranged
   only (Set p) r q = six x (sets p .why c b x q .0)
   only (Unset p) r q = absurd (unsets p .why c b x q)
   only (SetRegion v p n) r q =

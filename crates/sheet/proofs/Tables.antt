@@ -10,7 +10,7 @@ use lib.ListN.{length, getD, getElem?}
 use lib.Dec.{leb}
 use borrow.Author.Tests.{le-leb, lt-leb}
 use Rattle.word.specs.Sets.{choose}
-use Rattle.sheet.specs.Kinds.{table, rowOf, sizeIn, bytesBy, known}
+use Rattle.sheet.specs.Kinds.{Row, table, bytesIn, sizeBy, sizeIn, known}
 use Rattle.sheet.specs.declared.Kind.{Kind}
 use Rattle.sheet.specs.declared.Known.{Known}
 use Rattle.sheet.specs.declared.Known.the-variants.{Bytes, Newer}
@@ -40,7 +40,7 @@ zero-kind e = refl
 pub no-kind : (e k : ℕ) → k ≡ 0 → known (sizeIn e k) ≡ Newer
 no-kind e k z = ap (λ (k : ℕ). known (sizeIn e k)) z ∙ ap known (zero-kind e)
 
-pub past-kinds : (e k : ℕ) → 12 ≤ k → sizeIn e k ≡ none
+pub past-kinds : (e k : ℕ) → length table < k → sizeIn e k ≡ none
 unfolding sizeIn
 past-kinds e zero l = absurd (omega arith)
 past-kinds e (suc k) l = rw (past-end table k (omega arith)) refl
@@ -56,55 +56,32 @@ rows =
 abbrev pub byRow : ℕ → Kind → Known
 byRow e r = choose (leb (r .since) e) (Bytes (r .bytes)) Newer
 
-abbrev Same : ℕ → ℕ → Type 0
-Same e k = byRow e (getD rows (suc k) (kind 0 0)) ≡ known (sizeIn e (suc k))
+-- it is the table of the definition, computed row by row
+abbrev fromRows : List Row → List Kind
+fromRows [] = []
+fromRows (r ∷ rs) = kind (bytesIn r) (r .since) ∷ fromRows rs
 
-each-kind : (e : ℕ) → Below (Same e) 11
-unfolding sizeIn
-each-kind e =
-    (((((((((((tt, first 4), first 4), first 9), first 13), first 5), first 5), first 5), first 0), second 8), second 8), second 8)
+rows-are : rows ≡ kind 0 0 ∷ fromRows table
+unfolding bytesIn
+rows-are = refl
+
+from-row : (e : ℕ) (rs : List Row) (k : ℕ) → k < length rs → byRow e (getD (fromRows rs) k (kind 0 0)) ≡ known (sizeBy e (getElem? rs k))
+from-row e [] k l = absurd (omega arith)
+from-row e (r ∷ rs) zero l = by-test (leb (r .since) e)
   where
-    by-test : (t : Bool) (b : ℕ) → choose t (Bytes b) Newer ≡ known (choose t (some b) none)
-    by-test true b = refl
-    by-test false b = refl
-
-    first : (b : ℕ) → choose (leb 1 e) (Bytes b) Newer ≡ known (choose (leb 1 e) (some b) none)
-    first = by-test (leb 1 e)
-
-    second : (b : ℕ) → choose (leb 2 e) (Bytes b) Newer ≡ known (choose (leb 2 e) (some b) none)
-    second = by-test (leb 2 e)
+    by-test : (t : Bool) → choose t (Bytes (bytesIn r)) Newer ≡ known (choose t (some (bytesIn r)) none)
+    by-test true = refl
+    by-test false = refl
+from-row e (r ∷ rs) (suc k) l = from-row e rs k (omega arith)
 
 -- each kind of the source has the length and the first edition of the definition's table
-pub row-of : (e k : ℕ) → (k ≡ 0 → ⊥) → k < 12 → byRow e (getD rows k (kind 0 0)) ≡ known (sizeIn e k)
+pub row-of : (e k : ℕ) → (k ≡ 0 → ⊥) → k ≤ length table → byRow e (getD rows k (kind 0 0)) ≡ known (sizeIn e k)
+unfolding sizeIn
 row-of e zero n l = absurd (n refl)
-row-of e (suc k) n l = below-at (Same e) 11 k (each-kind e) (omega arith)
+row-of e (suc k) n l = ap (λ (ks : List Kind). byRow e (getD ks (suc k) (kind 0 0))) rows-are ∙ from-row e table k (omega arith)
 
-pub row-newer : (e k : ℕ) → (k ≡ 0 → ⊥) → k < 12 → e < getD rows k (kind 0 0) .since → Newer ≡ known (sizeIn e k)
+pub row-newer : (e k : ℕ) → (k ≡ 0 → ⊥) → k ≤ length table → e < getD rows k (kind 0 0) .since → Newer ≡ known (sizeIn e k)
 row-newer e k n l h = sym (ap (λ (t : Bool). choose t (Bytes (getD rows k (kind 0 0) .bytes)) Newer) (lt-leb (getD rows k (kind 0 0) .since) e h)) ∙ row-of e k n l
 
-pub row-bytes : (e k : ℕ) → (k ≡ 0 → ⊥) → k < 12 → getD rows k (kind 0 0) .since ≤ e → Bytes (getD rows k (kind 0 0) .bytes) ≡ known (sizeIn e k)
+pub row-bytes : (e k : ℕ) → (k ≡ 0 → ⊥) → k ≤ length table → getD rows k (kind 0 0) .since ≤ e → Bytes (getD rows k (kind 0 0) .bytes) ≡ known (sizeIn e k)
 row-bytes e k n l h = sym (ap (λ (t : Bool). choose t (Bytes (getD rows k (kind 0 0) .bytes)) Newer) (le-leb (getD rows k (kind 0 0) .since) e h)) ∙ row-of e k n l
-
--- the latest edition has the kinds 1 to 11, with payloads of at most 13 bytes
-abbrev Fine : ℕ → Type 0
-Fine k = (sizeIn 2 (suc k) ≡ some (bytesBy (rowOf (suc k)))) × (bytesBy (rowOf (suc k)) ≤ 13)
-
-each-fine : Below Fine 11
-unfolding sizeIn rowOf
-each-fine = (
-  (
-    (
-      (
-        (((((((tt, (refl, omega arith)), (refl, omega arith)), (refl, omega arith)), (refl, omega arith)), (refl, omega arith)), (refl, omega arith)), (refl, omega arith)),
-        (refl, omega arith),
-      ),
-      (refl, omega arith),
-    ),
-    (refl, omega arith),
-  ),
-  (refl, omega arith),
-)
-
-pub fine : (k : ℕ) → 1 ≤ k → k ≤ 11 → (sizeIn 2 k ≡ some (bytesBy (rowOf k))) × (bytesBy (rowOf k) ≤ 13)
-fine zero l h = absurd (omega arith)
-fine (suc k) l h = below-at Fine 11 k each-fine (omega arith)

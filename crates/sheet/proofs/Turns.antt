@@ -12,7 +12,7 @@ use borrow.Author.Tests.{lt-ltb, le-ltb, le-leb, lt-leb, eq-eqb, ne-eqb}
 use Rattle.word.specs.Sets.{choose}
 use Rattle.storage.specs.declared.Refusal.the-variants.{NoSpace, CutRecord, BytesRemain, BadPayload, NewerKind}
 use Rattle.sheet.specs.Reader.{Edition, Item, refused, done, Turn, stop, next, headed, endAt, itemAt, edit, stepped, edited, known, act, then, records}
-use Rattle.sheet.specs.Meaning.{Header, listed, onward, sized, editOf, effect}
+use Rattle.sheet.specs.Meaning.{Header, onward, effect}
 
 pub none-some : {X : Type 0} {x : X} → _≡_ {A = Option X} none (some x) → ⊥
 none-some e = let z : _≡_ {A = ℕ} 0 1 = cc in omega arith
@@ -51,6 +51,19 @@ headed-false sheet h = go (decLe 4 (length sheet)) (ℕ-discrete (getD sheet 0 0
     go (yes a) (no b) c = rw (ne-eqb (getD sheet 0 0) 78 b) (none-of (leb 4 (length sheet)))
     go (no a) b c = rw (lt-leb 4 (length sheet) (omega arith)) refl
 
+abbrev pub listed : {A : Type 0} → Option A → List A
+listed none = []
+listed (some e) = e ∷ []
+
+module _ {A S : Type 0} (E : Edition A S) where
+  abbrev pub sized : Item → Option ℕ → Option A
+  sized r none = none
+  sized r (some n) = edit E r n
+
+  -- the edit that a duty record asks for: none for a remark, a kind outside the edition, a bad payload
+  abbrev pub editOf : Item → Option A
+  editOf r = choose (r .duty) (sized r (E .size (r .kind))) none
+
 module _ {A S : Type 0} (E : Edition A S) where
   -- what a record does, as its edit's step
   abbrev pub does : Option A → S → Option S
@@ -81,7 +94,7 @@ module _ {A S : Type 0} (E : Edition A S) where
     full : (e : A) → editOf E r ≡ some e → E .step e s ≡ none → o ≡ stop NoSpace → Did s r o
 
   module _ (r : Item) (s : S) where
-    edit-known : (d : r .duty ≡ true) (n : ℕ) → E .size (r .kind) ≡ some n → editOf E r ≡ edit E r n
+    pub edit-known : (d : r .duty ≡ true) (n : ℕ) → E .size (r .kind) ≡ some n → editOf E r ≡ edit E r n
     edit-known d n p = take-true _ _ d ∙ ap (sized E r) p
 
     did-step : (e : A) → editOf E r ≡ some e → (o : Option S) → E .step e s ≡ o → Did s r (stepped E o)

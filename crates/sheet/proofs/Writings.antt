@@ -22,7 +22,7 @@ use Rattle.sheet.specs.Reader.{done, countIn, endAt, read}
 use Rattle.sheet.specs.Meaning.{Header, start, Whole}
 use Rattle.sheet.specs.Reads.{editionOf, fitting, Course, went, course, readAnswer, readStore}
 use Rattle.sheet.specs.Writer.{Request, requested, Entry, bytesOf, framesFault, sheetFault, Left, refuse, started, placed, placedBy, judged, added, Writes, Starts, Adds}
-use Rattle.sheet.specs.Plain.{refusalOf, entryOf, answers, lastLength, lastBuffer, plainAnswers, lastPlain}
+use Rattle.sheet.specs.Plain.{asked, refusalOf, entryOf, answers, lastLength, lastBuffer, plainAnswers, lastPlain}
 use Rattle.sheet.specs.Promises.{SheetGets, no-header, cut, remain, nothing, AddGets, over, fault, wrong, full, fine, Leaves, AddMeans, StartMeans, WholeLists}
 use Rattle.sheet.specs.declared.Fields.{Fields}
 use Rattle.sheet.specs.declared.Added.{Added}
@@ -32,7 +32,8 @@ use Rattle.sheet.proofs.Rules.{length-bytes}
 use Rattle.sheet.proofs.Laid.{read-sheet, in-latest}
 use Rattle.sheet.proofs.Readings.{course-passes, fits-old}
 use Rattle.sheet.proofs.Requests.{verdict, same-checks, kind-kept}
-use Rattle.sheet.proofs.Written.{Fronts, along}
+use Rattle.sheet.proofs.Written.{same-request, Fronts, along}
+use Rattle.sheet.proofs.Sheets.{sheet-is}
 
 -- ---- the sheet given
 
@@ -229,15 +230,15 @@ leaves-by buf l r buf' w h = record {
 
 -- (d): each number exactly, whatever is asked of whatever buffer
 pub adding-means : (buf : List ℕ) (len : ℕ) (d : Bool) (kind : ℕ) (f : Fields) (payload : List ℕ) (r : Added) (buf' : List ℕ) → Adds buf len d kind f payload r buf'
-    → AddMeans buf len (requested d kind f payload) r buf'
-adding-means buf len d kind f payload r buf' w = record {
-  exact = λ x. ((λ e. subst (AddGets buf len q) (sym (w .answers) ∙ e) (gets buf len q)), λ g. w .answers ∙ given buf len q x g);
-  leaves = leaves-by buf (added buf len q) r buf' w (add-leaves buf len q);
-  kind = λ k g x y. kind-kept g k (sym (ap refusalOf x) ∙ y);
-}
+    → AddMeans buf len (asked d kind f payload) r buf'
+adding-means buf len d kind f payload r buf' w = subst (λ (q : Request). AddMeans buf len q r buf') (same-request d kind f payload) (means (requested d kind f payload) w)
   where
-    q : Request
-    q = requested d kind f payload
+    means : (q : Request) → Writes (added buf len q) r buf' → AddMeans buf len q r buf'
+    means q w = record {
+      exact = λ x. ((λ e. subst (AddGets buf len q) (sym (w .answers) ∙ e) (gets buf len q)), λ g. w .answers ∙ given buf len q x g);
+      leaves = leaves-by buf (added buf len q) r buf' w (add-leaves buf len q);
+      kind = λ k g x y. kind-kept g k (sym (ap refusalOf x) ∙ y);
+    }
 
 short-start : (buf : List ℕ) → length buf < 4 → started buf .answer ≡ Refused NoSpace
 unfolding started
@@ -272,6 +273,7 @@ whole-lists buf cs row = record {
   same = r .0;
   length-is = λ es e. (front es e) .0;
   bytes-are = λ es e. (front es e) .1;
+  laid = λ es e. sheet-is es (front es e .2) (front es e .3);
   effect-is = λ es e ws m res a res' p l t q h.
       let c : ℕ = length res in
       let sheet : List ℕ = take (lastLength 0 cs) (lastBuffer buf cs) in

@@ -16,7 +16,7 @@ use Rattle.storage.specs.declared.Refusal.the-variants.{NoSpace, NotSheet}
 use Rattle.sheet.specs.Bytes.{bytes}
 use Rattle.sheet.specs.Reader.{countIn}
 use Rattle.sheet.specs.Writer.{Request, requested, Entry, bytesOf, sheetFault, Left, refuse, started, placed, placedBy, judged, added, Writes}
-use Rattle.sheet.specs.Plain.{Plain, body, sheetOf, noRoom, refusalOf, entryOf, Answered, refusing, holding, Ask, start, addition, answered, Call, Typed, Went, lengthAfter, InRow, answers, lastLength, lastBuffer, plainAnswers, lastPlain}
+use Rattle.sheet.specs.Plain.{asked, Plain, body, sheetOf, noRoom, refusalOf, entryOf, Answered, refusing, holding, Ask, start, addition, answered, Call, Typed, Went, lengthAfter, InRow, answers, lastLength, lastBuffer, plainAnswers, lastPlain}
 use Rattle.sheet.specs.declared.Fields.{Fields}
 use Rattle.sheet.specs.declared.Added.{Added}
 use Rattle.sheet.specs.declared.Added.the-variants.{Done}
@@ -159,7 +159,12 @@ abbrev leftBy : ℕ → List ℕ → Ask → Left
 leftBy len buf start = started buf
 leftBy len buf (addition d kind f payload) = added buf len (requested d kind f payload)
 
-typed : (d : Bool) (kind : ℕ) (f : Fields) (payload : List ℕ) → Typed f → TypedQ (requested d kind f payload)
+-- the writer reads an addition as the plain sheet does
+pub same-request : (d : Bool) (kind : ℕ) (f : Fields) (payload : List ℕ) → requested d kind f payload ≡ asked d kind f payload
+same-request true kind f payload = refl
+same-request false kind f payload = refl
+
+typed : (d : Bool) (kind : ℕ) (f : Fields) (payload : List ℕ) → Typed f → TypedQ (asked d kind f payload)
 typed true kind f payload t = t
 typed false kind f payload t = tt
 
@@ -172,7 +177,10 @@ unfolding answered
 agree buf len p start r buf' w h = agree-start buf len p h
 agree buf len none (addition d kind f payload) r buf' w h =
     subst (λ (l : Left). Agrees len l (refusing NotSheet none)) (sym (ap (λ (n : ℕ). added buf n (requested d kind f payload)) h ∙ no-start buf (requested d kind f payload))) (refl, h)
-agree buf len (some es) (addition d kind f payload) r buf' w h = agree-addition buf len es h (requested d kind f payload) (typed d kind f payload (w .1))
+agree buf len (some es) (addition d kind f payload) r buf' w h =
+    let q : Request = asked d kind f payload in
+    subst (λ (x : Request). Agrees len (added buf len x) (holding (length buf) es (entryOf q) (refusalOf q))) (sym (same-request d kind f payload))
+    (agree-addition buf len es h q (typed d kind f payload (w .1)))
 
 went-by : (len : ℕ) (buf : List ℕ) (a : Ask) (r : Added) (buf' : List ℕ) → Went len buf a r buf' → Writes (leftBy len buf a) r buf'
 went-by len buf start r buf' w = w

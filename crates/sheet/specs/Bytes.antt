@@ -12,7 +12,3 @@ number (b ∷ bs) = b * 256 ^ length bs + number bs
 unfoldable pub bytes : ℕ → ℕ → List ℕ
 bytes zero x = []
 bytes (suc n) x = x / 256 ^ n % 256 ∷ bytes n x
-
--- the field of `width` bits that has `below` bits after it
-abbrev pub bits : ℕ → ℕ → ℕ → ℕ
-bits below width x = x / 2 ^ below % 2 ^ width

@@ -1,54 +1,82 @@
--- The kinds of duty records (01, "The change sheet"): the table, the rule of each payload, and how an edit is laid out.
-use Prim.Native.Nat.{ℕ, zero, suc, _+_, _*_, _^_, _%_}
-use mathlib.Core.Bool.{Bool, _&&_}
+-- The kinds of duty records (01, "The change sheet"): the table, what a payload asks for, and how an edit is laid out; both by the row.
+use Prim.Native.Nat.{ℕ, zero, suc, _+_, _*_, _^_, _/_, _%_}
+use mathlib.Core.Bool.{_&&_}
 use mathlib.Core.List.{List, [], _∷_}
 use mathlib.Core.Option.{Option, none, some}
-use lib.ListN.{getElem?}
+use lib.ListN.{getD, getElem?}
 use lib.Dec.{leb, eqb}
 use Rattle.word.specs.Sets.{choose, val}
 use Rattle.word.specs.Bits.{isOne}
-use Rattle.sheet.specs.Bytes.{number, bytes, bits}
+use Rattle.sheet.specs.Bytes.{number, bytes}
+use Rattle.sheet.specs.Layout.{Field, field, widths, packed, unpacked, inRange, InRange}
 use Rattle.sheet.specs.declared.Known.{Known}
 use Rattle.sheet.specs.declared.Known.the-variants.{Bytes, Newer}
 use Rattle.sheet.specs.declared.Edit.{Edit}
 use Rattle.sheet.specs.declared.Edit.the-variants.{Set, Unset, SetRegion, SetField, Shift, Rotate, Resize, Reverse, ToggleRegion, Open, Close}
 
--- a row of the table: the payload's bytes, the first edition, and what the payload, as one number, asks for (none: a bad payload)
+-- a row of the table: the fields of a payload in order, its unused end bits, the first edition, and the edit of the fields' values
 pub record Row : Type 0 where
-  pub bytes : ℕ
+  pub fields : List Field
+  pub spare : ℕ
   pub since : ℕ
-  pub parse : ℕ → Option Edit
+  pub make : List ℕ → Edit
 
-abbrev pub row : ℕ → ℕ → (ℕ → Option Edit) → Row
-row b s f = record { bytes = b; since = s; parse = f }
+abbrev pub row : List Field → ℕ → ℕ → (List ℕ → Edit) → Row
+row fs n s m = record { fields = fs; spare = n; since = s; make = m }
 
--- an edit, where the test holds
-abbrev pub only : Bool → Edit → Option Edit
-only t e = choose t (some e) none
+-- a position or an amount, a truth value or a direction, a field's width and value, and a number of bits
+abbrev pub place : Field
+place = field 32 0 4_294_967_295
 
--- the n end bits of a payload are 0
-abbrev pub unused : ℕ → ℕ → Bool
-unused n x = eqb (x % 2 ^ n) 0
+abbrev pub flag : Field
+flag = field 1 0 1
 
--- a field of one bit
-abbrev pub flag : ℕ → ℕ → Bool
-flag below x = isOne (bits below 1 x)
+abbrev pub width : Field
+width = field 7 0 64
+
+abbrev pub word : Field
+word = field 64 0 18_446_744_073_709_551_615
+
+abbrev pub size : Field
+size = field 33 0 4_294_967_296
+
+-- value i of a list, from 0 on
+abbrev pub nth : List ℕ → ℕ → ℕ
+nth vs i = getD vs i 0
 
 -- kinds 1 to 11
 abbrev pub table : List Row
 table =
-    row 4 1 (λ x. some (Set x))
-    ∷ row 4 1 (λ x. some (Unset x))
-    ∷ row 9 1 (λ x. only (unused 7 x) (SetRegion (flag 71 x) (bits 39 32 x) (bits 7 32 x)))
-    ∷ row 13 1 (λ x. only (unused 1 x && leb (bits 65 7 x) 64) (SetField (bits 72 32 x) (bits 65 7 x) (bits 1 64 x)))
-    ∷ row 5 1 (λ x. only (unused 7 x) (Shift (flag 39 x) (bits 7 32 x)))
-    ∷ row 5 1 (λ x. only (unused 7 x) (Rotate (flag 39 x) (bits 7 32 x)))
-    ∷ row 5 1 (λ x. only (unused 7 x && leb (bits 7 33 x) 4_294_967_296) (Resize (bits 7 33 x)))
-    ∷ row 0 1 (λ x. some Reverse)
-    ∷ row 8 2 (λ x. some (ToggleRegion (bits 32 32 x) (bits 0 32 x)))
-    ∷ row 8 2 (λ x. some (Open (bits 32 32 x) (bits 0 32 x)))
-    ∷ row 8 2 (λ x. some (Close (bits 32 32 x) (bits 0 32 x)))
+    row (place ∷ []) 0 1 (λ v. Set (nth v 0))
+    ∷ row (place ∷ []) 0 1 (λ v. Unset (nth v 0))
+    ∷ row (flag ∷ place ∷ place ∷ []) 7 1 (λ v. SetRegion (isOne (nth v 0)) (nth v 1) (nth v 2))
+    ∷ row (place ∷ width ∷ word ∷ []) 1 1 (λ v. SetField (nth v 0) (nth v 1) (nth v 2))
+    ∷ row (flag ∷ place ∷ []) 7 1 (λ v. Shift (isOne (nth v 0)) (nth v 1))
+    ∷ row (flag ∷ place ∷ []) 7 1 (λ v. Rotate (isOne (nth v 0)) (nth v 1))
+    ∷ row (size ∷ []) 7 1 (λ v. Resize (nth v 0))
+    ∷ row [] 0 1 (λ v. Reverse)
+    ∷ row (place ∷ place ∷ []) 0 2 (λ v. ToggleRegion (nth v 0) (nth v 1))
+    ∷ row (place ∷ place ∷ []) 0 2 (λ v. Open (nth v 0) (nth v 1))
+    ∷ row (place ∷ place ∷ []) 0 2 (λ v. Close (nth v 0) (nth v 1))
     ∷ []
+
+-- of a row the payload's bytes, the values in a payload, as one number, and the number of some values
+unfoldable pub bytesIn : Row → ℕ
+unfolding widths
+bytesIn r = (widths (r .fields) + r .spare) / 8
+
+unfoldable pub valuesIn : Row → ℕ → List ℕ
+unfolding unpacked
+valuesIn r x = unpacked (r .fields) (x / 2 ^ r .spare)
+
+unfoldable pub numberIn : Row → List ℕ → ℕ
+unfolding packed
+numberIn r vs = packed (r .fields) vs * 2 ^ r .spare
+
+-- what a payload asks for: none where an unused bit is set or a value is out of its field's range
+unfoldable pub parse : Row → ℕ → Option Edit
+unfolding valuesIn inRange
+parse r x = choose (eqb (x % 2 ^ r .spare) 0 && inRange (r .fields) (valuesIn r x)) (some (r .make (valuesIn r x))) none
 
 -- the row of a kind: kind 0 has none
 unfoldable pub rowOf : ℕ → Option Row
@@ -57,11 +85,11 @@ rowOf (suc k) = getElem? table k
 
 abbrev pub sizeBy : ℕ → Option Row → Option ℕ
 sizeBy edition none = none
-sizeBy edition (some r) = choose (leb (r .since) edition) (some (r .bytes)) none
+sizeBy edition (some r) = choose (leb (r .since) edition) (some (bytesIn r)) none
 
 -- the payload's bytes of a kind, where the edition has it
 unfoldable pub sizeIn : ℕ → ℕ → Option ℕ
-unfolding rowOf
+unfolding rowOf bytesIn
 sizeIn edition kind = sizeBy edition (rowOf kind)
 
 -- the bytes, where a kind has some
@@ -71,14 +99,14 @@ known (some n) = Bytes n
 
 abbrev pub parseBy : Option Row → ℕ → Option Edit
 parseBy none x = none
-parseBy (some r) x = r .parse x
+parseBy (some r) x = parse r x
 
--- what a payload of a kind's length asks for (none: an unused bit is set, a width is over 64 or a resize over its bound)
+-- what a payload of a kind's length asks for
 unfoldable pub ruleOf : ℕ → List ℕ → Option Edit
-unfolding rowOf number
+unfolding rowOf number parse
 ruleOf kind payload = parseBy (rowOf kind) (number payload)
 
--- how an edit is laid out: its kind, and its payload as one number and as bytes
+-- an edit's kind and the values of its fields, in the table's order
 unfoldable pub kindOf : Edit → ℕ
 kindOf (Set p) = 1
 kindOf (Unset p) = 2
@@ -92,23 +120,41 @@ kindOf (ToggleRegion p k) = 9
 kindOf (Open p k) = 10
 kindOf (Close p k) = 11
 
-unfoldable pub numbered : Edit → ℕ
-numbered (Set p) = p
-numbered (Unset p) = p
-numbered (SetRegion v p k) = ((val v * 2 ^ 32 + p) * 2 ^ 32 + k) * 2 ^ 7
-numbered (SetField p w v) = ((p * 2 ^ 7 + w) * 2 ^ 64 + v) * 2 ^ 1
-numbered (Shift d k) = (val d * 2 ^ 32 + k) * 2 ^ 7
-numbered (Rotate d k) = (val d * 2 ^ 32 + k) * 2 ^ 7
-numbered (Resize n) = n * 2 ^ 7
-numbered Reverse = 0
-numbered (ToggleRegion p k) = p * 2 ^ 32 + k
-numbered (Open p k) = p * 2 ^ 32 + k
-numbered (Close p k) = p * 2 ^ 32 + k
+unfoldable pub fieldsOf : Edit → List ℕ
+fieldsOf (Set p) = p ∷ []
+fieldsOf (Unset p) = p ∷ []
+fieldsOf (SetRegion v p k) = val v ∷ p ∷ k ∷ []
+fieldsOf (SetField p w v) = p ∷ w ∷ v ∷ []
+fieldsOf (Shift d k) = val d ∷ k ∷ []
+fieldsOf (Rotate d k) = val d ∷ k ∷ []
+fieldsOf (Resize n) = n ∷ []
+fieldsOf Reverse = []
+fieldsOf (ToggleRegion p k) = p ∷ k ∷ []
+fieldsOf (Open p k) = p ∷ k ∷ []
+fieldsOf (Close p k) = p ∷ k ∷ []
+
+abbrev pub numberBy : Option Row → List ℕ → ℕ
+numberBy none vs = 0
+numberBy (some r) vs = numberIn r vs
 
 abbrev pub bytesBy : Option Row → ℕ
 bytesBy none = 0
-bytesBy (some r) = r .bytes
+bytesBy (some r) = bytesIn r
+
+abbrev pub fieldsBy : Option Row → List Field
+fieldsBy none = []
+fieldsBy (some r) = r .fields
+
+-- its payload, as one number and as bytes
+unfoldable pub numbered : Edit → ℕ
+unfolding rowOf kindOf fieldsOf numberIn
+numbered e = numberBy (rowOf (kindOf e)) (fieldsOf e)
 
 unfoldable pub payloadOf : Edit → List ℕ
-unfolding rowOf kindOf numbered bytes
+unfolding rowOf kindOf numbered bytes bytesIn
 payloadOf e = bytes (bytesBy (rowOf (kindOf e))) (numbered e)
+
+-- the values are in the ranges of the table
+unfoldable pub Ranged : Edit → Type 0
+unfolding rowOf kindOf fieldsOf
+Ranged e = InRange (fieldsBy (rowOf (kindOf e))) (fieldsOf e)

@@ -1,36 +1,52 @@
--- What a change sheet means, in the terms of document 01, by positions and with no reader. Record i here is the paper's record i + 1.
-use Prim.Native.Nat.{ℕ, zero, suc, _≤_, _<_}
+-- What a change sheet means, in the terms of document 01, by its bytes and positions, with no reader. Record i here is the paper's record i + 1.
+use Prim.Native.Nat.{ℕ, zero, suc, _+_, _*_, _≤_, _<_}
 use mathlib.Core.Path.{_≡_}
-use mathlib.Core.Bool.{true}
+use mathlib.Core.Bool.{true, false}
 use mathlib.Core.List.{List, [], _∷_, _++_}
 use mathlib.Core.Logic.{_⊎_}
 use mathlib.Core.Option.{Option, none, some}
 use lib.ListN.{length, getD}
-use Rattle.word.specs.Sets.{choose}
+use lib.Dec.{leb}
 use Rattle.storage.specs.declared.Refusal.{Refusal}
 use Rattle.storage.specs.declared.Refusal.the-variants.{StoreTooLong, CountOverStore, WidthOver, IndexOver, PastLength, NoSpace, NotList, NotAscii, NotSheet, CutRecord, BytesRemain, BadPayload, NewerKind, NoEdition}
-use Rattle.sheet.specs.Reader.{Edition, Item, Answer, refused, done, countIn, endAt, itemAt, edit}
+use Rattle.sheet.specs.Reader.{Edition, Item, Answer, refused, done}
+
+-- the record r stands at a position of the sheet: its first byte is 128 * bit + kind with kind below 128, the bit is 1 for duty, the next two bytes are
+-- the length of its payload, most significant first, and then come exactly so many bytes
+pub record Stands (sheet : List ℕ) (at : ℕ) (r : Item) : Type 0 where
+  pub bit : ℕ
+  pub first : getD sheet at 0 ≡ 128 * bit + r .kind
+  pub seven : r .kind < 128
+  pub duty : r .duty ≡ leb 1 bit
+  pub size : getD sheet (at + 1) 0 * 256 + getD sheet (at + 2) 0 ≡ length (r .payload)
+  pub inside : at + 3 + length (r .payload) ≤ length sheet
+  pub bytes : (j : ℕ) → j < length (r .payload) → getD (r .payload) j 0 ≡ getD sheet (at + 3 + j) 0
 
 module _ (sheet : List ℕ) where
   -- at least four bytes, the letters N and S first
   abbrev pub Header : Type 0
   Header = (4 ≤ length sheet) × (getD sheet 0 0 ≡ 78) × (getD sheet 1 0 ≡ 83)
 
+  -- the record count R, 16 bits
+  abbrev pub total : ℕ
+  total = getD sheet 2 0 * 256 + getD sheet 3 0
+
+  -- where the record at a position ends: three bytes of head, and as many as the last two of them say
+  abbrev pub past : ℕ → ℕ
+  past at = at + 3 + (getD sheet (at + 1) 0 * 256 + getD sheet (at + 2) 0)
+
   -- where record i starts
   unfoldable pub start : ℕ → ℕ
   start zero = 4
-  start (suc i) = endAt sheet (start i)
+  start (suc i) = past (start i)
 
   -- its frame is whole: head and payload lie in the sheet
   abbrev pub Whole : ℕ → Type 0
-  Whole i = endAt sheet (start i) ≤ length sheet
+  Whole i = past (start i) ≤ length sheet
 
-  abbrev pub item : ℕ → Item
-  item i = itemAt sheet (start i)
-
-abbrev pub listed : {A : Type 0} → Option A → List A
-listed none = []
-listed (some e) = e ∷ []
+  -- record i is r
+  abbrev pub Is : ℕ → Item → Type 0
+  Is i r = Stands sheet (start i) r
 
 -- one step after another: a refusal stays
 abbrev pub onward : {S : Type 0} → (S → Option S) → Option S → Option S
@@ -38,13 +54,11 @@ onward f none = none
 onward f (some s) = f s
 
 module _ {A S : Type 0} (E : Edition A S) where
-  abbrev pub sized : Item → Option ℕ → Option A
-  sized r none = none
-  sized r (some n) = edit E r n
-
-  -- the edit that a duty record asks for: none for a remark, a kind outside the edition, a bad payload
-  abbrev pub editOf : Item → Option A
-  editOf r = choose (r .duty) (sized r (E .size (r .kind))) none
+  -- a duty record asks for an edit: its kind is of the edition, its payload has the kind's length and is one that the rule lets pass
+  pub record Asks (r : Item) (e : A) : Type 0 where
+    pub duty : r .duty ≡ true
+    pub sized : E .size (r .kind) ≡ some (length (r .payload))
+    pub ruled : E .rule (r .kind) (r .payload) ≡ some e
 
   -- the effect of edits in order: their steps, each on what the last left
   unfoldable pub effect : List A → S → Option S
@@ -52,44 +66,41 @@ module _ {A S : Type 0} (E : Edition A S) where
   effect (e ∷ es) s = onward (effect es) (E .step e s)
 
   module _ (sheet : List ℕ) where
-    -- record i is sound: none of 10, 13 and 12 applies
-    abbrev pub Sound : ℕ → Type 0
-    Sound i = Whole sheet i × (item sheet i .duty ≡ true → (e : A) × (editOf (item sheet i) ≡ some e))
-
-    -- the edits of the duty records among the first i records, in order
-    unfoldable pub edits : ℕ → List A
-    unfolding start
-    edits zero = []
-    edits (suc i) = edits i ++ listed (editOf (item sheet i))
+    -- the first i records are sound (none of 10, 13 and 12 applies), and these are the edits of the duty records among them, in order
+    pub data Sound : ℕ → List A → Type 0 where
+      begin : Sound 0 []
+      remark : {i : ℕ} {es : List A} (r : Item) → Sound i es → Is sheet i r → r .duty ≡ false → Sound (suc i) es
+      duty : {i : ℕ} {es : List A} (r : Item) (e : A) → Sound i es → Is sheet i r → Asks r e → Sound (suc i) (es ++ e ∷ [])
 
     -- the header is good, the old state fits, and the first i records are sound and applied
     pub record Reached (old : Option S) (i : ℕ) : Type 0 where
       pub headed : Header sheet
       pub from : S
       pub fits : old ≡ some from
-      pub sound : (j : ℕ) → j < i → Sound j
+      pub edits : List A
+      pub sound : Sound i edits
       pub state : S
-      pub applied : effect (edits i) from ≡ some state
+      pub applied : effect edits from ≡ some state
 
     -- the paper's record k is reached, and this holds of it
     pub record AtRecord (old : Option S) (k : ℕ) (P : S → ℕ → Type 0) : Type 0 where
       pub index : ℕ
       pub numbered : k ≡ suc index
-      pub within : index < countIn sheet
+      pub within : index < total sheet
       pub reached : Reached old index
       pub here : P (reached .state) index
 
     -- a duty record of whole frame, of a kind outside the edition
     abbrev pub Newer : S → ℕ → Type 0
-    Newer s i = Whole sheet i × (item sheet i .duty ≡ true) × (E .size (item sheet i .kind) ≡ none)
+    Newer s i = (r : Item) × Is sheet i r × (r .duty ≡ true) × (E .size (r .kind) ≡ none)
 
-    -- a duty record of whole frame, of a kind of the edition, with a bad payload
+    -- a duty record of whole frame, of a kind of the edition, with a bad payload: it asks for no edit
     abbrev pub Bad : S → ℕ → Type 0
-    Bad s i = Whole sheet i × (item sheet i .duty ≡ true) × (n : ℕ) × (E .size (item sheet i .kind) ≡ some n) × (edit E (item sheet i) n ≡ none)
+    Bad s i = (r : Item) × Is sheet i r × (r .duty ≡ true) × (n : ℕ) × (E .size (r .kind) ≡ some n) × ((e : A) → ¬ Asks r e)
 
     -- a sound duty record whose step is refused
     abbrev pub Full : S → ℕ → Type 0
-    Full s i = Whole sheet i × (e : A) × (editOf (item sheet i) ≡ some e) × (E .step e s ≡ none)
+    Full s i = (r : Item) × Is sheet i r × (e : A) × Asks r e × (E .step e s ≡ none)
 
     -- the condition of each refusal with its record, in the order of 01
     abbrev pub Applies : Option S → Refusal → ℕ → Type 0
@@ -98,7 +109,7 @@ module _ {A S : Type 0} (E : Edition A S) where
     Applies old CutRecord k = AtRecord old k (λ s i. ¬ Whole sheet i)
     Applies old NewerKind k = AtRecord old k Newer
     Applies old BadPayload k = AtRecord old k Bad
-    Applies old BytesRemain k = (k ≡ countIn sheet) × Reached old (countIn sheet) × (start sheet (countIn sheet) < length sheet)
+    Applies old BytesRemain k = (k ≡ total sheet) × Reached old (total sheet) × (start sheet (total sheet) < length sheet)
     Applies old StoreTooLong k = ⊥
     Applies old CountOverStore k = ⊥
     Applies old WidthOver k = ⊥
@@ -110,9 +121,9 @@ module _ {A S : Type 0} (E : Edition A S) where
 
     -- all records are sound and applied and no bytes are left: k is their number, s what their edits make of the old state
     pub record Accepted (old : Option S) (k : ℕ) (s : S) : Type 0 where
-      pub numbered : k ≡ countIn sheet
-      pub reached : Reached old (countIn sheet)
-      pub ends : start sheet (countIn sheet) ≡ length sheet
+      pub numbered : k ≡ total sheet
+      pub reached : Reached old (total sheet)
+      pub ends : start sheet (total sheet) ≡ length sheet
       pub makes : reached .state ≡ s
 
     -- what an answer says of the sheet

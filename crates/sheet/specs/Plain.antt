@@ -1,7 +1,7 @@
 -- The plain sheet (01): it is fed sizes and what is asked, sees no buffer's bytes and is given no length. And lists of calls.
 use Prim.Native.Nat.{ℕ, _<_, _^_}
 use mathlib.Core.Path.{_≡_}
-use mathlib.Core.Bool.{Bool, false, _&&_, _||_}
+use mathlib.Core.Bool.{Bool, true, false, _&&_, _||_}
 use mathlib.Core.List.{List, [], _∷_, _++_}
 use mathlib.Core.Option.{Option, none, some}
 use lib.ListN.{length, take}
@@ -10,12 +10,17 @@ use Rattle.word.specs.Sets.{choose}
 use Rattle.storage.specs.declared.Refusal.{Refusal}
 use Rattle.storage.specs.declared.Refusal.the-variants.{WidthOver, IndexOver, NoSpace, NotSheet, BadPayload, NewerKind}
 use Rattle.sheet.specs.Bytes.{bytes}
-use Rattle.sheet.specs.Writer.{Request, duty, remark, requested, Entry, edit, note, bytesOf, Starts, Adds}
+use Rattle.sheet.specs.Writer.{Request, duty, remark, Entry, edit, note, bytesOf, Starts, Adds}
 use Rattle.sheet.specs.declared.Edit.{Edit}
 use Rattle.sheet.specs.declared.Edit.the-variants.{Set, Unset, SetRegion, SetField, Shift, Rotate, Resize, Reverse, ToggleRegion, Open, Close}
 use Rattle.sheet.specs.declared.Fields.{Fields}
 use Rattle.sheet.specs.declared.Added.{Added}
 use Rattle.sheet.specs.declared.Added.the-variants.{Done, Refused}
+
+-- an addition as the plain sheet reads it: duty or a remark; fields that a record does not have are ignored
+abbrev pub asked : Bool → ℕ → Fields → List ℕ → Request
+asked true kind f payload = duty kind f
+asked false kind f payload = remark kind payload
 
 -- none before an accepted start, then its records
 abbrev pub Plain : Type 0
@@ -108,7 +113,7 @@ unfolding sheetOf
 answered size start p = choose (ltb size 4) (refusing NoSpace p) (record { answer = Done 4; plain = some [] })
 answered size (addition d kind f payload) none = refusing NotSheet none
 answered size (addition d kind f payload) (some es) =
-    let q = requested d kind f payload in
+    let q = asked d kind f payload in
     holding size es (entryOf q) (refusalOf q)
 
 -- a call as it went: the buffer that it got, what was asked, what it answered, and the buffer that it left

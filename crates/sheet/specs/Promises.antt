@@ -1,11 +1,13 @@
 -- What the sheet promises (demand 3), of the contracts of its calls and at real bitmaps. Proved in proofs/Readings and proofs/Writings.
-use Prim.Native.Nat.{ℕ, _+_, _*_, _^_, _≤_, _<_}
+use Prim.Native.Nat.{ℕ, _+_, _*_, _≤_, _<_}
 use mathlib.Core.Path.{_≡_}
 use mathlib.Core.Bool.{true, false}
-use mathlib.Core.List.{List}
+use mathlib.Core.List.{List, _++_}
 use mathlib.Core.Logic.{_↔_, _⊎_}
 use mathlib.Core.Option.{Option, none, some}
-use lib.ListN.{length, getD, take, drop}
+use lib.ListN.{length, getD, getElem?, take, drop}
+use lib.Dec.{leb}
+use Rattle.word.specs.Sets.{choose}
 use Rattle.word.specs.Bits.{member}
 use Rattle.storage.specs.Stores.{Bits, Bounded, Outcome, limit, view, written}
 use Rattle.storage.specs.declared.Bitmap.{Bitmap}
@@ -16,31 +18,18 @@ use Rattle.shift.specs.Promises.{RotatedLeft, RotatedRight}
 use Rattle.bitmap.specs.Promises.{WithBit, WithoutBit, WithRegion, WithField}
 use Rattle.shape.specs.Promises.{FlippedFrom, RaisedBy, LoweredBy, ResizedTo}
 use Rattle.gap.specs.Promises.{Opens, Closes}
-use Rattle.sheet.specs.Kinds.{sizeIn, ruleOf, kindOf, payloadOf}
-use Rattle.sheet.specs.Reader.{Edition, refused, done, countIn, read}
-use Rattle.sheet.specs.Meaning.{Header, start, Whole, effect, AtRecord, Newer, Applies, Accepted}
+use Rattle.sheet.specs.Kinds.{sizeIn, kindOf, payloadOf, Ranged}
+use Rattle.sheet.specs.Paper.{printed, Allowed, digits, cellDigits, byteDigits}
+use Rattle.sheet.specs.Reader.{Edition, Item, refused, done, read}
+use Rattle.sheet.specs.Meaning.{Header, total, start, Whole, Is, Asks, effect, AtRecord, Newer, Applies, Accepted}
 use Rattle.sheet.specs.Reads.{step, editionOf, latest, fitting, Reads}
-use Rattle.sheet.specs.Writer.{Request, duty, Entry, bytesOf}
+use Rattle.sheet.specs.Writer.{Request, duty, Entry, edit, note, bytesOf}
 use Rattle.sheet.specs.Plain.{sheetOf, editsIn, refusalOf, editFor, entryOf, Call, InRow, answers, lastLength, lastBuffer, plainAnswers, lastPlain}
 use Rattle.sheet.specs.declared.Edit.{Edit}
 use Rattle.sheet.specs.declared.Edit.the-variants.{Set, Unset, SetRegion, SetField, Shift, Rotate, Resize, Reverse, ToggleRegion, Open, Close}
 use Rattle.sheet.specs.declared.Fields.{Fields}
 use Rattle.sheet.specs.declared.Reading.{Reading}
 use Rattle.sheet.specs.declared.Added.{Added}
-
--- the fields of an edit are in the ranges of the table
-abbrev pub Ranged : Edit → Type 0
-Ranged (Set p) = p < 2 ^ 32
-Ranged (Unset p) = p < 2 ^ 32
-Ranged (SetRegion v p k) = (p < 2 ^ 32) × (k < 2 ^ 32)
-Ranged (SetField p w v) = (p < 2 ^ 32) × (w ≤ 64) × (v < 2 ^ 64)
-Ranged (Shift d k) = k < 2 ^ 32
-Ranged (Rotate d k) = k < 2 ^ 32
-Ranged (Resize n) = n ≤ 4_294_967_296
-Ranged Reverse = Unit {0}
-Ranged (ToggleRegion p k) = (p < 2 ^ 32) × (k < 2 ^ 32)
-Ranged (Open p k) = (p < 2 ^ 32) × (k < 2 ^ 32)
-Ranged (Close p k) = (p < 2 ^ 32) × (k < 2 ^ 32)
 
 -- what each edit makes of a bitmap, as sets of numbers: direction false is left, true is right; no numbers and no digits change nothing
 abbrev pub Means : Edit → Bits → Bits → Type 0
@@ -61,16 +50,34 @@ Means (Close p k) b s = Closes p k b s
 abbrev pub StepsMean : Type 0
 StepsMean = (e : Edit) (c : ℕ) (b s : Bits) → Bounded b → step e c b ≡ Outcome.done s → Means e b s
 
--- the payload p is the layout of the edit
-pub record Laid (kind : ℕ) (p : List ℕ) (e : Edit) : Type 0 where
-  pub kind-is : kindOf e ≡ kind
-  pub ranged : Ranged e
-  pub bytes-are : payloadOf e ≡ p
+-- the line of an edit in 01's table: its kind, its bytes from its edition on, and the digits of its payload, the fields first and zeros for the unused bits
+pub record AsPrinted (e : Edit) : Type 0 where
+  pub kind : kindOf e ≡ printed e .kind
+  pub size : (n : ℕ) → sizeIn n (kindOf e) ≡ choose (leb (printed e .edition) n) (some (printed e .bytes)) none
+  pub ranges : Ranged e ↔ Allowed (printed e .fields)
+  pub bytes : (length (payloadOf e) ≡ printed e .bytes) × ((i : ℕ) → getD (payloadOf e) i 0 < 256)
+  pub unused : ℕ
+  pub digits-are : Ranged e → byteDigits (payloadOf e) ≡ cellDigits (printed e .fields) ++ digits unused 0
 
--- 12: bytes of a kind's length are a good payload exactly where they are the layout of an edit of that kind
+-- the table of kinds is 01's, in every edition, and has no other kinds
+pub record TableAgrees : Type 0 where
+  pub lines : (e : Edit) → AsPrinted e
+  pub others : (n k m : ℕ) → sizeIn n k ≡ some m → (e : Edit) × (printed e .kind ≡ k)
+
+-- kind and payload are the edit's line in 01's table: values that its fields may have, its bytes, and the fields' digits in order, then zeros
+pub record Laid (kind : ℕ) (p : List ℕ) (e : Edit) : Type 0 where
+  pub kind-is : printed e .kind ≡ kind
+  pub ranged : Allowed (printed e .fields)
+  pub long : length p ≡ printed e .bytes
+  pub unused : ℕ
+  pub digits-are : byteDigits p ≡ cellDigits (printed e .fields) ++ digits unused 0
+
+-- 12: in every edition, a duty record of a kind that it has asks for an edit exactly where kind and payload are the layout of that edit; so a payload of
+-- another length, with an unused bit set or with a value out of its range asks for none
 abbrev pub PayloadsExact : Type 0
 PayloadsExact =
-    (kind : ℕ) (p : List ℕ) (e : Edit) → sizeIn latest kind ≡ some (length p) → ((i : ℕ) → getD p i 0 < 256) → (ruleOf kind p ≡ some e) ↔ Laid kind p e
+    (n c m : ℕ) (r : Item) (e : Edit) → r .duty ≡ true → sizeIn n (r .kind) ≡ some m → ((i : ℕ) → getD (r .payload) i 0 < 256)
+    → Asks (editionOf c n) r e ↔ Laid (r .kind) (r .payload) e
 
 -- 6: in a store that 1 lets pass, a step of such an edit is refused for want of space alone
 abbrev pub OnlySpace : Type 0
@@ -147,9 +154,9 @@ pub record AnyTwo {A S : Type 0} (E F : Edition A S) (sheet : List ℕ) (old : O
 -- (d): 9, 10 or 11 of a sheet that is given to the writer, or nothing
 pub data SheetGets (sheet : List ℕ) (o : Option Refusal) : Type 0 where
   no-header : ¬ Header sheet → o ≡ some NotSheet → SheetGets sheet o
-  cut : Header sheet → (i : ℕ) → i < countIn sheet → ((j : ℕ) → j < i → Whole sheet j) → ¬ Whole sheet i → o ≡ some CutRecord → SheetGets sheet o
-  remain : Header sheet → ((j : ℕ) → j < countIn sheet → Whole sheet j) → start sheet (countIn sheet) < length sheet → o ≡ some BytesRemain → SheetGets sheet o
-  nothing : Header sheet → ((j : ℕ) → j < countIn sheet → Whole sheet j) → start sheet (countIn sheet) ≡ length sheet → o ≡ none → SheetGets sheet o
+  cut : Header sheet → (i : ℕ) → i < total sheet → ((j : ℕ) → j < i → Whole sheet j) → ¬ Whole sheet i → o ≡ some CutRecord → SheetGets sheet o
+  remain : Header sheet → ((j : ℕ) → j < total sheet → Whole sheet j) → start sheet (total sheet) < length sheet → o ≡ some BytesRemain → SheetGets sheet o
+  nothing : Header sheet → ((j : ℕ) → j < total sheet → Whole sheet j) → start sheet (total sheet) ≡ length sheet → o ≡ none → SheetGets sheet o
 
 -- what an addition to the first len bytes of the buffer answers: 2, then the sheet's faults, then what is wrong with the request, then 6
 pub data AddGets (buf : List ℕ) (len : ℕ) (q : Request) (r : Added) : Type 0 where
@@ -157,9 +164,9 @@ pub data AddGets (buf : List ℕ) (len : ℕ) (q : Request) (r : Added) : Type 0
   fault : len ≤ length buf → (e : Refusal) → SheetGets (take len buf) (some e) → r ≡ Added.Refused e → AddGets buf len q r
   wrong : len ≤ length buf → SheetGets (take len buf) none → (e : Refusal) → refusalOf q ≡ some e → r ≡ Added.Refused e → AddGets buf len q r
   full : len ≤ length buf → SheetGets (take len buf) none → refusalOf q ≡ none
-      → (65_535 ≤ countIn buf) ⊎ (length buf < len + length (bytesOf (entryOf q))) → r ≡ Added.Refused NoSpace → AddGets buf len q r
+      → (65_535 ≤ total buf) ⊎ (length buf < len + length (bytesOf (entryOf q))) → r ≡ Added.Refused NoSpace → AddGets buf len q r
   fine : len ≤ length buf → SheetGets (take len buf) none → refusalOf q ≡ none
-      → countIn buf < 65_535 → len + length (bytesOf (entryOf q)) ≤ length buf → r ≡ Added.Done (len + length (bytesOf (entryOf q))) → AddGets buf len q r
+      → total buf < 65_535 → len + length (bytesOf (entryOf q)) ≤ length buf → r ≡ Added.Done (len + length (bytesOf (entryOf q))) → AddGets buf len q r
 
 -- a refused call changes nothing, and the bytes past the new sheet are untouched
 pub record Leaves (buf : List ℕ) (r : Added) (buf' : List ℕ) : Type 0 where
@@ -179,6 +186,18 @@ pub record StartMeans (buf : List ℕ) (r : Added) (buf' : List ℕ) : Type 0 wh
   pub fine : (n : ℕ) → (r ≡ Added.Done n) ↔ ((4 ≤ length buf) × (n ≡ 4))
   pub leaves : Leaves buf r buf'
 
+-- a record as it is held: what stands in the sheet for it
+abbrev pub itemFor : Entry → Item
+itemFor (edit e) = record { duty = true; kind = printed e .kind; payload = payloadOf e }
+itemFor (note kind payload) = record { duty = false; kind = kind; payload = payload }
+
+-- bytes that hold exactly these records, in order
+pub record Holding (sheet : List ℕ) (es : List Entry) : Type 0 where
+  pub headed : Header sheet
+  pub many : total sheet ≡ length es
+  pub records : (i : ℕ) (x : Entry) → getElem? es i ≡ some x → Is sheet i (itemFor x)
+  pub ends : start sheet (length es) ≡ length sheet
+
 -- (e): after a list of calls from a buffer of any bytes at length 0 on
 pub record ListMeans (buf : List ℕ) (cs : List Call) : Type 0 where
   -- each call answered as the plain sheet
@@ -186,6 +205,8 @@ pub record ListMeans (buf : List ℕ) (cs : List Call) : Type 0 where
   -- if a start was accepted, the bytes up to the last accepted length are the plain sheet's
   pub length-is : (es : List Entry) → lastPlain none cs ≡ some es → lastLength 0 cs ≡ length (sheetOf es)
   pub bytes-are : (es : List Entry) → lastPlain none cs ≡ some es → take (lastLength 0 cs) (lastBuffer buf cs) ≡ sheetOf es
+  -- which hold exactly its records
+  pub laid : (es : List Entry) → lastPlain none cs ≡ some es → Holding (sheetOf es) es
   -- and edition 2 accepts them with the effect of exactly its edits in order
   pub effect-is : (es : List Entry) → lastPlain none cs ≡ some es
       → (ws : List ℕ) (m : ℕ) (res : List ℕ) (r : Reading) (res' : List ℕ) → Passes 2 ws m (length res) → m ≤ length res

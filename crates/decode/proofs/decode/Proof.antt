@@ -1,6 +1,6 @@
 use native.Mathlib.Omega.{arith}
 use Rattle.decode.proofs.Payloads.{just-reverse}
-use Rattle.decode.proofs.Lengths.{of-kind, as-kind, of-place, of-region, of-field, of-turn, of-size, of-pair}
+use Rattle.decode.proofs.Lengths.{of-kind, as-kind, of-place, of-region, of-field, of-turn, of-size, of-reverse, of-pair}
 use borrow.Author.Needs.{needs}
 use Rattle.decode.proofs.decode.Statement.{statement}
 use Rattle.decode.proofs.decode.Tie as tie
@@ -36,7 +36,7 @@ returns-5 : tie.Need-returns-5
 returns-5 c = as-kind (c .before .before .before .before .before .before .before .args .kind) 7 (c .before .before .before .before .before .before .before .args .payload .now) (c .size .result) (omega arith) (c .size .ensures)
 
 returns-6 : tie.Need-returns-6
-returns-6 c = just-reverse (c .before .before .before .before .before .before .before .args .kind) (c .before .before .before .before .before .before .before .args .payload .now) (omega arith)
+returns-6 c = just-reverse (c .before .before .before .before .before .before .before .args .kind) (c .before .before .before .before .before .before .before .args .payload .now) (omega (arith, of-kind (c .before .before .before .before .before .before .before .args .kind) 8 0 of-reverse (omega arith))) (omega arith)
 
 pair-requires : tie.Need-pair-requires
 pair-requires c κs = omega (arith, of-pair (c .before .before .before .before .before .before .before .args .kind) (omega arith) (omega arith))

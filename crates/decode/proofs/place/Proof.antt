@@ -8,10 +8,10 @@ number-of-requires : tie.Need-number-of-requires
 number-of-requires c κs = search needs
 
 returns : tie.Need-returns
-returns c = place-set (c .before .before .before .args .kind) (c .before .before .before .args .payload .now) (c .before .number-of .result) (c .before .number-of .ensures) (omega arith)
+returns c = place-set (c .before .before .before .args .kind) (c .before .before .before .args .payload .now) (c .before .number-of .result) (omega arith) (c .before .number-of .ensures) (omega arith)
 
 returns-2 : tie.Need-returns-2
-returns-2 c = place-unset (c .before .before .before .args .kind) (c .before .before .before .args .payload .now) (c .before .number-of .result) (c .before .number-of .ensures) (omega arith)
+returns-2 c = place-unset (c .before .before .before .args .kind) (c .before .before .before .args .payload .now) (c .before .number-of .result) (omega arith) (c .before .number-of .ensures) (omega arith)
 
 pub place-spec : {M : Type 1} → statement M
 place-spec = tie.close (tie.spec number-of-requires returns returns-2)

@@ -1,0 +1,70 @@
+-- 01's table of kinds, typed from the paper and by itself, and what it says of a payload, digit by digit. Nothing is defined by this: Promises states
+-- that the table of Kinds agrees with it.
+use Prim.Native.Nat.{ℕ, zero, suc, _-_, _^_, _/_, _%_, _≤_}
+use mathlib.Core.Bool.{Bool}
+use mathlib.Core.List.{List, [], _∷_, _++_}
+use Rattle.word.specs.Sets.{val}
+use Rattle.word.specs.Bits.{isOne}
+use Rattle.sheet.specs.declared.Edit.{Edit}
+use Rattle.sheet.specs.declared.Edit.the-variants.{Set, Unset, SetRegion, SetField, Shift, Rotate, Resize, Reverse, ToggleRegion, Open, Close}
+
+-- a field of so many bits, with its value, and the least and the greatest that it may have
+pub record Cell : Type 0 where
+  pub bits : ℕ
+  pub least : ℕ
+  pub most : ℕ
+  pub value : ℕ
+
+abbrev pub upTo : ℕ → ℕ → ℕ → Cell
+upTo m w v = record { bits = w; least = 0; most = m; value = v }
+
+-- p and k have 32 bits
+abbrev pub of32 : ℕ → Cell
+of32 v = upTo 4_294_967_295 32 v
+
+abbrev pub bit : Bool → Cell
+bit t = upTo 1 1 (val t)
+
+pub record Line : Type 0 where
+  pub kind : ℕ
+  pub fields : List Cell
+  pub bytes : ℕ
+  pub edition : ℕ
+
+abbrev pub line : ℕ → List Cell → ℕ → ℕ → Line
+line k fs b n = record { kind = k; fields = fs; bytes = b; edition = n }
+
+-- kind, fields, bytes, edition
+unfoldable pub printed : Edit → Line
+printed (Set p) = line 1 (of32 p ∷ []) 4 1
+printed (Unset p) = line 2 (of32 p ∷ []) 4 1
+printed (SetRegion value p k) = line 3 (bit value ∷ of32 p ∷ of32 k ∷ []) 9 1
+printed (SetField p width value) = line 4 (of32 p ∷ upTo 64 7 width ∷ upTo (2 ^ 64 - 1) 64 value ∷ []) 13 1
+printed (Shift right k) = line 5 (bit right ∷ of32 k ∷ []) 5 1
+printed (Rotate right k) = line 6 (bit right ∷ of32 k ∷ []) 5 1
+printed (Resize n) = line 7 (upTo 4_294_967_296 33 n ∷ []) 5 1
+printed Reverse = line 8 [] 0 1
+printed (ToggleRegion p k) = line 9 (of32 p ∷ of32 k ∷ []) 8 2
+printed (Open p k) = line 10 (of32 p ∷ of32 k ∷ []) 8 2
+printed (Close p k) = line 11 (of32 p ∷ of32 k ∷ []) 8 2
+
+-- every value is one that its field may have
+abbrev pub Allowed : List Cell → Type 0
+Allowed [] = Unit {0}
+Allowed (c ∷ cs) = (c .least ≤ c .value) × (c .value ≤ c .most) × Allowed cs
+
+-- the w binary digits of a number, most significant first
+unfoldable pub digits : ℕ → ℕ → List Bool
+digits zero x = []
+digits (suc w) x = isOne (x / 2 ^ w % 2) ∷ digits w x
+
+-- of fields in order, and of bytes
+unfoldable pub cellDigits : List Cell → List Bool
+unfolding digits
+cellDigits [] = []
+cellDigits (c ∷ cs) = digits (c .bits) (c .value) ++ cellDigits cs
+
+unfoldable pub byteDigits : List ℕ → List Bool
+unfolding digits
+byteDigits [] = []
+byteDigits (b ∷ bs) = digits 8 b ++ byteDigits bs
