@@ -17,7 +17,7 @@ use Rattle.storage.specs.declared.Guard.the-variants.{Pass, Stop}
 use Rattle.storage.proofs.Checks.{Passed, checked-ok}
 use Rattle.storage.proofs.Checks as checks
 use Rattle.sheet.specs.Reader.{Answer, refused, done, read}
-use Rattle.sheet.specs.Reads.{editionOf, fitting, Course, stopped, went, isEdition, course, readAnswer, readStore, Reads}
+use Rattle.sheet.specs.Reads.{editionOf, latest, fitting, Course, stopped, went, isEdition, course, readAnswer, readStore, Reads}
 use Rattle.sheet.specs.declared.Reading.{Reading}
 use Rattle.sheet.specs.declared.Reading.the-variants.{Done, Refused}
 use Rattle.reader.specs.Kernels.{Came}
@@ -38,14 +38,14 @@ module _ (n : ℕ) (sheet ws : List ℕ) (m : ℕ) (res : List ℕ) where
   by-edition t e = ap (λ (t : Bool). choose t (checked (length ws) m stopped (checked (length res) 0 stopped (went whole))) (stopped NoEdition)) e
 
   pub edition-under : n < 1 → Reads n sheet ws m res (Refused NoEdition 0) res
-  edition-under h = stops NoEdition (by-edition false (ap (λ (t : Bool). t && leb n 2) (lt-leb 1 n h)))
+  edition-under h = stops NoEdition (by-edition false (ap (λ (t : Bool). t && leb n latest) (lt-leb 1 n h)))
 
-  pub edition-over : 2 < n → Reads n sheet ws m res (Refused NoEdition 0) res
-  edition-over h = stops NoEdition (by-edition false (ap (λ (t : Bool). leb 1 n && t) (lt-leb n 2 h) ∙ and-false (leb 1 n)))
+  pub edition-over : latest < n → Reads n sheet ws m res (Refused NoEdition 0) res
+  edition-over h = stops NoEdition (by-edition false (ap (λ (t : Bool). leb 1 n && t) (lt-leb n latest h) ∙ and-false (leb 1 n)))
 
-  module _ (low : 1 ≤ n) (high : n ≤ 2) where
+  module _ (low : 1 ≤ n) (high : n ≤ latest) where
     in-edition : course n sheet ws m (length res) ≡ checked (length ws) m stopped (checked (length res) 0 stopped (went whole))
-    in-edition = by-edition true (ap₂ (λ (s t : Bool). s && t) (le-leb 1 n low) (le-leb n 2 high))
+    in-edition = by-edition true (ap₂ (λ (s t : Bool). s && t) (le-leb 1 n low) (le-leb n latest high))
 
     pub old-stopped : (e : Refusal) → Stop e ≡ checked (length ws) m Stop Pass → Reads n sheet ws m res (Refused e 0) res
     old-stopped e p = stops e (in-edition ∙ checks.stopped (length ws) m e stopped (checked (length res) 0 stopped (went whole)) p)

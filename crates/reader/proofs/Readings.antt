@@ -3,7 +3,6 @@ use Prim.Native.Nat.{ℕ, _^_, _≤_, _<_}
 use mathlib.Core.Path.{_≡_, refl, sym, ap, ap₂, _∙_, subst}
 use mathlib.Core.Bool.{Bool, true, false}
 use mathlib.Core.List.{List}
-use mathlib.Core.Option.{none, some}
 use mathlib.Core.Logic.{inl}
 use native.Mathlib.Omega.{arith}
 use lib.ListN.{length, getD}
@@ -17,7 +16,7 @@ use Rattle.storage.specs.Stores.{Bits, limit, view, wordAt, written, zeroed}
 use Rattle.storage.specs.declared.Refusal.the-variants.{NoSpace, NotSheet}
 use Rattle.storage.proofs.Views.{view-count, view-in, bounded-view}
 use Rattle.storage.proofs.Stores.{stored-written, view-written, length-written, length-zeroed, zeroed-in, zeroed-out}
-use Rattle.sheet.specs.Reader.{Edition, Answer, refused, headed, countIn, records, copied, read}
+use Rattle.sheet.specs.Reader.{Edition, stop, next, Answer, refused, headed, countIn, records, copied, read}
 use Rattle.sheet.specs.Reads.{editionOf, fitting, went, readAnswer}
 use Rattle.sheet.specs.declared.Edit.{Edit}
 use Rattle.sheet.specs.declared.Reading.{Reading}
@@ -74,11 +73,11 @@ module _ (edition : ℕ) (sheet old : List ℕ) (n : ℕ) (res : List ℕ) where
 
   pub no-room : headed sheet ≡ true → length res < n → whole ≡ refused NoSpace 0
   unfolding view
-  no-room e l = by-head true e ∙ ap (λ (t : Bool). copied E sheet (choose t (some (view old n)) none)) (lt-leb n (length res) l)
+  no-room e l = by-head true e ∙ ap (λ (t : Bool). copied E sheet (choose t (next (view old n)) (stop NoSpace))) (lt-leb n (length res) l)
 
   with-room : headed sheet ≡ true → n ≤ length res → whole ≡ records E sheet (countIn sheet) 0 4 (view old n)
   unfolding view
-  with-room e l = by-head true e ∙ ap (λ (t : Bool). copied E sheet (choose t (some (view old n)) none)) (le-leb n (length res) l)
+  with-room e l = by-head true e ∙ ap (λ (t : Bool). copied E sheet (choose t (next (view old n)) (stop NoSpace))) (le-leb n (length res) l)
 
   module _ (res' : List ℕ) (e : headed sheet ≡ true) (l : n ≤ length res) (q : res' ≡ written res (length res) (view old n)) where
     pub copy-long : length res' ≡ length res

@@ -19,42 +19,52 @@ use Rattle.storage.specs.declared.Change.{Change}
 use Rattle.storage.specs.declared.Change.the-variants.{Done, Refused}
 use Rattle.storage.proofs.Views.{view-count, bounded-view}
 use Rattle.storage.proofs.Stores.{view-written, length-written}
-use Rattle.sheet.specs.Reader.{Edition, Item, Turn, stop, next, Answer, refused, done, act, known, edit, edited, stepped, then, records, endAt, itemAt}
+use Rattle.sheet.specs.Reader.{Edition, Item, Turn, stop, next, Answer, refused, done, act, known, edit, edited, then, records, endAt, itemAt}
 use Rattle.sheet.specs.Reads.{step, made, editionOf, went, readAnswer}
 use Rattle.sheet.specs.declared.Edit.{Edit}
 use Rattle.sheet.specs.declared.Reading.the-variants as reading
 use Rattle.reader.specs.Kernels.{Padded, outcomeOf, turned, Came}
-use Rattle.sheet.proofs.Steps.{Kept, step-kept}
+use Rattle.sheet.proofs.Turns.{stop-next, next-inj}
+use Rattle.sheet.proofs.Effects.{Kept, step-kept}
 use Rattle.reader.proofs.Padding.{padded-written, written-fit, written-padded}
 
 -- ---- what a record makes has space, and no member past its words
 
-stop-next : {e : Refusal} {s : Bits} → stop e ≡ next s → ⊥
-stop-next p = let z : _≡_ {A = ℕ} 0 1 = cc in omega arith
-
-one-next : {b s : Bits} → next b ≡ next s → b ≡ s
-one-next p = cc
-
-module _ (edition c : ℕ) (b s : Bits) (h : Kept c b) where
-  edit-kept : (u : Option Edit) → edited (editionOf c edition) u b ≡ next s → Kept c s
+module _ (edition c k : ℕ) (b s : Bits) (h : Kept c b) where
+  edit-kept : (u : Option Edit) → edited (editionOf c edition) k u b ≡ next s → Kept c s
   edit-kept none p = absurd (stop-next p)
-  edit-kept (some e) p = go (editionOf c edition .step e b) refl p
-    where
-      go : (o : Option Bits) → editionOf c edition .step e b ≡ o → stepped (editionOf c edition) o ≡ next s → Kept c s
-      go none q r = absurd (stop-next r)
-      go (some t) q r = subst (Kept c) (one-next r) (step-kept c edition e b t h q)
+  edit-kept (some e) p = step-kept c edition k e b s h p
 
-  size-kept : (r : Item) (o : Option ℕ) → known (editionOf c edition) r o b ≡ next s → Kept c s
+  size-kept : (r : Item) (o : Option ℕ) → known (editionOf c edition) k r o b ≡ next s → Kept c s
   size-kept r none p = absurd (stop-next p)
   size-kept r (some n) p = edit-kept (edit (editionOf c edition) r n) p
 
-  act-kept : (r : Item) → act (editionOf c edition) r b ≡ next s → Kept c s
+  act-kept : (r : Item) → act (editionOf c edition) k r b ≡ next s → Kept c s
   unfolding act
   act-kept r p = go (r .duty) p
     where
-      go : (t : Bool) → choose t (known (editionOf c edition) r (editionOf c edition .size (r .kind)) b) (next b) ≡ next s → Kept c s
+      go : (t : Bool) → choose t (known (editionOf c edition) k r (editionOf c edition .size (r .kind)) b) (next b) ≡ next s → Kept c s
       go true q = size-kept r (editionOf c edition .size (r .kind)) q
-      go false q = subst (Kept c) (one-next q) h
+      go false q = subst (Kept c) (next-inj q) h
+
+-- a step of the table does not look at the record's number
+any-number : (edition c k : ℕ) (r : Item) (b : Bits) → act (editionOf c edition) k r b ≡ act (editionOf c edition) 0 r b
+unfolding act editionOf
+any-number edition c k r b = go (r .duty)
+  where
+    by-edit : (u : Option Edit) → edited (editionOf c edition) k u b ≡ edited (editionOf c edition) 0 u b
+    by-edit none = refl
+    by-edit (some e) = refl
+
+    by-size : (o : Option ℕ) → known (editionOf c edition) k r o b ≡ known (editionOf c edition) 0 r o b
+    by-size none = refl
+    by-size (some n) = by-edit (edit (editionOf c edition) r n)
+
+    go : (d : Bool)
+        → choose d (known (editionOf c edition) k r (editionOf c edition .size (r .kind)) b) (next b)
+        ≡ choose d (known (editionOf c edition) 0 r (editionOf c edition .size (r .kind)) b) (next b)
+    go true = by-size (editionOf c edition .size (r .kind))
+    go false = refl
 
 -- ---- what a turn's answer tells
 
@@ -99,37 +109,39 @@ module _ (edition : ℕ) (sheet : List ℕ) (n : ℕ) (ws₀ : List ℕ) (n₀ :
 
   module _ (ws : List ℕ) (m i at : ℕ) (g : Going ws m i at) (more : i < n) where
     unrolled : whole
-        ≡ choose (leb (endAt sheet at) (length sheet)) (then E (records E sheet (n - (i + 1)) (suc i) (endAt sheet at)) (suc i) (act E (itemAt sheet at) (view ws m))) (refused CutRecord (suc i))
+        ≡ choose (leb (endAt sheet at) (length sheet)) (then E (records E sheet (n - (i + 1)) (suc i) (endAt sheet at)) (suc i) (act E (suc i) (itemAt sheet at) (view ws m))) (refused CutRecord (suc i))
     unfolding records
     unrolled = g .decides ∙ ap (λ (x : ℕ). records E sheet x i at (view ws m)) (let e : n - i ≡ suc (n - (i + 1)) = omega arith in e)
 
     pub cut : (end : ℕ) → end ≡ endAt sheet at → length sheet < end → whole ≡ refused CutRecord (i + 1)
     cut end q l =
         unrolled
-        ∙ ap (λ (t : Bool). choose t (then E (records E sheet (n - (i + 1)) (suc i) (endAt sheet at)) (suc i) (act E (itemAt sheet at) (view ws m))) (refused CutRecord (suc i)))
+        ∙ ap (λ (t : Bool). choose t (then E (records E sheet (n - (i + 1)) (suc i) (endAt sheet at)) (suc i) (act E (suc i) (itemAt sheet at) (view ws m))) (refused CutRecord (suc i)))
         (lt-leb (endAt sheet at) (length sheet) (omega arith))
         ∙ ap (refused CutRecord) (sym (add-one i))
 
     module _ (end : ℕ) (q : end ≡ endAt sheet at) (l : end ≤ length sheet) where
-      turns : whole ≡ then E (records E sheet (n - (i + 1)) (suc i) end) (suc i) (act E (itemAt sheet at) (view ws m))
+      turns : whole ≡ then E (records E sheet (n - (i + 1)) (suc i) end) (suc i) (act E (suc i) (itemAt sheet at) (view ws m))
       turns =
           unrolled
-          ∙ ap (λ (t : Bool). choose t (then E (records E sheet (n - (i + 1)) (suc i) (endAt sheet at)) (suc i) (act E (itemAt sheet at) (view ws m))) (refused CutRecord (suc i)))
+          ∙ ap (λ (t : Bool). choose t (then E (records E sheet (n - (i + 1)) (suc i) (endAt sheet at)) (suc i) (act E (suc i) (itemAt sheet at) (view ws m))) (refused CutRecord (suc i)))
           (le-leb (endAt sheet at) (length sheet) (omega arith))
-          ∙ ap (λ (x : ℕ). then E (records E sheet (n - (i + 1)) (suc i) x) (suc i) (act E (itemAt sheet at) (view ws m))) (sym q)
+          ∙ ap (λ (x : ℕ). then E (records E sheet (n - (i + 1)) (suc i) x) (suc i) (act E (suc i) (itemAt sheet at) (view ws m))) (sym q)
 
       -- the turn is made in a store of the same length
       in-store : (b : Bitmap) (r : Change) (ws' : List ℕ) → Leaves (turned edition (itemAt sheet at) (length ws) (view ws m)) ws b r ws'
-          → Leaves (outcomeOf (act E (itemAt sheet at) (view ws m))) ws b r ws'
+          → Leaves (outcomeOf (act E (suc i) (itemAt sheet at) (view ws m))) ws b r ws'
       unfolding turned
-      in-store b r ws' h = subst (λ (c : ℕ). Leaves (turned edition (itemAt sheet at) c (view ws m)) ws b r ws') (g .long) h
+      in-store b r ws' h =
+          subst (λ (t : Turn Bits). Leaves (outcomeOf t) ws b r ws') (sym (any-number edition (length ws₀) (suc i) (itemAt sheet at) (view ws m)))
+          (subst (λ (c : ℕ). Leaves (turned edition (itemAt sheet at) c (view ws m)) ws b r ws') (g .long) h)
 
       pub stops : (r : Change) (ws' : List ℕ) (e : Refusal) (b' : Bitmap) → r ≡ Change.Refused e b'
           → Leaves (turned edition (itemAt sheet at) (length ws) (view ws m)) ws (record { count = m }) r ws' → whole ≡ refused e (i + 1)
       stops r ws' e b' p h =
           turns
           ∙ ap (then E (records E sheet (n - (i + 1)) (suc i) end) (suc i))
-          (told-stop (act E (itemAt sheet at) (view ws m)) ws ws' (record { count = m }) b' e
+          (told-stop (act E (suc i) (itemAt sheet at) (view ws m)) ws ws' (record { count = m }) b' e
           (in-store (record { count = m }) (Change.Refused e b') ws' (subst (λ (x : Change). Leaves (turned edition (itemAt sheet at) (length ws) (view ws m)) ws (record { count = m }) x ws') p h)))
           ∙ ap (refused e) (sym (add-one i))
 
@@ -149,20 +161,20 @@ module _ (edition : ℕ) (sheet : List ℕ) (n : ℕ) (ws₀ : List ℕ) (n₀ :
             ∙ ap (λ (x : ℕ). records E sheet (n - (i + 1)) x end (view ws' (after .count))) (sym (add-one i));
       }
         where
-          found : (s : Bits) × Made (act E (itemAt sheet at) (view ws m)) ws ws' (record { count = m }) after s
+          found : (s : Bits) × Made (act E (suc i) (itemAt sheet at) (view ws m)) ws ws' (record { count = m }) after s
           found =
-              told-next (act E (itemAt sheet at) (view ws m)) ws ws' (record { count = m }) after
+              told-next (act E (suc i) (itemAt sheet at) (view ws m)) ws ws' (record { count = m }) after
               (in-store (record { count = m }) (Change.Done after) ws' (subst (λ (x : Change). Leaves (turned edition (itemAt sheet at) (length ws) (view ws m)) ws (record { count = m }) x ws') p h))
 
           s : Bits
           s = found .0
 
-          y : Made (act E (itemAt sheet at) (view ws m)) ws ws' (record { count = m }) after s
+          y : Made (act E (suc i) (itemAt sheet at) (view ws m)) ws ws' (record { count = m }) after s
           y = found .1
 
           kept : Kept (length ws₀) s
           kept =
-              act-kept edition (length ws₀) (view ws m) s
+              act-kept edition (length ws₀) (suc i) (view ws m) s
               (record { bounded = bounded-view ws m; space = omega (arith, view-count ws m, g .padded .inside, g .long) }) (itemAt sheet at) (y .is)
 
           room : s .count ≤ length ws

@@ -13,12 +13,12 @@ use Rattle.word.proofs.Lists.{Fit}
 use Rattle.storage.specs.Stores.{Bits, Outcome, refused, done, view, answer, store, Leaves, outcome, Changes}
 use Rattle.storage.specs.declared.Bitmap.{Bitmap}
 use Rattle.storage.specs.declared.Refusal.{Refusal}
-use Rattle.storage.specs.declared.Refusal.the-variants.{NoSpace, BadPayload}
+use Rattle.storage.specs.declared.Refusal.the-variants.{BadPayload}
 use Rattle.storage.specs.declared.Change.{Change}
 use Rattle.storage.specs.declared.Change.the-variants.{Done, Refused}
 use Rattle.storage.proofs.Stores.{leaves-refused, outcome-ok, written-view}
 use Rattle.sheet.specs.Kinds.{sizeIn, ruleOf}
-use Rattle.sheet.specs.Reader.{Item, next, known, edited, stepped, sizeAt, endAt, itemAt}
+use Rattle.sheet.specs.Reader.{Item, next, known, edited, sizeAt, endAt, itemAt}
 use Rattle.sheet.specs.Reads.{step, made, editionOf}
 use Rattle.sheet.specs.declared.Edit.{Edit}
 use Rattle.decode.specs.declared.Asked.{Asked}
@@ -30,31 +30,24 @@ use Rattle.reader.specs.Kernels.{Padded, outcomeOf, dutyItem, turned}
 pub step-of : {e f : Edit} {ws ws' : List ℕ} {b : Bitmap} {r : Change} → e ≡ f → Changes (step f) ws b r ws' → Changes (step e) ws b r ws'
 step-of {e} {f} {ws} {ws'} {b} {r} q h = subst (λ (x : Edit). Changes (step x) ws b r ws') (sym q) h
 
--- what the step that is asked for comes to: any refusal of it is 6
-abbrev stepMade : Outcome → Outcome
-stepMade (refused e) = refused NoSpace
-stepMade (done s) = done s
-
+-- what is asked for comes to
 abbrev comes : ℕ → Bits → Asked → Outcome
 comes c b (Asked.Refused e) = refused e
-comes c b (For e) = stepMade (step e c b)
+comes c b (For e) = step e c b
 
 module _ (edition kind : ℕ) (payload : List ℕ) (c : ℕ) (b : Bits) where
-  step-comes : (e : Edit) → outcomeOf (stepped (editionOf c edition) (made (step e c b))) ≡ stepMade (step e c b)
-  step-comes e = go (step e c b)
-    where
-      go : (o : Outcome) → outcomeOf (stepped (editionOf c edition) (made o)) ≡ stepMade o
-      go (refused x) = refl
-      go (done s) = refl
+  step-comes : (o : Outcome) → outcomeOf (made o) ≡ o
+  step-comes (refused x) = refl
+  step-comes (done s) = refl
 
   rule-comes : (t : Bool) (u : Option Edit)
-      → outcomeOf (edited (editionOf c edition) (choose t u none) b) ≡ comes c b (choose t (asks u) (Asked.Refused BadPayload))
+      → outcomeOf (edited (editionOf c edition) 0 (choose t u none) b) ≡ comes c b (choose t (asks u) (Asked.Refused BadPayload))
   unfolding editionOf
   rule-comes true none = refl
-  rule-comes true (some e) = step-comes e
+  rule-comes true (some e) = step-comes (step e c b)
   rule-comes false u = refl
 
-  size-comes : (o : Option ℕ) → outcomeOf (known (editionOf c edition) (dutyItem kind payload) o b) ≡ comes c b (askedBy kind payload o)
+  size-comes : (o : Option ℕ) → outcomeOf (known (editionOf c edition) 0 (dutyItem kind payload) o b) ≡ comes c b (askedBy kind payload o)
   unfolding editionOf
   size-comes none = refl
   size-comes (some n) = rule-comes (eqb (length payload) n) (ruleOf kind payload)
@@ -70,33 +63,15 @@ module _ (edition kind : ℕ) (payload ws : List ℕ) (b : Bitmap) where
       → Leaves (turned edition (dutyItem kind payload) (length ws) (view ws (b .count))) ws b (Change.Refused e b) ws
   duty-refused e q = leaves-refused (duty-comes edition kind payload (length ws) (view ws (b .count)) ∙ ap (comes (length ws) (view ws (b .count))) (sym q))
 
-  module _ (e : Edit) (q : For e ≡ askedFor edition kind payload) (p : Padded ws (b .count)) where
-    asked-step : turned edition (dutyItem kind payload) (length ws) (view ws (b .count)) ≡ stepMade (outcome (step e) ws (b .count))
-    asked-step =
-        duty-comes edition kind payload (length ws) (view ws (b .count)) ∙ ap (comes (length ws) (view ws (b .count))) (sym q)
-        ∙ ap stepMade (sym (outcome-ok (step e) ws b (record { short = p .short; inside = p .inside })))
-
-    pub duty-done : (r : Change) (after : Bitmap) (ws' : List ℕ) → r ≡ Done after → Changes (step e) ws b r ws'
-        → Leaves (turned edition (dutyItem kind payload) (length ws) (view ws (b .count))) ws b (Done after) ws'
-    unfolding answer
-    duty-done r after ws' d h =
-        subst (λ (o : Outcome). Leaves o ws b (Done after) ws') (sym asked-step)
-        (go (outcome (step e) ws (b .count)) (subst (λ (x : Change). Changes (step e) ws b x ws') d h))
-      where
-        go : (o : Outcome) → Leaves o ws b (Done after) ws' → Leaves (stepMade o) ws b (Done after) ws'
-        go (refused x) l = let r : Done after ≡ Change.Refused x b = l .answers in absurd (let z : _≡_ {A = ℕ} 0 1 = cc in omega arith)
-        go (done s) l = l
-
-    pub duty-space : (r : Change) (x : Refusal) (y : Bitmap) (ws' : List ℕ) → r ≡ Change.Refused x y → Changes (step e) ws b r ws'
-        → Leaves (turned edition (dutyItem kind payload) (length ws) (view ws (b .count))) ws b (Change.Refused NoSpace b) ws'
-    unfolding answer store
-    duty-space r x y ws' d h =
-        subst (λ (o : Outcome). Leaves o ws b (Change.Refused NoSpace b) ws') (sym asked-step)
-        (go (outcome (step e) ws (b .count)) (subst (λ (x : Change). Changes (step e) ws b x ws') d h))
-      where
-        go : (o : Outcome) → Leaves o ws b (Change.Refused x y) ws' → Leaves (stepMade o) ws b (Change.Refused NoSpace b) ws'
-        go (refused z) l = record { answers = refl; leaves = l .leaves }
-        go (done s) l = let r : Change.Refused x y ≡ Done (record { count = s .count }) = l .answers in absurd (let z : _≡_ {A = ℕ} 0 1 = cc in omega arith)
+  -- what its step does
+  pub duty-does : (e : Edit) → For e ≡ askedFor edition kind payload → Padded ws (b .count) → (r : Change) (ws' : List ℕ) → Changes (step e) ws b r ws'
+      → Leaves (turned edition (dutyItem kind payload) (length ws) (view ws (b .count))) ws b r ws'
+  duty-does e q p r ws' h = subst (λ (o : Outcome). Leaves o ws b r ws') (sym asked-step) h
+    where
+      asked-step : turned edition (dutyItem kind payload) (length ws) (view ws (b .count)) ≡ outcome (step e) ws (b .count)
+      asked-step =
+          duty-comes edition kind payload (length ws) (view ws (b .count)) ∙ ap (comes (length ws) (view ws (b .count))) (sym q)
+          ∙ sym (outcome-ok (step e) ws b (record { short = p .short; inside = p .inside }))
 
 -- ---- the record at a position
 
@@ -108,19 +83,19 @@ module _ (edition : ℕ) (sheet : List ℕ) (at first : ℕ) (e : first ≡ getD
     where
       same : turned edition (itemAt sheet at) (length ws) (view ws (b .count)) ≡ done (view ws (b .count))
       same =
-          ap (λ (t : Bool). outcomeOf (choose t (known (editionOf (length ws) edition) (itemAt sheet at) (sizeIn edition (getD sheet at 0 % 128)) (view ws (b .count))) (next (view ws (b .count)))))
+          ap (λ (t : Bool). outcomeOf (choose t (known (editionOf (length ws) edition) 0 (itemAt sheet at) (sizeIn edition (getD sheet at 0 % 128)) (view ws (b .count))) (next (view ws (b .count)))))
           (lt-leb 128 (getD sheet at 0) (omega arith))
 
-  pub on-duty : (end : ℕ) → end ≡ endAt sheet at → 128 ≤ first → first < 256 → itemAt sheet at ≡ dutyItem (first - 128) (take (end - (at + 3)) (drop (at + 3) sheet))
-  on-duty end q l u =
+  pub on-duty : (end : ℕ) → end ≡ endAt sheet at → 128 ≤ first → itemAt sheet at ≡ dutyItem (first % 128) (take (end - (at + 3)) (drop (at + 3) sheet))
+  on-duty end q l =
       λ i. record {
         duty = le-leb 128 (getD sheet at 0) (omega arith) i;
-        kind = (let k : getD sheet at 0 % 128 ≡ first - 128 = omega arith in k i);
+        kind = ap (λ (x : ℕ). x % 128) (sym e) i;
         payload = take ((let k : sizeAt sheet at ≡ end - (at + 3) = omega arith in k i)) (drop (at + 3) sheet);
       }
 
-  pub acts : (end : ℕ) (ws ws' : List ℕ) (b : Bitmap) (r : Change) → end ≡ endAt sheet at → 128 ≤ first → first < 256
-      → Leaves (turned edition (dutyItem (first - 128) (take (end - (at + 3)) (drop (at + 3) sheet))) (length ws) (view ws (b .count))) ws b r ws'
+  pub acts : (end : ℕ) (ws ws' : List ℕ) (b : Bitmap) (r : Change) → end ≡ endAt sheet at → 128 ≤ first
+      → Leaves (turned edition (dutyItem (first % 128) (take (end - (at + 3)) (drop (at + 3) sheet))) (length ws) (view ws (b .count))) ws b r ws'
       → Leaves (turned edition (itemAt sheet at) (length ws) (view ws (b .count))) ws b r ws'
-  acts end ws ws' b r q l u h =
-      subst (λ (x : Item). Leaves (turned edition x (length ws) (view ws (b .count))) ws b r ws') (sym (on-duty end q l u)) h
+  acts end ws ws' b r q l h =
+      subst (λ (x : Item). Leaves (turned edition x (length ws) (view ws (b .count))) ws b r ws') (sym (on-duty end q l)) h

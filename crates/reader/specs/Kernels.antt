@@ -24,10 +24,10 @@ outcomeOf (next s) = Outcome.done s
 abbrev pub dutyItem : ℕ → List ℕ → Item
 dutyItem kind payload = record { duty = true; kind = kind; payload = payload }
 
--- a record in an edition, on a bitmap in a store of c words
+-- a record in an edition, on a bitmap in a store of c words; the table's steps go by the edit alone, so any number of a record serves
 unfoldable pub turned : ℕ → Item → ℕ → Bits → Outcome
 unfolding act editionOf
-turned edition item c b = outcomeOf (act (editionOf c edition) item b)
+turned edition item c b = outcomeOf (act (editionOf c edition) 0 item b)
 
 -- a reading that came to a answers r, and where it is done leaves the bitmap's words and zeros past its count
 pub record Came (a : Answer Bits) (res : List ℕ) (r : Reading) (res' : List ℕ) : Type 0 where

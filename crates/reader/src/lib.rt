@@ -77,17 +77,14 @@ fn apply(words: &mut [u64], b: Bitmap, e: Edit) -> Change
     }
 }
 
-// A duty record: 13, 12, or 6 where its step is refused.
+// A duty record: 13, 12, or what its step is refused with.
 fn perform(edition: usize, kind: usize, payload: &[u8], words: &mut [u64], b: Bitmap) -> Change
     requires { ⌜ Padded (now words) (b .count) ⌝ }
     ensures { λ r. ⌜ Leaves (turned edition (dutyItem kind (now (payload .entry))) (length (now (words .entry))) (view (now (words .entry)) (b .count))) (now (words .entry)) b r (now (words .exit)) ⌝ }
 {
     match decode::edit_of(edition, kind, payload) {
         Asked::Refused(why) => Change::Refused(why, b),
-        Asked::For(e) => match apply(words, b, e) {
-            Change::Done(after) => Change::Done(after),
-            Change::Refused(_, _) => Change::Refused(Refusal::NoSpace, b),
-        },
+        Asked::For(e) => apply(words, b, e),
     }
 }
 
@@ -100,7 +97,7 @@ fn turn(edition: usize, sheet: &[u8], at: usize, end: usize, words: &mut [u64], 
     if first < 128 {
         return Change::Done(b);
     }
-    perform(edition, first - 128, &sheet[at + 3..end], words, b)
+    perform(edition, first % 128, &sheet[at + 3..end], words, b)
 }
 
 // The n records from the fifth byte on. Where one is refused the store is left as it is then.

@@ -1,82 +1,136 @@
 -- A sheet keeps its meaning across editions, for any two of which the later holds the earlier.
-use Prim.Native.Nat.{ℕ, zero, suc}
+use Prim.Native.Nat.{ℕ, zero, suc, _+_, _≤_}
 use mathlib.Core.Path.{_≡_, refl, sym, ap, _∙_}
 use mathlib.Core.Bool.{Bool, true, false}
-use mathlib.Core.List.{List}
+use mathlib.Core.List.{List, []}
 use mathlib.Core.Logic.{_⊎_, inl, inr}
 use mathlib.Core.Option.{Option, none, some}
 use native.Mathlib.Omega.{arith}
+use native.Mathlib.Decide.{decLe}
+use native.Mathlib.Nat.{add-suc, suc-add, zero-add}
 use lib.ListN.{length}
-use lib.Dec.{leb, eqb, eqb→eq}
+use lib.Dec.{eqb, eqb→eq}
 use Rattle.word.specs.Sets.{choose}
-use Rattle.storage.specs.declared.Refusal.the-variants.{CutRecord, NotSheet, NewerKind}
-use Rattle.sheet.specs.Reader.{Edition, Item, Answer, refused, done, Turn, stop, next, headed, countIn, endAt, itemAt, edit, stepped, edited, known, act, then, records, copied, read}
-use Rattle.sheet.specs.Meaning.{AtRecord, Newer, Holds}
+use Rattle.storage.specs.declared.Refusal.the-variants.{NotSheet, NewerKind}
+use Rattle.sheet.specs.Reader.{Edition, Item, Answer, refused, done, answerNumber, answerRecord, Turn, stop, next, endAt, edit, edited, known, act, then, records, copied, read}
+use Rattle.sheet.specs.Meaning.{Header, total, start, Whole, effect, begin, AtRecord, Newer, newer, Holds}
 use Rattle.sheet.specs.Promises.{AnyTwo}
-use Rattle.sheet.proofs.Exact.{exact}
+use Rattle.sheet.proofs.Turns.{take-true, take-false, header?, headed-true, headed-false, record-whole, record-cut}
+use Rattle.sheet.proofs.Stands.{stands, item}
+use Rattle.sheet.proofs.Exact.{Reaches, reaches-next, exact}
 
 module _ {A S : Type 0} (E F : Edition A S) (h : Holds E F) where
-  -- E's answer is F's, or names a newer kind
-  abbrev SameOr : Answer S → Answer S → Type 0
-  SameOr a b = (a ≡ b) ⊎ ((k : ℕ) × (a ≡ refused NewerKind k))
-
-  edited-kept : (r : Item) (n : ℕ) (s : S) → E .size (r .kind) ≡ some n → edited E (edit E r n) s ≡ edited F (edit F r n) s
-  edited-kept r n s p = go (eqb (length (r .payload)) n) refl
+  edited-kept : (k : ℕ) (r : Item) (n : ℕ) (s : S) → E .size (r .kind) ≡ some n → edited E k (edit E r n) s ≡ edited F k (edit F r n) s
+  edited-kept k r n s p = go (eqb (length (r .payload)) n) refl
     where
-      on : length (r .payload) ≡ n → (o : Option A) → E .rule (r .kind) (r .payload) ≡ o → edited E o s ≡ edited F o s
+      on : length (r .payload) ≡ n → (o : Option A) → E .rule (r .kind) (r .payload) ≡ o → edited E k o s ≡ edited F k o s
       on l none q = refl
-      on l (some e) q = ap (stepped E) (sym (h .step-kept (r .kind) n (r .payload) e p l q s))
+      on l (some e) q = sym (h .step-kept (r .kind) n (r .payload) e p l q k s)
 
-      go : (b : Bool) → eqb (length (r .payload)) n ≡ b → edited E (choose b (E .rule (r .kind) (r .payload)) none) s ≡ edited F (choose b (F .rule (r .kind) (r .payload)) none) s
+      go : (b : Bool) → eqb (length (r .payload)) n ≡ b → edited E k (choose b (E .rule (r .kind) (r .payload)) none) s ≡ edited F k (choose b (F .rule (r .kind) (r .payload)) none) s
       go true e =
           let l : length (r .payload) ≡ n = eqb→eq _ _ (rw e tt) in
-          on l (E .rule (r .kind) (r .payload)) refl ∙ ap (λ (o : Option A). edited F o s) (sym (h .rule-kept (r .kind) n (r .payload) p l))
+          on l (E .rule (r .kind) (r .payload)) refl ∙ ap (λ (o : Option A). edited F k o s) (sym (h .rule-kept (r .kind) n (r .payload) p l))
       go false e = refl
 
-  act-kept : (r : Item) (s : S) → (act E r s ≡ act F r s) ⊎ (act E r s ≡ stop NewerKind)
+  -- a record has the same turn in both, or is a duty record of a kind that the earlier lacks
+  act-kept : (k : ℕ) (r : Item) (s : S) → (act E k r s ≡ act F k r s) ⊎ ((r .duty ≡ true) × (E .size (r .kind) ≡ none))
   unfolding act
-  act-kept r s = go (r .duty) (E .size (r .kind)) refl
+  act-kept k r s = go (r .duty) refl (E .size (r .kind)) refl
     where
-      go : (d : Bool) (o : Option ℕ) → E .size (r .kind) ≡ o → (choose d (known E r o s) (next s) ≡ choose d (known F r (F .size (r .kind)) s) (next s)) ⊎ (choose d (known E r o s) (next s) ≡ stop NewerKind)
-      go false o p = inl refl
-      go true none p = inr refl
-      go true (some n) p = inl (edited-kept r n s p ∙ ap (λ (o : Option ℕ). known F r o s) (sym (h .size-kept (r .kind) n p)))
+      go : (d : Bool) → r .duty ≡ d → (o : Option ℕ) → E .size (r .kind) ≡ o
+          → (choose d (known E k r o s) (next s) ≡ choose d (known F k r (F .size (r .kind)) s) (next s)) ⊎ ((r .duty ≡ true) × (E .size (r .kind) ≡ none))
+      go false d o p = inl refl
+      go true d none p = inr (d, p)
+      go true d (some n) p = inl (edited-kept k r n s p ∙ ap (λ (o : Option ℕ). known F k r o s) (sym (h .size-kept (r .kind) n p)))
 
-  module _ (sheet : List ℕ) where
-    records-kept : (n i at : ℕ) (s : S) → SameOr (records E sheet n i at s) (records F sheet n i at s)
-    unfolding records
-    records-kept zero i at s = inl refl
-    records-kept (suc n) i at s = go (λ s′. records-kept n (suc i) (endAt sheet at) s′) (leb (endAt sheet at) (length sheet)) (act-kept (itemAt sheet at) s)
+  module _ (sheet : List ℕ) (old : Turn S) where
+    -- E's answer is F's, or some record is newer
+    abbrev SameOr : Answer S → Answer S → Type 0
+    SameOr a b = (a ≡ b) ⊎ ((k : ℕ) × AtRecord E sheet old k (Newer E sheet))
+
+    module _ (good : Header sheet) (s₀ : S) (fits : old ≡ next s₀) where
+      records-kept : (n i : ℕ) (s : S) → i + n ≡ total sheet → Reaches E sheet s₀ i s → SameOr (records E sheet n i (start sheet i) s) (records F sheet n i (start sheet i) s)
+      unfolding records start
+      records-kept zero i s c g = inl refl
+      records-kept (suc n) i s c g =
+          go (λ t. records-kept n (suc i) t (suc-add i n ∙ sym (add-suc i n) ∙ c)) (decLe (endAt sheet at) (length sheet))
+        where
+          at : ℕ
+          at = start sheet i
+
+          r : Item
+          r = item E sheet i
+
+          whole-E : endAt sheet at ≤ length sheet → records E sheet (suc n) i at s ≡ then E (records E sheet n (suc i) (endAt sheet at)) (suc i) (act E (suc i) r s)
+          whole-E w = record-whole E sheet n i at s w
+
+          whole-F : endAt sheet at ≤ length sheet → records F sheet (suc n) i at s ≡ then F (records F sheet n (suc i) (endAt sheet at)) (suc i) (act F (suc i) r s)
+          whole-F w = record-whole F sheet n i at s w
+
+          on : ((t : S) → Reaches E sheet s₀ (suc i) t → SameOr (records E sheet n (suc i) (endAt sheet at) t) (records F sheet n (suc i) (endAt sheet at) t))
+              → Whole sheet i → act E (suc i) r s ≡ act F (suc i) r s → (o : Turn S) → act E (suc i) r s ≡ o → SameOr (records E sheet (suc n) i at s) (records F sheet (suc n) i at s)
+          on ih w e (stop x) q =
+              inl (whole-E w ∙ ap (then E (records E sheet n (suc i) (endAt sheet at)) (suc i)) q ∙ sym (whole-F w ∙ ap (then F (records F sheet n (suc i) (endAt sheet at)) (suc i)) (sym e ∙ q)))
+          on ih w e (next t) q = further (ih t (reaches-next E sheet s₀ i s t g w q))
+            where
+              further : SameOr (records E sheet n (suc i) (endAt sheet at) t) (records F sheet n (suc i) (endAt sheet at) t) → SameOr (records E sheet (suc n) i at s) (records F sheet (suc n) i at s)
+              further (inl p) =
+                  inl (whole-E w ∙ ap (then E (records E sheet n (suc i) (endAt sheet at)) (suc i)) q ∙ p ∙ sym (whole-F w ∙ ap (then F (records F sheet n (suc i) (endAt sheet at)) (suc i)) (sym e ∙ q)))
+              further (inr k) = inr k
+
+          turn : ((t : S) → Reaches E sheet s₀ (suc i) t → SameOr (records E sheet n (suc i) (endAt sheet at) t) (records F sheet n (suc i) (endAt sheet at) t))
+              → Whole sheet i → (act E (suc i) r s ≡ act F (suc i) r s) ⊎ ((r .duty ≡ true) × (E .size (r .kind) ≡ none)) → SameOr (records E sheet (suc n) i at s) (records F sheet (suc n) i at s)
+          turn ih w (inl e) = on ih w e (act E (suc i) r s) refl
+          turn ih w (inr (d, p)) =
+              inr (
+                suc i,
+                record {
+                  index = i;
+                  numbered = refl;
+                  within = omega arith;
+                  reached = record { headed = good; from = s₀; fits = fits; edits = g .0; sound = g .1; state = s; applied = g .2 };
+                  here = (r, stands sheet at w, d, p);
+                },
+              )
+
+          go : ((t : S) → Reaches E sheet s₀ (suc i) t → SameOr (records E sheet n (suc i) (endAt sheet at) t) (records F sheet n (suc i) (endAt sheet at) t))
+              → Dec (endAt sheet at ≤ length sheet) → SameOr (records E sheet (suc n) i at s) (records F sheet (suc n) i at s)
+          go ih (yes w) = turn ih w (act-kept (suc i) r s)
+          go ih (no w) = inl (record-cut E sheet n i at s w ∙ sym (record-cut F sheet n i at s w))
+
+    -- the earlier gives the later's whole answer, or some record is newer
+    same-or-newer : SameOr (read E sheet old) (read F sheet old)
+    unfolding read start effect
+    same-or-newer = go (header? sheet) old refl
       where
-        on : ((s′ : S) → SameOr (records E sheet n (suc i) (endAt sheet at) s′) (records F sheet n (suc i) (endAt sheet at) s′)) → (o : Turn S) → SameOr (then E (records E sheet n (suc i) (endAt sheet at)) (suc i) o) (then F (records F sheet n (suc i) (endAt sheet at)) (suc i) o)
-        on ih (stop e) = inl refl
-        on ih (next t) = ih t
+        read-E : Header sheet → (o : Turn S) → old ≡ o → read E sheet old ≡ copied E sheet o
+        read-E g o e = take-true _ _ (headed-true sheet g) ∙ ap (copied E sheet) e
 
-        go : ((s′ : S) → SameOr (records E sheet n (suc i) (endAt sheet at) s′) (records F sheet n (suc i) (endAt sheet at) s′)) → (t : Bool) → (act E (itemAt sheet at) s ≡ act F (itemAt sheet at) s) ⊎ (act E (itemAt sheet at) s ≡ stop NewerKind)
-            → SameOr (choose t (then E (records E sheet n (suc i) (endAt sheet at)) (suc i) (act E (itemAt sheet at) s)) (refused CutRecord (suc i))) (choose t (then F (records F sheet n (suc i) (endAt sheet at)) (suc i) (act F (itemAt sheet at) s)) (refused CutRecord (suc i)))
-        go ih false p = inl refl
-        go ih true (inl e) = rw e (on ih (act F (itemAt sheet at) s))
-        go ih true (inr e) = inr (suc i, rw e refl)
+        read-F : Header sheet → (o : Turn S) → old ≡ o → read F sheet old ≡ copied F sheet o
+        read-F g o e = take-true _ _ (headed-true sheet g) ∙ ap (copied F sheet) e
 
-    -- the earlier gives the later's whole answer, or names a newer kind
-    pub same-or-newer : (old : Option S) → SameOr (read E sheet old) (read F sheet old)
-    unfolding read
-    same-or-newer old = go (headed sheet) old
-      where
-        go : (t : Bool) (o : Option S) → SameOr (choose t (copied E sheet o) (refused NotSheet 0)) (choose t (copied F sheet o) (refused NotSheet 0))
-        go false o = inl refl
-        go true none = inl refl
-        go true (some s) = records-kept (countIn sheet) 0 4 s
+        go : Dec (Header sheet) → (o : Turn S) → old ≡ o → SameOr (read E sheet old) (read F sheet old)
+        go (no g) o e = inl (take-false _ _ (headed-false sheet g) ∙ sym (take-false _ _ (headed-false sheet g)))
+        go (yes g) (stop x) e = inl (read-E g (stop x) e ∙ sym (read-F g (stop x) e))
+        go (yes g) (next s) e = on (records-kept g s e (total sheet) 0 s (zero-add (total sheet)) ([], begin, refl))
+          where
+            on : SameOr (records E sheet (total sheet) 0 4 s) (records F sheet (total sheet) 0 4 s) → SameOr (read E sheet old) (read F sheet old)
+            on (inl p) = inl (read-E g (next s) e ∙ p ∙ sym (read-F g (next s) e))
+            on (inr k) = inr k
 
 -- and it names the first duty record of a kind that it lacks
-pub any-two : {A S : Type 0} (E F : Edition A S) → Holds E F → (sheet : List ℕ) (old : Option S) → AnyTwo E F sheet old
+pub any-two : {A S : Type 0} (E F : Edition A S) → Holds E F → (sheet : List ℕ) (old : Turn S) → AnyTwo E F sheet old
 any-two {S = S} E F h sheet old = record { same = go (same-or-newer E F h sheet old); kept = λ k s e. stays k s e (same-or-newer E F h sheet old) }
   where
-    go : SameOr E F h (read E sheet old) (read F sheet old)
-        → (read E sheet old ≡ read F sheet old) ⊎ ((k : ℕ) × (read E sheet old ≡ refused NewerKind k) × AtRecord E sheet old k (Newer E sheet))
-    go (inl e) = inl e
-    go (inr (k, e)) = inr (k, e, exact E sheet old (refused NewerKind k) .0 e)
+    named : (k : ℕ) → AtRecord E sheet old k (Newer E sheet) → read E sheet old ≡ refused NewerKind k
+    named k a = exact E sheet old (refused NewerKind k) .1 (newer a refl)
 
-    stays : (k : ℕ) (s : S) → read E sheet old ≡ done k s → SameOr E F h (read E sheet old) (read F sheet old) → read F sheet old ≡ done k s
+    go : SameOr E F h sheet old (read E sheet old) (read F sheet old)
+        → (read E sheet old ≡ read F sheet old) ⊎ ((answerNumber (read E sheet old) ≡ 13) × AtRecord E sheet old (answerRecord (read E sheet old)) (Newer E sheet))
+    go (inl e) = inl e
+    go (inr (k, a)) = inr (rw (named k a) (refl, a))
+
+    stays : (k : ℕ) (s : S) → read E sheet old ≡ done k s → SameOr E F h sheet old (read E sheet old) (read F sheet old) → read F sheet old ≡ done k s
     stays k s e (inl p) = sym p ∙ e
-    stays k s e (inr (j, p)) = absurd (let z : _≡_ {A = ℕ} 0 1 = cc in omega arith)
+    stays k s e (inr (j, a)) = absurd (let p = named j a in let z : _≡_ {A = ℕ} 0 1 = cc in omega arith)

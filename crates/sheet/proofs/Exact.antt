@@ -2,76 +2,89 @@
 use Prim.Native.Nat.{ℕ, zero, suc, _+_, _-_, _≤_, _<_}
 use mathlib.Core.Path.{_≡_, refl, sym, ap, _∙_, subst}
 use mathlib.Core.List.{List, [], _++_}
-use mathlib.Core.Logic.{_↔_, inl, inr}
+use mathlib.Core.Logic.{_↔_}
 use mathlib.Core.Option.{Option, none, some}
 use native.Mathlib.Omega.{arith}
 use native.Mathlib.Decide.{decLe}
 use native.Mathlib.Nat.{add-zero, add-suc, suc-add, zero-add}
 use lib.ListN.{length}
+use Rattle.storage.specs.Refusals.{numberOf}
 use Rattle.storage.specs.declared.Refusal.{Refusal}
-use Rattle.storage.specs.declared.Refusal.the-variants.{StoreTooLong, CountOverStore, WidthOver, IndexOver, PastLength, NoSpace, NotList, NotAscii, NotSheet, CutRecord, BytesRemain, BadPayload, NewerKind, NoEdition}
+use Rattle.storage.specs.declared.Refusal.the-variants.{NotSheet, CutRecord, BytesRemain, BadPayload, NewerKind}
+use Rattle.storage.proofs.Promises.{each-number-once}
 use Rattle.sheet.specs.Reader.{Edition, Item, Answer, refused, done, Turn, stop, next, endAt, edit, act, then, records, copied, read}
-use Rattle.sheet.specs.Meaning.{Header, total, start, Whole, onward, effect, Sound, begin, Reached, AtRecord, Newer, Bad, Full, Means}
+use Rattle.sheet.specs.Meaning.{Header, total, start, Whole, onward, effect, Sound, begin, Reached, AtRecord, Newer, Bad, Fails, Applies, not-sheet, unfit, cut, newer, bad, fails, remain, Means}
+use Rattle.sheet.specs.Promises.{ReadExact}
 use Rattle.sheet.proofs.Stands.{stands, stands-whole, stands-is, asks, asked, item, Fine, sound-more, Less, sound-less}
-use Rattle.sheet.proofs.Turns.{none-some, some-inj, take-true, take-false, header?, headed-true, headed-false, listed, editOf, edit-known, does, effect-append, Did, went, newer, bad, full, did, act-did, record-whole, record-cut, all-read, bytes-left}
+use Rattle.sheet.proofs.Turns.{none-some, stop-next, next-inj, take-true, take-false, header?, headed-true, headed-false, listed, editOf, edit-known, does, effect-append, Did, went, lacked, spoilt, failed, did, act-did, record-whole, record-cut, all-read, bytes-left}
 
 module _ {A S : Type 0} (E : Edition A S) (sheet : List ℕ) where
   -- the first i records are sound and applied, and make s of s₀
-  abbrev Reaches : S → ℕ → S → Type 0
-  Reaches s₀ i s = (es : List A) × Sound E sheet i es × (effect E es s₀ ≡ some s)
+  abbrev pub Reaches : S → ℕ → S → Type 0
+  Reaches s₀ i s = (es : List (ℕ × A)) × Sound E sheet i es × (effect E es s₀ ≡ next s)
 
-  reaches-suc : (s₀ : S) (i : ℕ) (s t : S) → Reaches s₀ i s → Whole sheet i → Fine E sheet i → does E (editOf E (item E sheet i)) s ≡ some t → Reaches s₀ (suc i) t
+  reaches-suc : (s₀ : S) (i : ℕ) (s t : S) → Reaches s₀ i s → Whole sheet i → Fine E sheet i → does E (suc i) (editOf E (item E sheet i)) s ≡ next t → Reaches s₀ (suc i) t
   reaches-suc s₀ i s t (es, h, p) w g e = (
-    es ++ listed (editOf E (item E sheet i)),
+    es ++ listed (suc i) (editOf E (item E sheet i)),
     sound-more E sheet i es h w g,
-    effect-append E es (editOf E (item E sheet i)) s₀ ∙ ap (onward (does E (editOf E (item E sheet i)))) p ∙ e,
+    effect-append E es (suc i) (editOf E (item E sheet i)) s₀ ∙ ap (onward (does E (suc i) (editOf E (item E sheet i)))) p ∙ e,
   )
 
-  reaches-pred : (s₀ : S) (i : ℕ) (t : S) → Reaches s₀ (suc i) t → (s : S) × Reaches s₀ i s × Whole sheet i × Fine E sheet i × (does E (editOf E (item E sheet i)) s ≡ some t)
-  reaches-pred s₀ i t (es, h, p) = go (effect E before s₀) refl (sym (effect-append E before (editOf E (item E sheet i)) s₀) ∙ ap (λ (l : List A). effect E l s₀) (sym (less .is)) ∙ p)
+  reaches-pred : (s₀ : S) (i : ℕ) (t : S) → Reaches s₀ (suc i) t → (s : S) × Reaches s₀ i s × Whole sheet i × Fine E sheet i × (does E (suc i) (editOf E (item E sheet i)) s ≡ next t)
+  reaches-pred s₀ i t (es, h, p) = go (effect E before s₀) refl (sym (effect-append E before (suc i) (editOf E (item E sheet i)) s₀) ∙ ap (λ (l : List (ℕ × A)). effect E l s₀) (sym (less .is)) ∙ p)
     where
       less : Less E sheet i es
       less = sound-less E sheet i es h
 
-      before : List A
+      before : List (ℕ × A)
       before = less .before
 
-      go : (o : Option S) → effect E before s₀ ≡ o → onward (does E (editOf E (item E sheet i))) o ≡ some t
-          → (s : S) × Reaches s₀ i s × Whole sheet i × Fine E sheet i × (does E (editOf E (item E sheet i)) s ≡ some t)
-      go none p q = absurd (none-some q)
-      go (some s) p q = (s, (before, less .sound, p), less .whole, less .fine, q)
+      go : (o : Turn S) → effect E before s₀ ≡ o → onward (does E (suc i) (editOf E (item E sheet i))) o ≡ next t
+          → (s : S) × Reaches s₀ i s × Whole sheet i × Fine E sheet i × (does E (suc i) (editOf E (item E sheet i)) s ≡ next t)
+      go (stop x) p q = absurd (stop-next q)
+      go (next s) p q = (s, (before, less .sound, p), less .whole, less .fine, q)
 
-  reach-bound : (i : ℕ) (es : List A) → 4 ≤ length sheet → Sound E sheet i es → start sheet i ≤ length sheet
+  -- a record that has made its turn is sound and applied
+  pub reaches-next : (s₀ : S) (i : ℕ) (s t : S) → Reaches s₀ i s → Whole sheet i → act E (suc i) (item E sheet i) s ≡ next t → Reaches s₀ (suc i) t
+  reaches-next s₀ i s t h w q = go (act E (suc i) (item E sheet i) s) (did E (suc i) (item E sheet i) s) q
+    where
+      go : (o : Turn S) → Did E (suc i) s (item E sheet i) o → o ≡ next t → Reaches s₀ (suc i) t
+      go o (went u g d p) q = reaches-suc s₀ i s t h w g (d ∙ sym p ∙ q)
+      go o (lacked d p x) q = absurd (stop-next (sym x ∙ q))
+      go o (spoilt d m p y x) q = absurd (stop-next (sym x ∙ q))
+      go o (failed e p why y x) q = absurd (stop-next (sym x ∙ q))
+
+  reach-bound : (i : ℕ) (es : List (ℕ × A)) → 4 ≤ length sheet → Sound E sheet i es → start sheet i ≤ length sheet
   unfolding start
   reach-bound zero es l h = l
   reach-bound (suc i) es l h = sound-less E sheet i es h .whole
 
   -- one more record of whole frame
-  turned : (n i : ℕ) (s : S) → Whole sheet i → (o : Turn S) → Did E s (item E sheet i) o
+  turned : (n i : ℕ) (s : S) → Whole sheet i → (o : Turn S) → Did E (suc i) s (item E sheet i) o
       → records E sheet (suc n) i (start sheet i) s ≡ then E (records E sheet n (suc i) (start sheet (suc i))) (suc i) o
   unfolding start
   turned n i s w o d =
-      record-whole E sheet n i (start sheet i) s w ∙ ap (then E (records E sheet n (suc i) (start sheet (suc i))) (suc i)) (act-did E (item E sheet i) s o d)
+      record-whole E sheet n i (start sheet i) s w ∙ ap (then E (records E sheet n (suc i) (start sheet (suc i))) (suc i)) (act-did E (suc i) (item E sheet i) s o d)
 
   -- the first i records are read
   advance : (s₀ : S) (i n : ℕ) (s : S) → Reaches s₀ i s → records E sheet (i + n) 0 4 s₀ ≡ records E sheet n i (start sheet i) s
   unfolding start effect
-  advance s₀ zero n s (es, h, p) = ap (λ (m : ℕ). records E sheet m 0 4 s₀) (zero-add n) ∙ ap (records E sheet n 0 4) (some-inj (sym (ap (λ (l : List A). effect E l s₀) (nothing es h)) ∙ p))
+  advance s₀ zero n s (es, h, p) = ap (λ (m : ℕ). records E sheet m 0 4 s₀) (zero-add n) ∙ ap (records E sheet n 0 4) (next-inj (sym (ap (λ (l : List (ℕ × A)). effect E l s₀) (nothing es h)) ∙ p))
     where
-      nothing : (es : List A) → Sound E sheet 0 es → es ≡ []
+      nothing : (es : List (ℕ × A)) → Sound E sheet 0 es → es ≡ []
       nothing es begin = refl
   advance s₀ (suc i) n t h =
       let (s, r, w, g, q) = reaches-pred s₀ i t h in
       ap (λ (m : ℕ). records E sheet m 0 4 s₀) (suc-add i n ∙ sym (add-suc i n)) ∙ advance s₀ i (suc n) s r ∙ turned n i s w (next t) (went t g q refl)
 
-  module _ (old : Option S) (good : Header sheet) (s₀ : S) (fits : old ≡ some s₀) where
+  module _ (old : Turn S) (good : Header sheet) (s₀ : S) (fits : old ≡ next s₀) where
     abbrev reached : (i : ℕ) (s : S) → Reaches s₀ i s → Reached E sheet old i
     reached i s h = record { headed = good; from = s₀; fits = fits; edits = h .0; sound = h .1; state = s; applied = h .2 }
 
     at-end : (i : ℕ) (s : S) → i ≡ total sheet → Reaches s₀ i s → Dec (start sheet i < length sheet) → Means E sheet old (records E sheet 0 i (start sheet i) s)
     at-end i s c h (yes l) =
         subst (Means E sheet old) (sym (bytes-left E sheet i (start sheet i) s l))
-        (c, reached (total sheet) s (subst (λ (m : ℕ). Reaches s₀ m s) c h), subst (λ (m : ℕ). start sheet m < length sheet) c l)
+        (remain (reached (total sheet) s (subst (λ (m : ℕ). Reaches s₀ m s) c h)) (subst (λ (m : ℕ). start sheet m < length sheet) c l) refl c)
     at-end i s c h (no l) =
         let e : start sheet i ≡ length sheet = omega (arith, reach-bound i (h .0) (good .0) (h .1)) in
         subst (Means E sheet old) (sym (all-read E sheet i (start sheet i) s e))
@@ -88,20 +101,23 @@ module _ {A S : Type 0} (E : Edition A S) (sheet : List ℕ) where
         after : Turn S → Type 0
         after o = Means E sheet old (then E (records E sheet n (suc i) (start sheet (suc i))) (suc i) o)
 
-        on : Whole sheet i → ((t : S) → Reaches s₀ (suc i) t → Means E sheet old (records E sheet n (suc i) (start sheet (suc i)) t)) → (o : Turn S) → Did E s (item E sheet i) o → Means E sheet old (then E (records E sheet n (suc i) (start sheet (suc i))) (suc i) o)
+        on : Whole sheet i → ((t : S) → Reaches s₀ (suc i) t → Means E sheet old (records E sheet n (suc i) (start sheet (suc i)) t)) → (o : Turn S) → Did E (suc i) s (item E sheet i) o → Means E sheet old (then E (records E sheet n (suc i) (start sheet (suc i))) (suc i) o)
         on w k o (went t g d q) = subst after (sym q) (k t (reaches-suc s₀ i s t h w g d))
-        on w k o (newer d p q) = subst after (sym q) (here (Newer E sheet) (item E sheet i, stands sheet (start sheet i) w, d, p))
-        on w k o (bad d m p x q) = subst after (sym q) (here (Bad E sheet) (item E sheet i, stands sheet (start sheet i) w, d, m, p, (λ e a. none-some (sym (edit-known E (item E sheet i) s d m p ∙ x) ∙ asked E (item E sheet i) e a))))
-        on w k o (full e p x q) = subst after (sym q) (inr (here (Full E sheet) (item E sheet i, stands sheet (start sheet i) w, e, asks E (item E sheet i) e p, x)))
+        on w k o (lacked d p q) = subst after (sym q) (newer (here (Newer E sheet) (item E sheet i, stands sheet (start sheet i) w, d, p)) refl)
+        on w k o (spoilt d m p x q) =
+            subst after (sym q)
+            (bad (here (Bad E sheet) (item E sheet i, stands sheet (start sheet i) w, d, m, p, (λ e a. none-some (sym (edit-known E (item E sheet i) d m p ∙ x) ∙ asked E (item E sheet i) e a)))) refl)
+        on w k o (failed e p why x q) =
+            subst after (sym q) (fails why (here (Fails E sheet why) (item E sheet i, stands sheet (start sheet i) w, e, asks E (item E sheet i) e p, x)) refl)
 
         go : Dec (Whole sheet i) → ((t : S) → Reaches s₀ (suc i) t → Means E sheet old (records E sheet n (suc i) (start sheet (suc i)) t)) → Means E sheet old (records E sheet (suc n) i (start sheet i) s)
         go (yes w) k =
-            subst (Means E sheet old) (sym (turned n i s w (act E (item E sheet i) s) (did E (item E sheet i) s))) (on w k (act E (item E sheet i) s) (did E (item E sheet i) s))
-        go (no w) k = subst (Means E sheet old) (sym (record-cut E sheet n i (start sheet i) s w)) (here (λ s i. ¬ Whole sheet i) w)
+            subst (Means E sheet old) (sym (turned n i s w (act E (suc i) (item E sheet i) s) (did E (suc i) (item E sheet i) s))) (on w k (act E (suc i) (item E sheet i) s) (did E (suc i) (item E sheet i) s))
+        go (no w) k = subst (Means E sheet old) (sym (record-cut E sheet n i (start sheet i) s w)) (cut (here (λ s i. ¬ Whole sheet i) w) refl)
 
   -- ---- and back
 
-  module _ (old : Option S) where
+  module _ (old : Turn S) where
     arrive : (i n : ℕ) → i + n ≡ total sheet → (h : Reached E sheet old i) → records E sheet (total sheet) 0 4 (h .from) ≡ records E sheet n i (start sheet i) (h .state)
     arrive i n c h = ap (λ (m : ℕ). records E sheet m 0 4 (h .from)) (sym c) ∙ advance (h .from) i n (h .state) (h .edits, h .sound, h .applied)
 
@@ -109,7 +125,7 @@ module _ {A S : Type 0} (E : Edition A S) (sheet : List ℕ) where
     unfolding read
     read-copied i h = take-true _ _ (headed-true sheet (h .headed)) ∙ ap (copied E sheet) (h .fits)
 
-    stops : (P : S → ℕ → Type 0) (k : ℕ) (a : AtRecord E sheet old k P) (e : Refusal) → Whole sheet (a .index) → Did E (a .reached .state) (item E sheet (a .index)) (stop e) → read E sheet old ≡ refused e k
+    stops : (P : S → ℕ → Type 0) (k : ℕ) (a : AtRecord E sheet old k P) (e : Refusal) → Whole sheet (a .index) → Did E (suc (a .index)) (a .reached .state) (item E sheet (a .index)) (stop e) → read E sheet old ≡ refused e k
     stops P k a e w d =
         let n : ℕ = total sheet - suc (a .index) in
         let l = a .within in
@@ -117,8 +133,8 @@ module _ {A S : Type 0} (E : Edition A S) (sheet : List ℕ) where
         read-copied (a .index) (a .reached) ∙ arrive (a .index) (suc n) c (a .reached) ∙ turned n (a .index) (a .reached .state) w (stop e) d
         ∙ ap (refused e) (sym (a .numbered))
 
-    cut : (k : ℕ) → AtRecord E sheet old k (λ s i. ¬ Whole sheet i) → read E sheet old ≡ refused CutRecord k
-    cut k a =
+    cut-read : (k : ℕ) → AtRecord E sheet old k (λ s i. ¬ Whole sheet i) → read E sheet old ≡ refused CutRecord k
+    cut-read k a =
         let n : ℕ = total sheet - suc (a .index) in
         let l = a .within in
         let c : a .index + suc n ≡ total sheet = omega arith in
@@ -133,7 +149,7 @@ module _ {A S : Type 0} (E : Edition A S) (sheet : List ℕ) where
         let (r, h, d, p) = a .here in
         let q = stands-is sheet (start sheet (a .index)) r h in
         stops (Newer E sheet) k a NewerKind (stands-whole sheet (start sheet (a .index)) r h)
-        (newer (ap (λ (x : Item). x .duty) q ∙ d) (ap (λ (x : Item). E .size (x .kind)) q ∙ p) refl)
+        (lacked (ap (λ (x : Item). x .duty) q ∙ d) (ap (λ (x : Item). E .size (x .kind)) q ∙ p) refl)
 
     bad-read : (k : ℕ) → AtRecord E sheet old k (Bad E sheet) → read E sheet old ≡ refused BadPayload k
     bad-read k a =
@@ -143,51 +159,61 @@ module _ {A S : Type 0} (E : Edition A S) (sheet : List ℕ) where
         let p′ = ap (λ (x : Item). E .size (x .kind)) q ∙ p in
         let y : Item = item E sheet (a .index) in
         stops (Bad E sheet) k a BadPayload (stands-whole sheet (start sheet (a .index)) r h)
-        (bad d′ n p′ (not-some (edit E y n) (λ e z. x e (asks E r e (ap (editOf E) (sym q) ∙ edit-known E y (a .reached .state) d′ n p′ ∙ z)))) refl)
+        (spoilt d′ n p′ (not-some (edit E y n) (λ e z. x e (asks E r e (ap (editOf E) (sym q) ∙ edit-known E y d′ n p′ ∙ z)))) refl)
       where
         not-some : (o : Option A) → ((e : A) → o ≡ some e → ⊥) → o ≡ none
         not-some none h = refl
         not-some (some e) h = absurd (h e refl)
 
-    full-read : (k : ℕ) → AtRecord E sheet old k (Full E sheet) → read E sheet old ≡ refused NoSpace k
-    full-read k a =
+    fails-read : (k : ℕ) (why : Refusal) → AtRecord E sheet old k (Fails E sheet why) → read E sheet old ≡ refused why k
+    fails-read k why a =
         let (r, h, e, x, p) = a .here in
-        stops (Full E sheet) k a NoSpace (stands-whole sheet (start sheet (a .index)) r h)
-        (full e (ap (editOf E) (stands-is sheet (start sheet (a .index)) r h) ∙ asked E r e x) p refl)
+        stops (Fails E sheet why) k a why (stands-whole sheet (start sheet (a .index)) r h)
+        (failed e (ap (editOf E) (stands-is sheet (start sheet (a .index)) r h) ∙ asked E r e x) why p refl)
+
+    -- the refusal of a number
+    numbered : (d e : Refusal) (k : ℕ) → numberOf e ≡ numberOf d → read E sheet old ≡ refused d k → read E sheet old ≡ refused e k
+    numbered d e k q p = p ∙ ap (λ (x : Refusal). refused x k) (sym (each-number-once .once e d q))
 
     -- a reading gives the answer that the sheet means
-    backward : (a : Answer S) → Means E sheet old a → read E sheet old ≡ a
+    backward-refused : (e : Refusal) (k : ℕ) → Applies E sheet old (numberOf e) k → read E sheet old ≡ refused e k
     unfolding read
-    backward (refused NotSheet k) h = take-false _ _ (headed-false sheet (h .1)) ∙ ap (refused NotSheet) (sym (h .0))
-    backward (refused NoSpace k) (inl h) = take-true _ _ (headed-true sheet (h .1)) ∙ ap (copied E sheet) (h .2) ∙ ap (refused NoSpace) (sym (h .0))
-    backward (refused NoSpace k) (inr a) = full-read k a
-    backward (refused CutRecord k) a = cut k a
-    backward (refused NewerKind k) a = newer-read k a
-    backward (refused BadPayload k) a = bad-read k a
-    backward (refused BytesRemain k) h = finish (h .1) ∙ bytes-left E sheet (total sheet) (start sheet (total sheet)) (h .1 .state) (h .2) ∙ ap (refused BytesRemain) (sym (h .0))
+    backward-refused e k (not-sheet h q z) = numbered NotSheet e k q (take-false _ _ (headed-false sheet h) ∙ ap (refused NotSheet) (sym z))
+    backward-refused e k (unfit h why u q z) = numbered why e k q (take-true _ _ (headed-true sheet h) ∙ ap (copied E sheet) u ∙ ap (refused why) (sym z))
+    backward-refused e k (cut a q) = numbered CutRecord e k q (cut-read k a)
+    backward-refused e k (newer a q) = numbered NewerKind e k q (newer-read k a)
+    backward-refused e k (bad a q) = numbered BadPayload e k q (bad-read k a)
+    backward-refused e k (fails why a q) = numbered why e k q (fails-read k why a)
+    backward-refused e k (remain h l q z) =
+        numbered BytesRemain e k q (finish h ∙ bytes-left E sheet (total sheet) (start sheet (total sheet)) (h .state) l ∙ ap (refused BytesRemain) (sym z))
+
+    -- what applies is the number of a refusal
+    pub refusal-of : (x k : ℕ) → Applies E sheet old x k → (e : Refusal) × (numberOf e ≡ x)
+    refusal-of x k (not-sheet h q z) = (NotSheet, sym q)
+    refusal-of x k (unfit h why u q z) = (why, sym q)
+    refusal-of x k (cut a q) = (CutRecord, sym q)
+    refusal-of x k (newer a q) = (NewerKind, sym q)
+    refusal-of x k (bad a q) = (BadPayload, sym q)
+    refusal-of x k (fails why a q) = (why, sym q)
+    refusal-of x k (remain h l q z) = (BytesRemain, sym q)
+
+    backward : (a : Answer S) → Means E sheet old a → read E sheet old ≡ a
+    backward (refused e k) h = backward-refused e k h
     backward (done k s) h =
         finish (h .reached) ∙ all-read E sheet (total sheet) (start sheet (total sheet)) (h .reached .state) (h .ends)
         ∙ ap (done (total sheet)) (h .makes) ∙ ap (λ (m : ℕ). done m s) (sym (h .numbered))
-    backward (refused StoreTooLong k) h = absurd h
-    backward (refused CountOverStore k) h = absurd h
-    backward (refused WidthOver k) h = absurd h
-    backward (refused IndexOver k) h = absurd h
-    backward (refused PastLength k) h = absurd h
-    backward (refused NotList k) h = absurd h
-    backward (refused NotAscii k) h = absurd h
-    backward (refused NoEdition k) h = absurd h
 
     means : Means E sheet old (read E sheet old)
     unfolding read start effect
     means = go (header? sheet) old refl
       where
-        go : Dec (Header sheet) → (o : Option S) → old ≡ o → Means E sheet old (read E sheet old)
-        go (no h) o e = subst (Means E sheet old) (sym (take-false _ _ (headed-false sheet h))) (refl, h)
-        go (yes h) none e = subst (Means E sheet old) (sym (take-true _ _ (headed-true sheet h) ∙ ap (copied E sheet) e)) (inl (refl, h, e))
-        go (yes h) (some s₀) e =
+        go : Dec (Header sheet) → (o : Turn S) → old ≡ o → Means E sheet old (read E sheet old)
+        go (no h) o e = subst (Means E sheet old) (sym (take-false _ _ (headed-false sheet h))) (not-sheet h refl refl)
+        go (yes h) (stop why) e = subst (Means E sheet old) (sym (take-true _ _ (headed-true sheet h) ∙ ap (copied E sheet) e)) (unfit h why e refl refl)
+        go (yes h) (next s₀) e =
             subst (Means E sheet old) (sym (take-true _ _ (headed-true sheet h) ∙ ap (copied E sheet) e))
             (forward old h s₀ e (total sheet) 0 s₀ (zero-add (total sheet)) ([], begin, refl))
 
     -- the reader's answer is the one that the sheet means, and no other
-    pub exact : (a : Answer S) → (read E sheet old ≡ a) ↔ Means E sheet old a
+    pub exact : ReadExact E sheet old
     exact a = ((λ e. subst (Means E sheet old) e means), backward a)

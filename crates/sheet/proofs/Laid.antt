@@ -12,14 +12,14 @@ use lib.Dec.{leb}
 use borrow.Author.Tests.{le-leb, lt-leb, le-ltb, eq-eqb}
 use Rattle.sheet.specs.Bytes.{bytes}
 use Rattle.sheet.specs.Kinds.{sizeIn, kindOf, payloadOf, Ranged}
-use Rattle.sheet.specs.Reader.{Item, done, countIn, sizeAt, endAt, itemAt, edited, known, act, stepped, then, records, read}
+use Rattle.sheet.specs.Reader.{Turn, stop, next, Item, done, countIn, sizeAt, endAt, itemAt, edited, known, act, then, records, read}
 use Rattle.sheet.specs.Meaning.{Header, onward, effect}
 use Rattle.sheet.specs.Reads.{editionOf, latest}
 use Rattle.sheet.specs.Writer.{Entry, edit, note, laid, bytesOf, framesFault, sheetFault}
-use Rattle.sheet.specs.Plain.{body, sheetOf, editsIn}
+use Rattle.sheet.specs.Plain.{body, sheetOf, editsAfter, editsIn}
 use Rattle.sheet.specs.declared.Edit.{Edit}
 use Rattle.storage.specs.Stores.{Bits}
-use Rattle.sheet.proofs.Turns.{none-some, some-inj, take-true, take-false, headed-true, act-remark, record-whole, all-read}
+use Rattle.sheet.proofs.Turns.{stop-next, next-inj, take-true, take-false, headed-true, act-remark, record-whole, all-read}
 use Rattle.sheet.proofs.Payloads.{read-back, kind-small, payload-short, size-latest}
 
 -- a record that fits its frame
@@ -127,54 +127,54 @@ in-latest (edit e ∷ es) = (size-latest e, in-latest es)
 in-latest (note k p ∷ es) = in-latest es
 
 module _ (c n : ℕ) where
-  act-edit : (e : Edit) (s : Bits) → Ranged e → sizeIn n (kindOf e) ≡ some (length (payloadOf e))
-      → act (editionOf c n) (itemOf (edit e)) s ≡ stepped (editionOf c n) (editionOf c n .step e s)
+  act-edit : (k : ℕ) (e : Edit) (s : Bits) → Ranged e → sizeIn n (kindOf e) ≡ some (length (payloadOf e))
+      → act (editionOf c n) k (itemOf (edit e)) s ≡ editionOf c n .step k e s
   unfolding act editionOf
-  act-edit e s h g =
-      ap (λ (o : Option ℕ). known (editionOf c n) (itemOf (edit e)) o s) g
-      ∙ ap (λ (o : Option Edit). edited (editionOf c n) o s)
+  act-edit k e s h g =
+      ap (λ (o : Option ℕ). known (editionOf c n) k (itemOf (edit e)) o s) g
+      ∙ ap (λ (o : Option Edit). edited (editionOf c n) k o s)
       (take-true _ _ (eq-eqb (length (payloadOf e)) (length (payloadOf e)) refl) ∙ read-back e h)
 
   -- the record in its place takes its turn, and the others follow
   record-of : (pre : List ℕ) (x : Entry) (es : List Entry) (m i : ℕ) (s : Bits) → Proper x
       → records (editionOf c n) (pre ++ (bytesOf x ++ body es)) (suc m) i (length pre) s
-      ≡ then (editionOf c n) (records (editionOf c n) ((pre ++ bytesOf x) ++ body es) m (suc i) (length (pre ++ bytesOf x))) (suc i) (act (editionOf c n) (itemOf x) s)
+      ≡ then (editionOf c n) (records (editionOf c n) ((pre ++ bytesOf x) ++ body es) m (suc i) (length (pre ++ bytesOf x))) (suc i) (act (editionOf c n) (suc i) (itemOf x) s)
   record-of pre x es m i s h =
       record-whole (editionOf c n) (pre ++ (bytesOf x ++ body es)) m i (length pre) s (whole-of pre (body es) x h)
-      ∙ ap₂ (λ (l : List ℕ) (at : ℕ). then (editionOf c n) (records (editionOf c n) l m (suc i) at) (suc i) (act (editionOf c n) (itemAt (pre ++ (bytesOf x ++ body es)) (length pre)) s))
+      ∙ ap₂ (λ (l : List ℕ) (at : ℕ). then (editionOf c n) (records (editionOf c n) l m (suc i) at) (suc i) (act (editionOf c n) (suc i) (itemAt (pre ++ (bytesOf x ++ body es)) (length pre)) s))
       (sym (append-assoc pre (bytesOf x) (body es))) (end-of pre (body es) x h)
-      ∙ ap (λ (r : Item). then (editionOf c n) (records (editionOf c n) ((pre ++ bytesOf x) ++ body es) m (suc i) (length (pre ++ bytesOf x))) (suc i) (act (editionOf c n) r s))
+      ∙ ap (λ (r : Item). then (editionOf c n) (records (editionOf c n) ((pre ++ bytesOf x) ++ body es) m (suc i) (length (pre ++ bytesOf x))) (suc i) (act (editionOf c n) (suc i) r s))
       (item-of pre (body es) x h)
 
-  records-body : (pre : List ℕ) (es : List Entry) (i : ℕ) (s t : Bits) → AllProper es → InEdition n es → effect (editionOf c n) (editsIn es) s ≡ some t
+  records-body : (pre : List ℕ) (es : List Entry) (i : ℕ) (s t : Bits) → AllProper es → InEdition n es → effect (editionOf c n) (editsAfter i es) s ≡ next t
       → records (editionOf c n) (pre ++ body es) (length es) i (length pre) s ≡ done (i + length es) t
-  unfolding body editsIn effect
+  unfolding body editsAfter effect
   records-body pre [] i s t h g e =
       all-read (editionOf c n) (pre ++ []) i (length pre) s (omega (arith, length-append pre []))
-      ∙ ap₂ (λ (k : ℕ) (x : Bits). done k x) (sym (add-zero i)) (some-inj e)
+      ∙ ap₂ (λ (k : ℕ) (x : Bits). done k x) (sym (add-zero i)) (next-inj e)
   records-body pre (edit x ∷ es) i s t h g e =
       record-of pre (edit x) es (length es) i s (h .0)
-      ∙ ap (then (editionOf c n) (records (editionOf c n) (next ++ body es) (length es) (suc i) (length next)) (suc i)) (act-edit x s (h .0) (g .0))
-      ∙ go (λ s′ q. records-body next es (suc i) s′ t (h .1) (g .1) q) (editionOf c n .step x s) e
+      ∙ ap (then (editionOf c n) (records (editionOf c n) (after ++ body es) (length es) (suc i) (length after)) (suc i)) (act-edit (suc i) x s (h .0) (g .0))
+      ∙ go (λ s′ q. records-body after es (suc i) s′ t (h .1) (g .1) q) (editionOf c n .step (suc i) x s) e
     where
-      next : List ℕ
-      next = pre ++ bytesOf (edit x)
+      after : List ℕ
+      after = pre ++ bytesOf (edit x)
 
-      go : ((s′ : Bits) → effect (editionOf c n) (editsIn es) s′ ≡ some t → records (editionOf c n) (next ++ body es) (length es) (suc i) (length next) s′ ≡ done (suc i + length es) t)
-          → (o : Option Bits) → onward (effect (editionOf c n) (editsIn es)) o ≡ some t
-          → then (editionOf c n) (records (editionOf c n) (next ++ body es) (length es) (suc i) (length next)) (suc i) (stepped (editionOf c n) o) ≡ done (i + suc (length es)) t
-      go ih none q = absurd (none-some q)
-      go ih (some s′) q = ih s′ q ∙ ap (λ (m : ℕ). done m t) (suc-add i (length es) ∙ sym (add-suc i (length es)))
+      go : ((s′ : Bits) → effect (editionOf c n) (editsAfter (suc i) es) s′ ≡ next t → records (editionOf c n) (after ++ body es) (length es) (suc i) (length after) s′ ≡ done (suc i + length es) t)
+          → (o : Turn Bits) → onward (effect (editionOf c n) (editsAfter (suc i) es)) o ≡ next t
+          → then (editionOf c n) (records (editionOf c n) (after ++ body es) (length es) (suc i) (length after)) (suc i) o ≡ done (i + suc (length es)) t
+      go ih (stop x) q = absurd (stop-next q)
+      go ih (next s′) q = ih s′ q ∙ ap (λ (m : ℕ). done m t) (suc-add i (length es) ∙ sym (add-suc i (length es)))
   records-body pre (note k p ∷ es) i s t h g e =
       record-of pre (note k p) es (length es) i s (h .0)
       ∙ ap (then (editionOf c n) (records (editionOf c n) ((pre ++ bytesOf (note k p)) ++ body es) (length es) (suc i) (length (pre ++ bytesOf (note k p)))) (suc i))
-      (act-remark (editionOf c n) (itemOf (note k p)) s refl)
+      (act-remark (editionOf c n) (suc i) (itemOf (note k p)) s refl)
       ∙ records-body (pre ++ bytesOf (note k p)) es (suc i) s t (h .1) g e
       ∙ ap (λ (m : ℕ). done m t) (suc-add i (length es) ∙ sym (add-suc i (length es)))
 
   -- the plain sheet's bytes are accepted with the effect of its edits in order
-  pub read-sheet : (es : List Entry) (s t : Bits) → length es ≤ 65_535 → AllProper es → InEdition n es → effect (editionOf c n) (editsIn es) s ≡ some t
-      → read (editionOf c n) (sheetOf es) (some s) ≡ done (length es) t
+  pub read-sheet : (es : List Entry) (s t : Bits) → length es ≤ 65_535 → AllProper es → InEdition n es → effect (editionOf c n) (editsIn es) s ≡ next t
+      → read (editionOf c n) (sheetOf es) (next s) ≡ done (length es) t
   unfolding read
   read-sheet es s t l h g e =
       take-true _ _ (headed-true (sheetOf es) (sheet-headed es))

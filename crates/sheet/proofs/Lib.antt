@@ -5,6 +5,7 @@ pub mod Stands
 pub mod Exact
 pub mod Editions
 pub mod Steps
+pub mod Effects
 pub mod Readings
 pub mod Rules
 pub mod Layouts

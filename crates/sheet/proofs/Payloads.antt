@@ -45,22 +45,24 @@ parsed-good r vs t h =
     parsed-as r (numberIn r vs) vs 0 (range-sized (r .fields) vs t h) (pow-pos (r .spare)) (sym (add-zero (numberIn r vs)))
     ∙ take-true _ _ (in-range (r .fields) vs h)
 
--- and a number that asks for an edit is that of its values, in their ranges
-pub parsed-back : (r : Row) (x : ℕ) (e : Edit) → x < 2 ^ (widths (r .fields) + r .spare) → parse r x ≡ some e
-    → (r .make (valuesIn r x) ≡ e) × InRange (r .fields) (valuesIn r x) × (numberIn r (valuesIn r x) ≡ x)
-unfolding parse numberIn
-parsed-back r x e l q = go (eqb (x % 2 ^ r .spare) 0 && inRange (r .fields) (valuesIn r x)) refl q
+-- a number that asks for an edit asks for that of its values, which are in their ranges, and has no unused bit set
+pub parsed-values : (r : Row) (x : ℕ) (e : Edit) → parse r x ≡ some e → (r .make (valuesIn r x) ≡ e) × InRange (r .fields) (valuesIn r x) × (x % 2 ^ r .spare ≡ 0)
+unfolding parse
+parsed-values r x e q = go (eqb (x % 2 ^ r .spare) 0 && inRange (r .fields) (valuesIn r x)) refl q
   where
     go : (t : Bool) → eqb (x % 2 ^ r .spare) 0 && inRange (r .fields) (valuesIn r x) ≡ t → choose t (some (r .make (valuesIn r x))) none ≡ some e
-        → (r .make (valuesIn r x) ≡ e) × InRange (r .fields) (valuesIn r x) × (numberIn r (valuesIn r x) ≡ x)
+        → (r .make (valuesIn r x) ≡ e) × InRange (r .fields) (valuesIn r x) × (x % 2 ^ r .spare ≡ 0)
     go false p z = absurd (none-some z)
     go true p z =
         let (a, b) = and-true (eqb (x % 2 ^ r .spare) 0) (inRange (r .fields) (valuesIn r x)) p in
-        let back : x / 2 ^ r .spare % 2 ^ widths (r .fields) * 2 ^ r .spare + x % 2 ^ r .spare ≡ x = recompose (widths (r .fields)) (r .spare) l in (
-          some-inj z,
-          range-in (r .fields) (valuesIn r x) b,
-          ap (λ (y : ℕ). y * 2 ^ r .spare) (packed-unpacked (r .fields) (x / 2 ^ r .spare)) ∙ omega (arith, eqb-true (x % 2 ^ r .spare) 0 a),
-        )
+        (some-inj z, range-in (r .fields) (valuesIn r x) b, eqb-true (x % 2 ^ r .spare) 0 a)
+
+-- and it is the number of these values
+parsed-number : (r : Row) (x : ℕ) → x < 2 ^ (widths (r .fields) + r .spare) → x % 2 ^ r .spare ≡ 0 → numberIn r (valuesIn r x) ≡ x
+unfolding valuesIn numberIn
+parsed-number r x l z =
+    let back : x / 2 ^ r .spare % 2 ^ widths (r .fields) * 2 ^ r .spare + x % 2 ^ r .spare ≡ x = recompose (widths (r .fields)) (r .spare) l in
+    ap (λ (y : ℕ). y * 2 ^ r .spare) (packed-unpacked (r .fields) (x / 2 ^ r .spare)) ∙ omega arith
 
 -- ---- the rows: what is computed of each
 
@@ -238,28 +240,42 @@ module _ (e : Edit) where
         ap₂ parseBy (row-for e .at) (number-mod (bytesBy (rowOf (kindOf e))) (numbered e) ∙ ap₂ (λ (x n : ℕ). x % 256 ^ n) numbered-is bytes-is ∙ mod-eq-of-lt small)
         ∙ parsed-good r (fieldsOf e) (fits good) ranged ∙ ap some (row-for e .makes)
 
-module _ (k : ℕ) (r : Row) (at : rowOf k ≡ some r) (p : List ℕ) (l : length p ≡ bytesIn r) (h : AllBytes p) where
-  good-k : GoodRow k r
-  good-k = good-row k r at
+-- what a payload asks for is an edit of its kind, of its values, in their ranges
+pub record Asked (k : ℕ) (r : Row) (x : ℕ) (e : Edit) : Type 0 where
+  pub kind-is : kindOf e ≡ k
+  pub values : fieldsOf e ≡ valuesIn r x
+  pub row-is : rowOf (kindOf e) ≡ some r
+  pub ranged : Ranged e
 
+pub asked-of : (k : ℕ) (r : Row) → rowOf k ≡ some r → (x : ℕ) (e : Edit) → parse r x ≡ some e → Asked k r x e
+unfolding Ranged
+asked-of k r at x e q =
+    let (m, i, z) = parsed-values r x e q in
+    let kind : kindOf e ≡ k = ap kindOf (sym m) ∙ good-row k r at .kind (valuesIn r x) in
+    let values : fieldsOf e ≡ valuesIn r x = ap fieldsOf (sym m) ∙ good-row k r at .kept (valuesIn r x) i in
+    let row : rowOf (kindOf e) ≡ some r = ap rowOf kind ∙ at in
+    record {
+      kind-is = kind;
+      values = values;
+      row-is = row;
+      ranged = subst (λ (o : Option Row). InRange (fieldsBy o) (fieldsOf e)) (sym row) (subst (InRange (r .fields)) (sym values) i);
+    }
+
+module _ (k : ℕ) (r : Row) (at : rowOf k ≡ some r) (p : List ℕ) (l : length p ≡ bytesIn r) (h : AllBytes p) where
   number-small : number p < 2 ^ (widths (r .fields) + r .spare)
   number-small =
-      subst (λ (n : ℕ). number p < n) (byte-bits (length p) ∙ ap (λ (n : ℕ). 2 ^ (8 * n)) l ∙ ap (λ (n : ℕ). 2 ^ n) (sym (octets good-k))) (number-fits p h)
+      subst (λ (n : ℕ). number p < n) (byte-bits (length p) ∙ ap (λ (n : ℕ). 2 ^ (8 * n)) l ∙ ap (λ (n : ℕ). 2 ^ n) (sym (octets (good-row k r at)))) (number-fits p h)
 
   -- a good payload is the layout of its edit
   laid-again : (e : Edit) → parse r (number p) ≡ some e → Lays k p e
-  unfolding payloadOf Ranged numbered
+  unfolding payloadOf numbered
   laid-again e q =
-      let vs : List ℕ = valuesIn r (number p) in
-      let (m, i, n) = parsed-back r (number p) e number-small q in
-      let kind : kindOf e ≡ k = ap kindOf (sym m) ∙ good-k .kind vs in
-      let values : fieldsOf e ≡ vs = ap fieldsOf (sym m) ∙ good-k .kept vs i in
-      let row : rowOf (kindOf e) ≡ some r = ap rowOf kind ∙ at in
+      let a : Asked k r (number p) e = asked-of k r at (number p) e q in
+      let n : numberIn r (valuesIn r (number p)) ≡ number p = parsed-number r (number p) number-small (parsed-values r (number p) e q .2) in
       record {
-        kind-is = kind;
-        ranged = subst (λ (o : Option Row). InRange (fieldsBy o) (fieldsOf e)) (sym row) (subst (InRange (r .fields)) (sym values) i);
-        bytes-are =
-            ap₂ bytes (ap bytesBy row ∙ sym l) (ap₂ numberBy row values ∙ n) ∙ bytes-number p h;
+        kind-is = a .kind-is;
+        ranged = a .ranged;
+        bytes-are = ap₂ bytes (ap bytesBy (a .row-is) ∙ sym l) (ap₂ numberBy (a .row-is) (a .values) ∙ n) ∙ bytes-number p h;
       }
 
 -- ---- (c) of 12
@@ -281,6 +297,13 @@ held n k m s = go (rowOf k) refl s
         on : (t : Bool) → choose t (some (bytesIn r)) none ≡ some m → Held n k m
         on true s = record { row = r; at = q; long = sym (some-inj s) }
         on false s = absurd (none-some s)
+
+-- whatever the bytes, an edit that is asked for has its fields in their ranges
+pub asks-ranged : (n c : ℕ) (r : Item) (e : Edit) → Asks (editionOf c n) r e → Ranged e
+unfolding editionOf ruleOf
+asks-ranged n c r e a =
+    let its : Held n (r .kind) (length (r .payload)) = held n (r .kind) (length (r .payload)) (a .sized) in
+    asked-of (r .kind) (its .row) (its .at) (number (r .payload)) e (ap (λ (o : Option Row). parseBy o (number (r .payload))) (sym (its .at)) ∙ a .ruled) .ranged
 
 pub asks-lays : (n c m : ℕ) (r : Item) (e : Edit) → r .duty ≡ true → sizeIn n (r .kind) ≡ some m → AllBytes (r .payload)
     → Asks (editionOf c n) r e ↔ Lays (r .kind) (r .payload) e

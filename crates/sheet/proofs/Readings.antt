@@ -1,12 +1,12 @@
 -- Demand 3 of readings into stores: the promises of specs/Promises about `Reads`. Assumes nothing.
-use Prim.Native.Nat.{ℕ, _≤_, _<_}
+use Prim.Native.Nat.{ℕ, suc, _≤_, _<_}
 use mathlib.Core.Path.{_≡_, refl, sym, ap, _∙_, subst}
 use mathlib.Core.Bool.{true, false}
 use mathlib.Core.List.{List}
 use mathlib.Core.Logic.{_↔_, _⊎_, inl, inr}
 use mathlib.Core.Option.{Option, none, some}
 use native.Mathlib.Omega.{arith}
-use native.Mathlib.Decide.{decLe}
+use native.Mathlib.Decide.{decLe, ℕ-discrete}
 use lib.ListN.{length, getD}
 use lib.Seq.{ext-getD}
 use lib.Dec.{ltb}
@@ -15,68 +15,71 @@ use Rattle.word.specs.Sets.{choose}
 use Rattle.word.specs.Bits.{member, wordOf, tabFrom}
 use Rattle.word.proofs.Cases.{by-lt}
 use Rattle.word.proofs.Lists.{past, length-tab, tab-at, tab-is}
+use Rattle.storage.specs.Refusals.{numberOf}
 use Rattle.storage.specs.Stores.{Bits, limit, view, wordAt, written, zeroed}
-use Rattle.storage.specs.declared.Bitmap.{Bitmap}
 use Rattle.storage.specs.declared.Refusal.{Refusal}
-use Rattle.storage.specs.declared.Refusal.the-variants.{StoreTooLong, CountOverStore, NewerKind, NoEdition}
+use Rattle.storage.specs.declared.Refusal.the-variants.{StoreTooLong, CountOverStore, NoSpace, NoEdition}
 use Rattle.storage.proofs.Checks.{checked-ok, checked-long, checked-over}
 use Rattle.storage.proofs.Stores.{length-zeroed, zeroed-in}
 use Rattle.storage.proofs.Views.{bounded-view, view-count}
-use Rattle.storage.proofs.Promises.{space-rules}
+use Rattle.storage.proofs.Promises.{each-number-once, space-rules}
 use Rattle.sheet.specs.Kinds.{Row, rowOf, sizeBy, sizeIn}
-use Rattle.sheet.specs.Reader.{Answer, refused, done, read}
-use Rattle.sheet.specs.Meaning.{Accepted, Holds}
-use Rattle.sheet.specs.Reads.{editionOf, latest, isEdition, fitting, Course, stopped, went, course, readAnswer, readStore, Reads}
-use Rattle.sheet.specs.Promises.{IsEdition, Passes, Stops, no-edition, long, over, result-long, Gets, NamesNewer, Made, ReadingMeans, KeepsMeaning}
+use Rattle.sheet.specs.Reader.{Turn, stop, next, Answer, refused, done, answerNumber, answerRecord, read}
+use Rattle.sheet.specs.Meaning.{AtRecord, Newer, Fails, Applies, not-sheet, unfit, cut, newer, bad, fails, remain, Accepted, Means as SheetMeans, Holds}
+use Rattle.sheet.specs.Paper.{IsEdition}
+use Rattle.sheet.specs.Reads.{editionOf, latest, isEdition, fitting, Course, stopped, went, course, readAnswer, readStore, Reads, readingNumber, readingRecord, readingCount}
+use Rattle.sheet.specs.Promises.{Passes, Stops, no-edition, long, over, result-long, Gets, stops, applies, accepted, NamesNewer, Made, ReadingMeans, Alike, KeepsMeaning}
 use Rattle.sheet.specs.declared.Reading.{Reading}
-use Rattle.sheet.specs.declared.Reading.the-variants.{Done, Refused}
-use Rattle.sheet.proofs.Turns.{none-some, some-inj, take-true, take-false}
-use Rattle.sheet.proofs.Exact.{exact}
-use Rattle.sheet.proofs.Editions.{same-or-newer}
-use Rattle.sheet.proofs.Steps.{Kept, effect-kept}
+use Rattle.sheet.proofs.Turns.{none-some, stop-next, stop-inj, next-inj, take-true, take-false}
+use Rattle.sheet.proofs.Exact.{refusal-of, exact}
+use Rattle.sheet.proofs.Editions.{any-two}
+use Rattle.sheet.proofs.Payloads.{asks-ranged}
+use Rattle.sheet.proofs.Effects.{Kept, effect-kept, step-stops}
 
 -- ---- 14, 1 and 2
 
 edition-true : (n : ℕ) → IsEdition n → isEdition n ≡ true
-edition-true n h = rw (le-leb 1 n (h .0), le-leb n latest (h .1)) refl
+edition-true n (inl e) = ap isEdition e
+edition-true n (inr e) = ap isEdition e
 
 edition-false : (n : ℕ) → ¬ IsEdition n → isEdition n ≡ false
 edition-false n h = go (decLe 1 n) (decLe n latest)
   where
     go : Dec (1 ≤ n) → Dec (n ≤ latest) → isEdition n ≡ false
-    go (yes a) (yes b) = absurd (h (a, b))
+    go (yes a) (yes b) = absurd (h (by-lt n latest (λ l. inl (omega arith)) (λ l. inr (omega arith))))
     go (yes a) (no b) = rw (le-leb 1 n a, lt-leb n latest (omega arith)) refl
     go (no a) b = rw (lt-leb 1 n (omega arith)) refl
 
 edition? : (n : ℕ) → Dec (IsEdition n)
-edition? n = go (decLe 1 n) (decLe n latest)
+edition? n = go (ℕ-discrete n 1) (ℕ-discrete n 2)
   where
-    go : Dec (1 ≤ n) → Dec (n ≤ latest) → Dec (IsEdition n)
-    go (yes a) (yes b) = yes (a, b)
-    go (yes a) (no b) = no (λ h. b (h .1))
-    go (no a) b = no (λ h. a (h .0))
+    go : Dec (n ≡ 1) → Dec (n ≡ 2) → Dec (IsEdition n)
+    go (yes a) b = yes (inl a)
+    go (no a) (yes b) = yes (inr b)
+    go (no a) (no b) = no (λ h. elim h [ inl e ↦ a e | inr e ↦ b e ])
 
 module _ (n : ℕ) (ws : List ℕ) (m c : ℕ) where
   -- one of them stops the reading, or it passes
-  which-way : ((e : Refusal) × Stops n ws m c e) ⊎ Passes n ws m c
+  which-way : ((x : ℕ) × Stops n ws m c x) ⊎ Passes n ws m c
   which-way = go (edition? n)
     where
-      go : Dec (IsEdition n) → ((e : Refusal) × Stops n ws m c e) ⊎ Passes n ws m c
-      go (no h) = inl (NoEdition, no-edition h refl)
+      go : Dec (IsEdition n) → ((x : ℕ) × Stops n ws m c x) ⊎ Passes n ws m c
+      go (no h) = inl (14, no-edition h refl)
       go (yes h) =
           by-lt limit (length ws)
-          (λ l. inl (StoreTooLong, long h l refl))
+          (λ l. inl (1, long h l refl))
           (λ l. by-lt (length ws) m
-          (λ k. inl (CountOverStore, over h l k refl))
+          (λ k. inl (2, over h l k refl))
           (λ k. by-lt limit c
-          (λ q. inl (StoreTooLong, result-long h l k q refl))
+          (λ q. inl (1, result-long h l k q refl))
           (λ q. inr (record { edition = h; short = l; inside = k; result = q }))))
 
-  stop-not-pass : (e : Refusal) → Stops n ws m c e → Passes n ws m c → ⊥
-  stop-not-pass e (no-edition h q) p = h (p .edition)
-  stop-not-pass e (long h l q) p = let s = p .short in omega arith
-  stop-not-pass e (over h l k q) p = let s = p .inside in omega arith
-  stop-not-pass e (result-long h l k t q) p = let s = p .result in omega arith
+  -- none of them is done or a newer kind
+  stops-number : (x : ℕ) → Stops n ws m c x → (0 < x) × (x ≡ 13 → ⊥)
+  stops-number x (no-edition h q) = (omega arith, λ z. omega arith)
+  stops-number x (long h l q) = (omega arith, λ z. omega arith)
+  stops-number x (over h l k q) = (omega arith, λ z. omega arith)
+  stops-number x (result-long h l k t q) = (omega arith, λ z. omega arith)
 
   module _ (sheet : List ℕ) where
     abbrev reading : Answer Bits
@@ -88,42 +91,54 @@ module _ (n : ℕ) (ws : List ℕ) (m c : ℕ) where
         take-true _ _ (edition-true n (p .edition)) ∙ checked-ok (length ws) m stopped _ (p .short) (p .inside)
         ∙ checked-ok c 0 stopped (went reading) (p .result) (omega arith)
 
-    pub course-stops : (e : Refusal) → Stops n ws m c e → course n sheet ws m c ≡ stopped e
+    -- stopped, by that number
+    pub record Halts (x : ℕ) : Type 0 where
+      pub why : Refusal
+      pub is : course n sheet ws m c ≡ stopped why
+      pub number : numberOf why ≡ x
+
+    course-stops : (x : ℕ) → Stops n ws m c x → Halts x
     unfolding course
-    course-stops e (no-edition h q) = take-false _ _ (edition-false n h) ∙ ap stopped (sym q)
-    course-stops e (long h l q) = take-true _ _ (edition-true n h) ∙ checked-long (length ws) m stopped _ l ∙ ap stopped (sym q)
-    course-stops e (over h l k q) = take-true _ _ (edition-true n h) ∙ checked-over (length ws) m stopped _ l k ∙ ap stopped (sym q)
-    course-stops e (result-long h l k t q) =
-        take-true _ _ (edition-true n h) ∙ checked-ok (length ws) m stopped _ l k ∙ checked-long c 0 stopped (went reading) t ∙ ap stopped (sym q)
+    course-stops x (no-edition h q) = record { why = NoEdition; is = take-false _ _ (edition-false n h); number = sym q }
+    course-stops x (long h l q) =
+        record { why = StoreTooLong; is = take-true _ _ (edition-true n h) ∙ checked-long (length ws) m stopped _ l; number = sym q }
+    course-stops x (over h l k q) =
+        record { why = CountOverStore; is = take-true _ _ (edition-true n h) ∙ checked-over (length ws) m stopped _ l k; number = sym q }
+    course-stops x (result-long h l k t q) = record {
+      why = StoreTooLong;
+      is = take-true _ _ (edition-true n h) ∙ checked-ok (length ws) m stopped _ l k ∙ checked-long c 0 stopped (went reading) t;
+      number = sym q;
+    }
 
 -- ---- what is answered and left
 
-not-both : {e : Refusal} {j k : ℕ} {b : Bitmap} → Refused e j ≡ Done k b → ⊥
-not-both q = let z : _≡_ {A = ℕ} 0 1 = cc in omega arith
+-- number, record and word count of what a reading came to
+abbrev Says : Reading → ℕ → ℕ → ℕ → Type 0
+Says r x k t = (readingNumber r ≡ x) × (readingRecord r ≡ k) × (readingCount r ≡ t)
 
-from-refused : (a : Answer Bits) (e : Refusal) (k : ℕ) → readAnswer (went a) ≡ Refused e k → a ≡ refused e k
-from-refused (refused d j) e k q = cc
-from-refused (done j s) e k q = absurd (not-both (sym q))
+number-of : (a : Answer Bits) → readingNumber (readAnswer (went a)) ≡ answerNumber a
+number-of (refused e k) = refl
+number-of (done k s) = refl
 
-from-done : (a : Answer Bits) (k : ℕ) (b : Bitmap) → readAnswer (went a) ≡ Done k b → (s : Bits) × (a ≡ done k s) × (b .count ≡ s .count)
-from-done (refused d j) k b q = absurd (not-both q)
-from-done (done j s) k b q = let f : j ≡ k = cc in (s, ap (λ (i : ℕ). done i s) f, ap (λ (x : Bitmap). x .count) (let g : b ≡ record { count = s .count } = cc in g))
+record-of : (a : Answer Bits) → readingRecord (readAnswer (went a)) ≡ answerRecord a
+record-of (refused e k) = refl
+record-of (done k s) = refl
 
--- the old bitmap, where its count is within the store, and nothing where it is not
-pub fits-old : (ws : List ℕ) (m c : ℕ) → m ≤ c → fitting c (view ws m) ≡ some (view ws m)
+positive : (e : Refusal) → numberOf e ≡ 0 → ⊥
+positive e q = omega (arith, each-number-once .range e .0)
+
+-- the old bitmap where its count is within the store, and 6 where it is not
+pub fits-old : (ws : List ℕ) (m c : ℕ) → m ≤ c → fitting c (view ws m) ≡ next (view ws m)
 fits-old ws m c l = take-true _ _ (le-leb (view ws m .count) c (subst (λ (x : ℕ). x ≤ c) (sym (view-count ws m)) l))
 
-fits-not : (ws : List ℕ) (m c : ℕ) → c < m → fitting c (view ws m) ≡ none
+fits-not : (ws : List ℕ) (m c : ℕ) → c < m → fitting c (view ws m) ≡ stop NoSpace
 fits-not ws m c l = take-false _ _ (lt-leb (view ws m .count) c (subst (λ (x : ℕ). c < x) (sym (view-count ws m)) l))
 
-fits-exact : (ws : List ℕ) (m c : ℕ) → (fitting c (view ws m) ≡ none) ↔ (c < m)
-fits-exact ws m c = ((λ q. by-lt c m (λ l. l) (λ l. absurd (none-some (sym q ∙ fits-old ws m c l)))), fits-not ws m c)
-
-kept-start : (ws : List ℕ) (m c : ℕ) (s : Bits) → fitting c (view ws m) ≡ some s → Kept c s
+kept-start : (ws : List ℕ) (m c : ℕ) (s : Bits) → fitting c (view ws m) ≡ next s → Kept c s
 kept-start ws m c s q =
     by-lt c m
-    (λ l. absurd (none-some (sym (fits-not ws m c l) ∙ q)))
-    (λ l. subst (Kept c) (some-inj (sym (fits-old ws m c l) ∙ q))
+    (λ l. absurd (stop-next (sym (fits-not ws m c l) ∙ q)))
+    (λ l. subst (Kept c) (next-inj (sym (fits-old ws m c l) ∙ q))
     (record { bounded = bounded-view ws m; space = subst (λ (x : ℕ). x ≤ c) (sym (view-count ws m)) l }))
 
 module _ (n : ℕ) (sheet ws : List ℕ) (m : ℕ) (res : List ℕ) (r : Reading) (res' : List ℕ) (h : Reads n sheet ws m res r res') where
@@ -136,84 +151,141 @@ module _ (n : ℕ) (sheet ws : List ℕ) (m : ℕ) (res : List ℕ) (r : Reading
   passed : Passes n ws m c → r ≡ readAnswer (went answer)
   passed p = h .answers ∙ ap readAnswer (course-passes n ws m c sheet p)
 
-  halted : (e : Refusal) → Stops n ws m c e → r ≡ Refused e 0
-  halted e s = h .answers ∙ ap readAnswer (course-stops n ws m c sheet e s)
+  left : Passes n ws m c → res' ≡ readStore (went answer) res
+  left p = h .leaves ∙ ap (λ (x : Course). readStore x res) (course-passes n ws m c sheet p)
 
-  refused-exact : (e : Refusal) (k : ℕ) → (r ≡ Refused e k) ↔ Gets n sheet ws m c e k
-  refused-exact e k = (to (which-way n ws m c), back)
+  halted : (x : ℕ) → Stops n ws m c x → Says r x 0 0
+  halted x s =
+      let a = course-stops n ws m c sheet x s in
+      let q = h .answers ∙ ap readAnswer (a .is) in
+      (ap readingNumber q ∙ a .number, ap readingRecord q, ap readingCount q)
+
+  untouched : (x : ℕ) → Stops n ws m c x → res' ≡ res
+  untouched x s = h .leaves ∙ ap (λ (y : Course). readStore y res) (course-stops n ws m c sheet x s .is)
+
+  says-refused : (e : Refusal) (k : ℕ) → Passes n ws m c → answer ≡ refused e k → Says r (numberOf e) k 0
+  says-refused e k p a = let q = passed p ∙ ap (λ (x : Answer Bits). readAnswer (went x)) a in (ap readingNumber q, ap readingRecord q, ap readingCount q)
+
+  says-done : (k : ℕ) (s : Bits) → Passes n ws m c → answer ≡ done k s → Says r 0 k (s .count)
+  says-done k s p a = let q = passed p ∙ ap (λ (x : Answer Bits). readAnswer (went x)) a in (ap readingNumber q, ap readingRecord q, ap readingCount q)
+
+  -- what it says is due
+  due : Gets n sheet ws m c (readingNumber r) (readingRecord r) (readingCount r)
+  due = go (which-way n ws m c)
     where
-      to : ((d : Refusal) × Stops n ws m c d) ⊎ Passes n ws m c → r ≡ Refused e k → Gets n sheet ws m c e k
-      to (inl (d, s)) q =
-          let z : Refused d 0 ≡ Refused e k = sym (halted d s) ∙ q in
-          let f : d ≡ e = cc in
-          let g : k ≡ 0 = cc in
-          inl (subst (Stops n ws m c) f s, g)
-      to (inr p) q = inr (p, exact (editionOf c n) sheet (fitting c (view ws m)) (refused e k) .0 (from-refused answer e k (sym (passed p) ∙ q)))
+      is-answer : (x : Answer Bits) → answer ≡ x → SheetMeans (editionOf c n) sheet (fitting c (view ws m)) x
+      is-answer x a = exact (editionOf c n) sheet (fitting c (view ws m)) x .0 a
 
-      back : Gets n sheet ws m c e k → r ≡ Refused e k
-      back (inl (s, z)) = halted e s ∙ ap (Refused e) (sym z)
-      back (inr (p, a)) = passed p ∙ ap (λ (x : Answer Bits). readAnswer (went x)) (exact (editionOf c n) sheet (fitting c (view ws m)) (refused e k) .1 a)
+      on : Passes n ws m c → (x : Answer Bits) → answer ≡ x → Gets n sheet ws m c (readingNumber r) (readingRecord r) (readingCount r)
+      on p (refused e k) a = let (x, y, z) = says-refused e k p a in rw (x, y, z) (applies p (is-answer (refused e k) a) refl)
+      on p (done k s) a = let (x, y, z) = says-done k s p a in rw (x, y, z) (accepted p s (is-answer (done k s) a) refl refl)
 
-  accepts : (k : ℕ) (s : Bits) → Passes n ws m c → Accepted (editionOf c n) sheet (fitting c (view ws m)) k s → r ≡ Done k (record { count = s .count })
-  accepts k s p a = passed p ∙ ap (λ (x : Answer Bits). readAnswer (went x)) (exact (editionOf c n) sheet (fitting c (view ws m)) (done k s) .1 a)
+      go : ((x : ℕ) × Stops n ws m c x) ⊎ Passes n ws m c → Gets n sheet ws m c (readingNumber r) (readingRecord r) (readingCount r)
+      go (inl (x, s)) = let (a, b, d) = halted x s in rw (a, b, d) (stops s refl refl)
+      go (inr p) = on p answer refl
 
-  makes : (k : ℕ) (b : Bitmap) → r ≡ Done k b → Made n sheet ws m res k b res'
-  makes k b q = go (which-way n ws m c)
+  -- and what is due it says
+  said : (x k t : ℕ) → Gets n sheet ws m c x k t → Says r x k t
+  said x k t (stops s z y) = let (a, b, d) = halted x s in (a, b ∙ sym z, d ∙ sym y)
+  said x k t (applies p a y) =
+      let (e, q) = refusal-of (editionOf c n) sheet (fitting c (view ws m)) x k a in
+      let g : Applies (editionOf c n) sheet (fitting c (view ws m)) (numberOf e) k = subst (λ (x : ℕ). Applies (editionOf c n) sheet (fitting c (view ws m)) x k) (sym q) a in
+      let (u, v, w) = says-refused e k p (exact (editionOf c n) sheet (fitting c (view ws m)) (refused e k) .1 g) in
+      (u ∙ q, v, w ∙ sym y)
+  said x k t (accepted p s a z y) =
+      let (u, v, w) = says-done k s p (exact (editionOf c n) sheet (fitting c (view ws m)) (done k s) .1 a) in
+      (u ∙ sym z, v, w ∙ sym y)
+
+  answer-exact : (x k t : ℕ) → Says r x k t ↔ Gets n sheet ws m c x k t
+  answer-exact x k t = ((λ q. rw (← (q .0), ← (q .1), ← (q .2)) due), said x k t)
+
+  makes : readingNumber r ≡ 0 → Made n sheet ws m res (readingRecord r) (readingCount r) res'
+  makes q = go (which-way n ws m c)
     where
-      go : ((d : Refusal) × Stops n ws m c d) ⊎ Passes n ws m c → Made n sheet ws m res k b res'
-      go (inl (d, s)) = absurd (not-both (sym (halted d s) ∙ q))
-      go (inr p) =
-          let (s, a, e) = from-done answer k b (sym (passed p) ∙ q) in
+      on : Passes n ws m c → (x : Answer Bits) → answer ≡ x → Made n sheet ws m res (readingRecord r) (readingCount r) res'
+      on p (refused e k) a = absurd (positive e (sym (says-refused e k p a .0) ∙ q))
+      on p (done k s) a =
+          let (u, v, w) = says-done k s p a in
           let t = exact (editionOf c n) sheet (fitting c (view ws m)) (done k s) .0 a in
           let start = kept-start ws m c (t .reached .from) (t .reached .fits) in
           let kept : Kept c s = subst (Kept c) (t .makes) (effect-kept c n _ (t .reached .from) (t .reached .state) start (t .reached .applied)) in
-          let w : res' ≡ written res c s = h .leaves ∙ ap (λ (x : Course). readStore x res) (course-passes n ws m c sheet p ∙ ap went a) in
+          let stored : res' ≡ written res c s = left p ∙ ap (λ (x : Answer Bits). readStore (went x) res) a in
           let rules = space-rules res c s (kept .space) (omega arith) in
-          let l : b .count ≤ c = subst (λ (x : ℕ). x ≤ c) (sym e) (kept .space) in
           record {
             passes = p;
             state = s;
-            accepted = t;
-            count = e;
-            space = l;
+            accepted = subst (λ (j : ℕ). Accepted (editionOf c n) sheet (fitting c (view ws m)) j s) (sym v) t;
+            count = w;
+            space = subst (λ (x : ℕ). x ≤ c) (sym w) (kept .space);
             bounded = kept .bounded;
-            long = ap length w ∙ rules .long;
-            members = λ i u. ap (λ (x : List ℕ). member x i) w ∙ rules .used i (omega (arith, e));
+            long = ap length stored ∙ rules .long;
+            members = λ i u. ap (λ (x : List ℕ). member x i) stored ∙ rules .used i (omega (arith, w));
             zeros = λ j u.
                 by-lt j c
-                (λ v. ap (λ (x : List ℕ). getD x j 0) w ∙ rules .dropped j (omega (arith, e)) v)
-                (λ v. past res' j (omega (arith, ap length w ∙ rules .long)));
+                (λ v. ap (λ (x : List ℕ). getD x j 0) stored ∙ rules .dropped j (omega (arith, w)) v)
+                (λ v. past res' j (omega (arith, ap length stored ∙ rules .long)));
           }
 
-  newer-exact : (k : ℕ) → (r ≡ Refused NewerKind k) ↔ NamesNewer n sheet ws m c k
-  newer-exact k = ((λ q. to (refused-exact NewerKind k .0 q)), λ p. refused-exact NewerKind k .1 (inr p))
+      go : ((x : ℕ) × Stops n ws m c x) ⊎ Passes n ws m c → Made n sheet ws m res (readingRecord r) (readingCount r) res'
+      go (inl (x, s)) = absurd (omega (arith, stops-number n ws m c x s .0, halted x s .0))
+      go (inr p) = on p answer refl
+
+  -- a step of the table has no other number than 6, so 13 is the newer kind's alone
+  newer-exact : (k : ℕ) → ((readingNumber r ≡ 13) × (readingRecord r ≡ k)) ↔ NamesNewer n sheet ws m c k
+  newer-exact k = ((λ q. to (subst (λ (j : ℕ). Gets n sheet ws m c (readingNumber r) j (readingCount r)) (q .1) due) (q .0)), λ a. back a)
     where
-      never : Stops n ws m c NewerKind → ⊥
-      never (no-edition g q) = let z : _≡_ {A = ℕ} 0 1 = cc in omega arith
-      never (long g l q) = let z : _≡_ {A = ℕ} 0 1 = cc in omega arith
-      never (over g l k q) = let z : _≡_ {A = ℕ} 0 1 = cc in omega arith
-      never (result-long g l k t q) = let z : _≡_ {A = ℕ} 0 1 = cc in omega arith
+      old : Turn Bits
+      old = fitting c (view ws m)
 
-      to : Gets n sheet ws m c NewerKind k → NamesNewer n sheet ws m c k
-      to (inl (s, z)) = absurd (never s)
-      to (inr p) = p
+      step-fails : Passes n ws m c → (why : Refusal) (a : AtRecord (editionOf c n) sheet old k (Fails (editionOf c n) sheet why)) → numberOf why ≡ 6
+      step-fails p why a =
+          let (q, _, e, asks, f) = a .here in
+          let g = a .reached in
+          let kept : Kept c (g .state) = effect-kept c n (g .edits) (g .from) (g .state) (kept-start ws m c (g .from) (g .fits)) (g .applied) in
+          step-stops c n (suc (a .index)) e (g .state) why (p .result) kept (asks-ranged n c q e asks) f
 
-  cleared : (e : Refusal) (k : ℕ) → Passes n ws m c → r ≡ Refused e k → (length res' ≡ length res) × ((j : ℕ) → getD res' j 0 ≡ 0)
-  cleared e k p q =
-      let a = from-refused answer e k (sym (passed p) ∙ q) in
-      let w : res' ≡ zeroed 0 c res = h .leaves ∙ ap (λ (x : Course). readStore x res) (course-passes n ws m c sheet p ∙ ap went a) in
-      let l : length res' ≡ length res = ap length w ∙ length-zeroed 0 c res in
-      (l, λ j. by-lt j c (λ u. ap (λ (x : List ℕ). getD x j 0) w ∙ zeroed-in 0 c res j (omega arith) u) (λ u. past res' j (omega arith)))
+      unfits : (why : Refusal) → old ≡ stop why → numberOf why ≡ 6
+      unfits why q =
+          by-lt c m
+          (λ l. let z : why ≡ NoSpace = stop-inj (sym q ∙ fits-not ws m c l) in ap numberOf z)
+          (λ l. absurd (stop-next (sym q ∙ fits-old ws m c l)))
+
+      on : (x : ℕ) → Passes n ws m c → Applies (editionOf c n) sheet old x k → x ≡ 13 → NamesNewer n sheet ws m c k
+      on x p (not-sheet g q z) e = absurd (omega arith)
+      on x p (unfit g why u q z) e = absurd (omega (arith, unfits why u))
+      on x p (cut a q) e = absurd (omega arith)
+      on x p (newer a q) e = (p, a)
+      on x p (bad a q) e = absurd (omega arith)
+      on x p (fails why a q) e = absurd (omega (arith, step-fails p why a))
+      on x p (remain g l q z) e = absurd (omega arith)
+
+      to : {x t : ℕ} → Gets n sheet ws m c x k t → x ≡ 13 → NamesNewer n sheet ws m c k
+      to {x} (stops s z y) e = absurd (stops-number n ws m c x s .1 e)
+      to {x} (applies p a y) e = on x p a e
+      to (accepted p s a z y) e = absurd (omega arith)
+
+      back : NamesNewer n sheet ws m c k → (readingNumber r ≡ 13) × (readingRecord r ≡ k)
+      back a = let (u, v, w) = said 13 k 0 (applies (a .0) (newer (a .1) refl) refl) in (u, v)
+
+  cleared : Passes n ws m c → 0 < readingNumber r → (length res' ≡ length res) × ((j : ℕ) → getD res' j 0 ≡ 0)
+  cleared p l = go answer refl
+    where
+      go : (x : Answer Bits) → answer ≡ x → (length res' ≡ length res) × ((j : ℕ) → getD res' j 0 ≡ 0)
+      go (refused e k) a =
+          let w : res' ≡ zeroed 0 c res = left p ∙ ap (λ (x : Answer Bits). readStore (went x) res) a in
+          let l : length res' ≡ length res = ap length w ∙ length-zeroed 0 c res in
+          (l, λ j. by-lt j c (λ u. ap (λ (x : List ℕ). getD x j 0) w ∙ zeroed-in 0 c res j (omega arith) u) (λ u. past res' j (omega arith)))
+      go (done k s) a = absurd (omega (arith, says-done k s p a .0))
 
   -- (a) and (c): what a reading answers and leaves
   pub reading-means : ReadingMeans n sheet ws m res r res'
   reading-means = record {
     made = makes;
-    accepts = accepts;
-    exact = refused-exact;
-    fits = fits-exact ws m c;
+    exact = answer-exact;
+    fits = fits-old ws m c;
+    lacks = λ l. (NoSpace, fits-not ws m c l, refl);
     newer = newer-exact;
-    untouched = λ e s. h .leaves ∙ ap (λ (x : Course). readStore x res) (course-stops n ws m c sheet e s);
+    untouched = untouched;
     cleared = cleared;
   }
 
@@ -230,7 +302,7 @@ size-later e f b (some r) l q =
 pub later-holds : (c e f : ℕ) → e ≤ f → Holds (editionOf c e) (editionOf c f)
 unfolding editionOf sizeIn
 later-holds c e f l =
-    record { size-kept = λ k b q. size-later e f b (rowOf k) l q; rule-kept = λ k b p q h. refl; step-kept = λ k b p x q h g s. refl }
+    record { size-kept = λ k b q. size-later e f b (rowOf k) l q; rule-kept = λ k b p q h. refl; step-kept = λ k b p x q h g i s. refl }
 
 -- what is left after 14, 1 and 2 depends on the store's size alone
 pub same-written : (s : Bits) (xs ys : List ℕ) → length xs ≡ length ys → written xs (length xs) s ≡ written ys (length ys) s
@@ -262,38 +334,49 @@ keeps-meaning e f ge gf l sheet ws m res₁ res₂ size words r₁ r₂ res₁' 
     later : Passes e ws m c → Passes f ws m (length res₂)
     later p = record { edition = gf; short = p .short; inside = p .inside; result = subst (λ (x : ℕ). x ≤ limit) size (p .result) }
 
-    also : (x : Refusal) → Stops e ws m c x → Stops f ws m (length res₂) x
+    also : (x : ℕ) → Stops e ws m c x → Stops f ws m (length res₂) x
     also x (no-edition g q) = absurd (g ge)
     also x (long g u q) = long gf u q
     also x (over g u v q) = over gf u v q
     also x (result-long g u v w q) = result-long gf u v (subst (λ (y : ℕ). limit < y) size w) q
 
-    go : ((x : Refusal) × Stops e ws m c x) ⊎ Passes e ws m c → ((r₁ ≡ r₂) × (res₁' ≡ res₂')) ⊎ ((k : ℕ) × (r₁ ≡ Refused NewerKind k) × NamesNewer e sheet ws m c k)
-    go (inl (x, s)) =
-        let t = also x s in
+    earlier : Answer Bits
+    earlier = read (editionOf c e) sheet (fitting c (view ws m))
+
+    first : Passes e ws m c → course e sheet ws m c ≡ went earlier
+    first p = course-passes e ws m c sheet p
+
+    second : Passes e ws m c → course f sheet ws m (length res₂) ≡ went (read (editionOf c f) sheet (fitting c (view ws m)))
+    second p =
+        course-passes f ws m (length res₂) sheet (later p)
+        ∙ ap (λ (x : ℕ). went (read (editionOf x f) sheet (fitting x (view ws m)))) (sym size)
+
+    answered : Passes e ws m c → r₁ ≡ readAnswer (went earlier)
+    answered p = h₁ .answers ∙ ap readAnswer (first p)
+
+    Ends : Type 0
+    Ends = (Alike r₁ r₂ × (res₁' ≡ res₂')) ⊎ ((readingNumber r₁ ≡ 13) × NamesNewer e sheet ws m c (readingRecord r₁))
+
+    compare : Passes e ws m c
+        → (earlier ≡ read (editionOf c f) sheet (fitting c (view ws m))) ⊎ ((answerNumber earlier ≡ 13) × AtRecord (editionOf c e) sheet (fitting c (view ws m)) (answerRecord earlier) (Newer (editionOf c e) sheet))
+        → Ends
+    compare p (inl q) =
+        let same : r₁ ≡ r₂ = answered p ∙ ap (λ (x : Answer Bits). readAnswer (went x)) q ∙ sym (h₂ .answers ∙ ap readAnswer (second p)) in
         inl (
-          h₁ .answers ∙ ap readAnswer (course-stops e ws m c sheet x s ∙ sym (course-stops f ws m (length res₂) sheet x t)) ∙ sym (h₂ .answers),
-          h₁ .leaves ∙ ap (λ (y : Course). readStore y res₁) (course-stops e ws m c sheet x s) ∙ words x s
-              ∙ sym (h₂ .leaves ∙ ap (λ (y : Course). readStore y res₂) (course-stops f ws m (length res₂) sheet x t)),
+          (ap readingNumber same, ap readingRecord same, ap readingCount same),
+          h₁ .leaves ∙ ap (λ (y : Course). readStore y res₁) (first p ∙ ap went q) ∙ same-store (read (editionOf c f) sheet (fitting c (view ws m))) res₁ res₂ size
+              ∙ sym (h₂ .leaves ∙ ap (λ (y : Course). readStore y res₂) (second p)),
         )
-    go (inr p) = compare (same-or-newer (editionOf c e) (editionOf c f) (later-holds c e f l) sheet (fitting c (view ws m)))
-      where
-        first : course e sheet ws m c ≡ went (read (editionOf c e) sheet (fitting c (view ws m)))
-        first = course-passes e ws m c sheet p
+    compare p (inr (x, a)) =
+        let k : readingRecord r₁ ≡ answerRecord earlier = ap readingRecord (answered p) ∙ record-of earlier in
+        inr (ap readingNumber (answered p) ∙ number-of earlier ∙ x, (p, subst (λ (j : ℕ). AtRecord (editionOf c e) sheet (fitting c (view ws m)) j (Newer (editionOf c e) sheet)) (sym k) a))
 
-        second : course f sheet ws m (length res₂) ≡ went (read (editionOf c f) sheet (fitting c (view ws m)))
-        second =
-            course-passes f ws m (length res₂) sheet (later p)
-            ∙ ap (λ (x : ℕ). went (read (editionOf x f) sheet (fitting x (view ws m)))) (sym size)
-
-        compare : ((read (editionOf c e) sheet (fitting c (view ws m)) ≡ read (editionOf c f) sheet (fitting c (view ws m))) ⊎ ((k : ℕ) × (read (editionOf c e) sheet (fitting c (view ws m)) ≡ refused NewerKind k)))
-            → ((r₁ ≡ r₂) × (res₁' ≡ res₂')) ⊎ ((k : ℕ) × (r₁ ≡ Refused NewerKind k) × NamesNewer e sheet ws m c k)
-        compare (inl q) =
-            inl (
-              h₁ .answers ∙ ap readAnswer (first ∙ ap went q ∙ sym second) ∙ sym (h₂ .answers),
-              h₁ .leaves ∙ ap (λ (y : Course). readStore y res₁) (first ∙ ap went q) ∙ same-store (read (editionOf c f) sheet (fitting c (view ws m))) res₁ res₂ size
-                  ∙ sym (h₂ .leaves ∙ ap (λ (y : Course). readStore y res₂) second),
-            )
-        compare (inr (k, q)) =
-            let a : r₁ ≡ Refused NewerKind k = h₁ .answers ∙ ap readAnswer (first ∙ ap went q) in
-            inr (k, a, newer-exact e sheet ws m res₁ r₁ res₁' h₁ k .0 a)
+    go : ((x : ℕ) × Stops e ws m c x) ⊎ Passes e ws m c → Ends
+    go (inl (x, s)) =
+        let (a, b, d) = halted e sheet ws m res₁ r₁ res₁' h₁ x s in
+        let (a′, b′, d′) = halted f sheet ws m res₂ r₂ res₂' h₂ x (also x s) in
+        inl (
+          (a ∙ sym a′, b ∙ sym b′, d ∙ sym d′),
+          untouched e sheet ws m res₁ r₁ res₁' h₁ x s ∙ words x s ∙ sym (untouched f sheet ws m res₂ r₂ res₂' h₂ x (also x s)),
+        )
+    go (inr p) = compare p (any-two (editionOf c e) (editionOf c f) (later-holds c e f l) sheet (fitting c (view ws m)) .same)

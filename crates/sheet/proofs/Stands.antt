@@ -91,25 +91,25 @@ module _ {A S : Type 0} (E : Edition A S) (sheet : List ℕ) where
   abbrev pub Fine : ℕ → Type 0
   Fine i = item i .duty ≡ true → (e : A) × (editOf E (item i) ≡ some e)
 
-  pub sound-more : (i : ℕ) (es : List A) → Sound E sheet i es → Whole sheet i → Fine i → Sound E sheet (suc i) (es ++ listed (editOf E (item i)))
+  pub sound-more : (i : ℕ) (es : List (ℕ × A)) → Sound E sheet i es → Whole sheet i → Fine i → Sound E sheet (suc i) (es ++ listed (suc i) (editOf E (item i)))
   sound-more i es s w g = go (item i .duty) refl
     where
-      go : (t : Bool) → item i .duty ≡ t → Sound E sheet (suc i) (es ++ listed (editOf E (item i)))
+      go : (t : Bool) → item i .duty ≡ t → Sound E sheet (suc i) (es ++ listed (suc i) (editOf E (item i)))
       go false d =
-          subst (Sound E sheet (suc i)) (sym (append-nil es) ∙ ap (λ (o : Option A). es ++ listed o) (sym (take-false _ _ d)))
+          subst (Sound E sheet (suc i)) (sym (append-nil es) ∙ ap (λ (o : Option A). es ++ listed (suc i) o) (sym (take-false _ _ d)))
           (remark (item i) s (stands sheet (start sheet i) w) d)
       go true d =
           let (e, q) = g d in
-          subst (Sound E sheet (suc i)) (ap (λ (o : Option A). es ++ listed o) (sym q)) (duty (item i) e s (stands sheet (start sheet i) w) (asks E (item i) e q))
+          subst (Sound E sheet (suc i)) (ap (λ (o : Option A). es ++ listed (suc i) o) (sym q)) (duty (item i) e s (stands sheet (start sheet i) w) (asks E (item i) e q))
 
-  pub record Less (i : ℕ) (es : List A) : Type 0 where
-    pub before : List A
+  pub record Less (i : ℕ) (es : List (ℕ × A)) : Type 0 where
+    pub before : List (ℕ × A)
     pub sound : Sound E sheet i before
     pub whole : Whole sheet i
     pub fine : Fine i
-    pub is : es ≡ before ++ listed (editOf E (item i))
+    pub is : es ≡ before ++ listed (suc i) (editOf E (item i))
 
-  pub sound-less : (i : ℕ) (es : List A) → Sound E sheet (suc i) es → Less i es
+  pub sound-less : (i : ℕ) (es : List (ℕ × A)) → Sound E sheet (suc i) es → Less i es
   sound-less i es (remark r s h d) =
       let q = stands-is sheet (start sheet i) r h in
       let d′ : item i .duty ≡ false = ap (λ (x : Item). x .duty) q ∙ d in
@@ -118,7 +118,7 @@ module _ {A S : Type 0} (E : Edition A S) (sheet : List ℕ) where
         sound = s;
         whole = stands-whole sheet (start sheet i) r h;
         fine = λ t. absurd (false≢true (sym d′ ∙ t));
-        is = sym (append-nil es) ∙ ap (λ (o : Option A). es ++ listed o) (sym (take-false _ _ d′));
+        is = sym (append-nil es) ∙ ap (λ (o : Option A). es ++ listed (suc i) o) (sym (take-false _ _ d′));
       }
   sound-less i es (duty {es = fs} r e s h a) =
       let p : editOf E (item i) ≡ some e = ap (editOf E) (stands-is sheet (start sheet i) r h) ∙ asked E r e a in
@@ -127,5 +127,5 @@ module _ {A S : Type 0} (E : Edition A S) (sheet : List ℕ) where
         sound = s;
         whole = stands-whole sheet (start sheet i) r h;
         fine = λ t. (e, p);
-        is = ap (λ (o : Option A). fs ++ listed o) (sym p);
+        is = ap (λ (o : Option A). fs ++ listed (suc i) o) (sym p);
       }

@@ -10,8 +10,9 @@ use lib.ListN.{length, getD}
 use lib.Dec.{leb, eqb}
 use borrow.Author.Tests.{lt-ltb, le-ltb, le-leb, lt-leb, eq-eqb, ne-eqb}
 use Rattle.word.specs.Sets.{choose}
-use Rattle.storage.specs.declared.Refusal.the-variants.{NoSpace, CutRecord, BytesRemain, BadPayload, NewerKind}
-use Rattle.sheet.specs.Reader.{Edition, Item, refused, done, Turn, stop, next, headed, endAt, itemAt, edit, stepped, edited, known, act, then, records}
+use Rattle.storage.specs.declared.Refusal.{Refusal}
+use Rattle.storage.specs.declared.Refusal.the-variants.{CutRecord, BytesRemain, BadPayload, NewerKind}
+use Rattle.sheet.specs.Reader.{Edition, Item, refused, done, Turn, stop, next, headed, endAt, itemAt, edit, edited, known, act, then, records}
 use Rattle.sheet.specs.Meaning.{Header, onward, effect}
 
 pub none-some : {X : Type 0} {x : X} → _≡_ {A = Option X} none (some x) → ⊥
@@ -19,6 +20,15 @@ none-some e = let z : _≡_ {A = ℕ} 0 1 = cc in omega arith
 
 pub some-inj : {X : Type 0} {x y : X} → _≡_ {A = Option X} (some x) (some y) → x ≡ y
 some-inj e = cc
+
+pub stop-next : {X : Type 0} {e : Refusal} {x : X} → stop e ≡ next x → ⊥
+stop-next q = let z : _≡_ {A = ℕ} 0 1 = cc in omega arith
+
+pub stop-inj : {X : Type 0} {d e : Refusal} → _≡_ {A = Turn X} (stop d) (stop e) → d ≡ e
+stop-inj q = cc
+
+pub next-inj : {X : Type 0} {x y : X} → _≡_ {A = Turn X} (next x) (next y) → x ≡ y
+next-inj e = cc
 
 pub take-true : {X : Type 0} {t : Bool} (x y : X) → t ≡ true → choose t x y ≡ x
 take-true x y e = ap (λ (t : Bool). choose t x y) e
@@ -51,9 +61,10 @@ headed-false sheet h = go (decLe 4 (length sheet)) (ℕ-discrete (getD sheet 0 0
     go (yes a) (no b) c = rw (ne-eqb (getD sheet 0 0) 78 b) (none-of (leb 4 (length sheet)))
     go (no a) b c = rw (lt-leb 4 (length sheet) (omega arith)) refl
 
-abbrev pub listed : {A : Type 0} → Option A → List A
-listed none = []
-listed (some e) = e ∷ []
+-- a record's edit, if it asks for one, with its number
+abbrev pub listed : {A : Type 0} → ℕ → Option A → List (ℕ × A)
+listed k none = []
+listed k (some e) = (k, e) ∷ []
 
 module _ {A S : Type 0} (E : Edition A S) where
   abbrev pub sized : Item → Option ℕ → Option A
@@ -65,91 +76,91 @@ module _ {A S : Type 0} (E : Edition A S) where
   editOf r = choose (r .duty) (sized r (E .size (r .kind))) none
 
 module _ {A S : Type 0} (E : Edition A S) where
-  -- what a record does, as its edit's step
-  abbrev pub does : Option A → S → Option S
-  does none s = some s
-  does (some e) s = E .step e s
+  -- what record k does, as its edit's step
+  abbrev pub does : ℕ → Option A → S → Turn S
+  does k none s = next s
+  does k (some e) s = E .step k e s
 
-  pub effect-append : (es : List A) (o : Option A) (s : S) → effect E (es ++ listed o) s ≡ onward (does o) (effect E es s)
+  pub effect-append : (es : List (ℕ × A)) (k : ℕ) (o : Option A) (s : S) → effect E (es ++ listed k o) s ≡ onward (does k o) (effect E es s)
   unfolding effect
-  effect-append [] none s = refl
-  effect-append [] (some e) s = go (E .step e s)
+  effect-append [] k none s = refl
+  effect-append [] k (some e) s = go (E .step k e s)
     where
-      go : (o : Option S) → onward (λ (s′ : S). some s′) o ≡ o
-      go none = refl
-      go (some x) = refl
-  effect-append (x ∷ es) o s = go (effect-append es o) (E .step x s)
+      go : (o : Turn S) → onward (λ (s′ : S). next s′) o ≡ o
+      go (stop x) = refl
+      go (next x) = refl
+  effect-append ((j, x) ∷ es) k o s = go (effect-append es k o) (E .step j x s)
     where
-      go : ((s′ : S) → effect E (es ++ listed o) s′ ≡ onward (does o) (effect E es s′)) → (q : Option S) → onward (effect E (es ++ listed o)) q ≡ onward (does o) (onward (effect E es) q)
-      go ih none = refl
-      go ih (some s′) = ih s′
+      go : ((s′ : S) → effect E (es ++ listed k o) s′ ≡ onward (does k o) (effect E es s′)) → (q : Turn S) → onward (effect E (es ++ listed k o)) q ≡ onward (does k o) (onward (effect E es) q)
+      go ih (stop x) = refl
+      go ih (next s′) = ih s′
 
   -- ---- one record
 
-  -- what a record's turn says of it
-  pub data Did (s : S) (r : Item) (o : Turn S) : Type 0 where
-    went : (t : S) → (r .duty ≡ true → (e : A) × (editOf E r ≡ some e)) → does (editOf E r) s ≡ some t → o ≡ next t → Did s r o
-    newer : r .duty ≡ true → E .size (r .kind) ≡ none → o ≡ stop NewerKind → Did s r o
-    bad : r .duty ≡ true → (n : ℕ) → E .size (r .kind) ≡ some n → edit E r n ≡ none → o ≡ stop BadPayload → Did s r o
-    full : (e : A) → editOf E r ≡ some e → E .step e s ≡ none → o ≡ stop NoSpace → Did s r o
+  -- what the turn of record k says of it
+  pub data Did (k : ℕ) (s : S) (r : Item) (o : Turn S) : Type 0 where
+    went : (t : S) → (r .duty ≡ true → (e : A) × (editOf E r ≡ some e)) → does k (editOf E r) s ≡ next t → o ≡ next t → Did k s r o
+    lacked : r .duty ≡ true → E .size (r .kind) ≡ none → o ≡ stop NewerKind → Did k s r o
+    spoilt : r .duty ≡ true → (n : ℕ) → E .size (r .kind) ≡ some n → edit E r n ≡ none → o ≡ stop BadPayload → Did k s r o
+    failed : (e : A) → editOf E r ≡ some e → (why : Refusal) → E .step k e s ≡ stop why → o ≡ stop why → Did k s r o
 
-  module _ (r : Item) (s : S) where
-    pub edit-known : (d : r .duty ≡ true) (n : ℕ) → E .size (r .kind) ≡ some n → editOf E r ≡ edit E r n
-    edit-known d n p = take-true _ _ d ∙ ap (sized E r) p
+  pub edit-known : (r : Item) → r .duty ≡ true → (n : ℕ) → E .size (r .kind) ≡ some n → editOf E r ≡ edit E r n
+  edit-known r d n p = take-true _ _ d ∙ ap (sized E r) p
 
-    did-step : (e : A) → editOf E r ≡ some e → (o : Option S) → E .step e s ≡ o → Did s r (stepped E o)
-    did-step e p none q = full e p q refl
-    did-step e p (some t) q = went t (λ _. (e, p)) (ap (λ (o : Option A). does o s) p ∙ q) refl
+  module _ (k : ℕ) (r : Item) (s : S) where
+    did-step : (e : A) → editOf E r ≡ some e → (o : Turn S) → E .step k e s ≡ o → Did k s r o
+    did-step e p (stop why) q = failed e p why q refl
+    did-step e p (next t) q = went t (λ _. (e, p)) (ap (λ (o : Option A). does k o s) p ∙ q) refl
 
-    did-edit : r .duty ≡ true → (n : ℕ) → E .size (r .kind) ≡ some n → (o : Option A) → edit E r n ≡ o → Did s r (edited E o s)
-    did-edit d n p none q = bad d n p q refl
-    did-edit d n p (some e) q = did-step e (edit-known d n p ∙ q) (E .step e s) refl
+    did-edit : r .duty ≡ true → (n : ℕ) → E .size (r .kind) ≡ some n → (o : Option A) → edit E r n ≡ o → Did k s r (edited E k o s)
+    did-edit d n p none q = spoilt d n p q refl
+    did-edit d n p (some e) q = did-step e (edit-known r d n p ∙ q) (E .step k e s) refl
 
-    did-known : r .duty ≡ true → (o : Option ℕ) → E .size (r .kind) ≡ o → Did s r (known E r o s)
-    did-known d none p = newer d p refl
+    did-known : r .duty ≡ true → (o : Option ℕ) → E .size (r .kind) ≡ o → Did k s r (known E k r o s)
+    did-known d none p = lacked d p refl
     did-known d (some n) p = did-edit d n p (edit E r n) refl
 
-    did-duty : (d : Bool) → r .duty ≡ d → Did s r (choose d (known E r (E .size (r .kind)) s) (next s))
+    did-duty : (d : Bool) → r .duty ≡ d → Did k s r (choose d (known E k r (E .size (r .kind)) s) (next s))
     did-duty true d = did-known d (E .size (r .kind)) refl
-    did-duty false d = went s (λ t. absurd (false≢true (sym d ∙ t))) (ap (λ (o : Option A). does o s) (take-false _ _ d)) refl
+    did-duty false d = went s (λ t. absurd (false≢true (sym d ∙ t))) (ap (λ (o : Option A). does k o s) (take-false _ _ d)) refl
 
-    pub did : Did s r (act E r s)
+    pub did : Did k s r (act E k r s)
     unfolding act
     did = did-duty (r .duty) refl
 
-    pub on-duty : r .duty ≡ true → act E r s ≡ known E r (E .size (r .kind)) s
+    pub on-duty : r .duty ≡ true → act E k r s ≡ known E k r (E .size (r .kind)) s
     unfolding act
     on-duty d = take-true _ _ d
 
-    pub act-edit : (e : A) → editOf E r ≡ some e → act E r s ≡ stepped E (E .step e s)
+    pub act-edit : (e : A) → editOf E r ≡ some e → act E k r s ≡ E .step k e s
     act-edit e p = go (r .duty) refl
       where
-        by-size : (o : Option ℕ) → sized E r o ≡ some e → known E r o s ≡ stepped E (E .step e s)
+        by-size : (o : Option ℕ) → sized E r o ≡ some e → known E k r o s ≡ E .step k e s
         by-size none q = absurd (none-some q)
-        by-size (some n) q = ap (λ (o : Option A). edited E o s) q
+        by-size (some n) q = ap (λ (o : Option A). edited E k o s) q
 
-        go : (d : Bool) → r .duty ≡ d → act E r s ≡ stepped E (E .step e s)
+        go : (d : Bool) → r .duty ≡ d → act E k r s ≡ E .step k e s
         go true d = on-duty d ∙ by-size (E .size (r .kind)) (sym (take-true _ _ d) ∙ p)
         go false d = absurd (none-some (sym (take-false _ _ d) ∙ p))
 
-    pub act-remark : r .duty ≡ false → act E r s ≡ next s
+    pub act-remark : r .duty ≡ false → act E k r s ≡ next s
     unfolding act
     act-remark d = take-false _ _ d
 
-    pub act-did : (o : Turn S) → Did s r o → act E r s ≡ o
+    pub act-did : (o : Turn S) → Did k s r o → act E k r s ≡ o
     act-did o (went t g h q) = go (r .duty) refl ∙ sym q
       where
-        go : (d : Bool) → r .duty ≡ d → act E r s ≡ next t
-        go true d = let (e, p) = g d in act-edit e p ∙ ap (stepped E) (sym (ap (λ (o : Option A). does o s) p) ∙ h)
-        go false d = act-remark d ∙ ap next (some-inj (sym (ap (λ (o : Option A). does o s) (take-false _ _ d)) ∙ h))
-    act-did o (newer d h q) = on-duty d ∙ ap (λ (o : Option ℕ). known E r o s) h ∙ sym q
-    act-did o (bad d n h p q) = on-duty d ∙ ap (λ (o : Option ℕ). known E r o s) h ∙ ap (λ (o : Option A). edited E o s) p ∙ sym q
-    act-did o (full e p h q) = act-edit e p ∙ ap (stepped E) h ∙ sym q
+        go : (d : Bool) → r .duty ≡ d → act E k r s ≡ next t
+        go true d = let (e, p) = g d in act-edit e p ∙ sym (ap (λ (o : Option A). does k o s) p) ∙ h
+        go false d = act-remark d ∙ sym (ap (λ (o : Option A). does k o s) (take-false _ _ d)) ∙ h
+    act-did o (lacked d h q) = on-duty d ∙ ap (λ (o : Option ℕ). known E k r o s) h ∙ sym q
+    act-did o (spoilt d n h p q) = on-duty d ∙ ap (λ (o : Option ℕ). known E k r o s) h ∙ ap (λ (o : Option A). edited E k o s) p ∙ sym q
+    act-did o (failed e p why h q) = act-edit e p ∙ h ∙ sym q
 
   -- ---- the records in order
 
   module _ (sheet : List ℕ) where
-    pub record-whole : (n i at : ℕ) (s : S) → endAt sheet at ≤ length sheet → records E sheet (suc n) i at s ≡ then E (records E sheet n (suc i) (endAt sheet at)) (suc i) (act E (itemAt sheet at) s)
+    pub record-whole : (n i at : ℕ) (s : S) → endAt sheet at ≤ length sheet → records E sheet (suc n) i at s ≡ then E (records E sheet n (suc i) (endAt sheet at)) (suc i) (act E (suc i) (itemAt sheet at) s)
     unfolding records
     record-whole n i at s w = take-true _ _ (le-leb (endAt sheet at) (length sheet) w)
 

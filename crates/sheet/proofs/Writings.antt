@@ -18,9 +18,9 @@ use Rattle.storage.specs.Stores.{Bits, view}
 use Rattle.storage.specs.declared.Refusal.{Refusal}
 use Rattle.storage.specs.declared.Refusal.the-variants.{CountOverStore, NoSpace}
 use Rattle.sheet.specs.Bytes.{bytes}
-use Rattle.sheet.specs.Reader.{done, countIn, endAt, read}
+use Rattle.sheet.specs.Reader.{Turn, done, countIn, endAt, read}
 use Rattle.sheet.specs.Meaning.{Header, start, Whole}
-use Rattle.sheet.specs.Reads.{editionOf, fitting, Course, went, course, readAnswer, readStore}
+use Rattle.sheet.specs.Reads.{editionOf, latest, fitting, Course, went, course, readAnswer, readStore, readingNumber, readingRecord, readingCount}
 use Rattle.sheet.specs.Writer.{Request, requested, Entry, bytesOf, framesFault, sheetFault, Left, refuse, started, placed, placedBy, judged, added, Writes, Starts, Adds}
 use Rattle.sheet.specs.Plain.{asked, refusalOf, entryOf, answers, lastLength, lastBuffer, plainAnswers, lastPlain}
 use Rattle.sheet.specs.Promises.{SheetGets, no-header, cut, remain, nothing, AddGets, over, fault, wrong, full, fine, Leaves, AddMeans, StartMeans, WholeLists}
@@ -277,11 +277,12 @@ whole-lists buf cs row = record {
   effect-is = λ es e ws m res a res' p l t q h.
       let c : ℕ = length res in
       let sheet : List ℕ = take (lastLength 0 cs) (lastBuffer buf cs) in
-      let reads : read (editionOf c 2) sheet (fitting c (view ws m)) ≡ done (length es) t =
-      ap₂ (λ (s : List ℕ) (o : Option Bits). read (editionOf c 2) s o) (front es e .1) (fits-old ws m c l)
-      ∙ read-sheet c 2 es (view ws m) t (front es e .2) (front es e .3) (in-latest es) q in
-      let goes : course 2 sheet ws m c ≡ went (done (length es) t) = course-passes 2 ws m c sheet p ∙ ap went reads in
-      (h .answers ∙ ap readAnswer goes, h .leaves ∙ ap (λ (x : Course). readStore x res) goes);
+      let reads : read (editionOf c latest) sheet (fitting c (view ws m)) ≡ done (length es) t =
+      ap₂ (λ (s : List ℕ) (o : Turn Bits). read (editionOf c latest) s o) (front es e .1) (fits-old ws m c l)
+      ∙ read-sheet c latest es (view ws m) t (front es e .2) (front es e .3) (in-latest es) q in
+      let goes : course latest sheet ws m c ≡ went (done (length es) t) = course-passes latest ws m c sheet p ∙ ap went reads in
+      let answer = h .answers ∙ ap readAnswer goes in
+      (ap readingNumber answer, ap readingRecord answer, ap readingCount answer, h .leaves ∙ ap (λ (x : Course). readStore x res) goes);
 }
   where
     r : (answers cs ≡ plainAnswers none cs) × Fronts (lastBuffer buf cs) (lastLength 0 cs) (lastPlain none cs)

@@ -3,13 +3,12 @@ use Prim.Native.Nat.{ℕ, zero, suc, _+_, _*_, _≤_, _<_}
 use mathlib.Core.Path.{_≡_}
 use mathlib.Core.Bool.{true, false}
 use mathlib.Core.List.{List, [], _∷_, _++_}
-use mathlib.Core.Logic.{_⊎_}
-use mathlib.Core.Option.{Option, none, some}
+use mathlib.Core.Option.{none, some}
 use lib.ListN.{length, getD}
 use lib.Dec.{leb}
+use Rattle.storage.specs.Refusals.{numberOf}
 use Rattle.storage.specs.declared.Refusal.{Refusal}
-use Rattle.storage.specs.declared.Refusal.the-variants.{StoreTooLong, CountOverStore, WidthOver, IndexOver, PastLength, NoSpace, NotList, NotAscii, NotSheet, CutRecord, BytesRemain, BadPayload, NewerKind, NoEdition}
-use Rattle.sheet.specs.Reader.{Edition, Item, Answer, refused, done}
+use Rattle.sheet.specs.Reader.{Edition, Turn, stop, next, Item, Answer, refused, done}
 
 -- the record r stands at a position of the sheet: its first byte is 128 * bit + kind with kind below 128, the bit is 1 for duty, the next two bytes are
 -- the length of its payload, most significant first, and then come exactly so many bytes
@@ -49,9 +48,9 @@ module _ (sheet : List ℕ) where
   Is i r = Stands sheet (start i) r
 
 -- one step after another: a refusal stays
-abbrev pub onward : {S : Type 0} → (S → Option S) → Option S → Option S
-onward f none = none
-onward f (some s) = f s
+abbrev pub onward : {S : Type 0} → (S → Turn S) → Turn S → Turn S
+onward f (stop e) = stop e
+onward f (next s) = f s
 
 module _ {A S : Type 0} (E : Edition A S) where
   -- a duty record asks for an edit: its kind is of the edition, its payload has the kind's length and is one that the rule lets pass
@@ -60,30 +59,30 @@ module _ {A S : Type 0} (E : Edition A S) where
     pub sized : E .size (r .kind) ≡ some (length (r .payload))
     pub ruled : E .rule (r .kind) (r .payload) ≡ some e
 
-  -- the effect of edits in order: their steps, each on what the last left
-  unfoldable pub effect : List A → S → Option S
-  effect [] s = some s
-  effect (e ∷ es) s = onward (effect es) (E .step e s)
+  -- the effect of edits in order, each with its record's number: their steps, each on what the last left
+  unfoldable pub effect : List (ℕ × A) → S → Turn S
+  effect [] s = next s
+  effect ((k, e) ∷ es) s = onward (effect es) (E .step k e s)
 
   module _ (sheet : List ℕ) where
     -- the first i records are sound (none of 10, 13 and 12 applies), and these are the edits of the duty records among them, in order
-    pub data Sound : ℕ → List A → Type 0 where
+    pub data Sound : ℕ → List (ℕ × A) → Type 0 where
       begin : Sound 0 []
-      remark : {i : ℕ} {es : List A} (r : Item) → Sound i es → Is sheet i r → r .duty ≡ false → Sound (suc i) es
-      duty : {i : ℕ} {es : List A} (r : Item) (e : A) → Sound i es → Is sheet i r → Asks r e → Sound (suc i) (es ++ e ∷ [])
+      remark : {i : ℕ} {es : List (ℕ × A)} (r : Item) → Sound i es → Is sheet i r → r .duty ≡ false → Sound (suc i) es
+      duty : {i : ℕ} {es : List (ℕ × A)} (r : Item) (e : A) → Sound i es → Is sheet i r → Asks r e → Sound (suc i) (es ++ (suc i, e) ∷ [])
 
     -- the header is good, the old state fits, and the first i records are sound and applied
-    pub record Reached (old : Option S) (i : ℕ) : Type 0 where
+    pub record Reached (old : Turn S) (i : ℕ) : Type 0 where
       pub headed : Header sheet
       pub from : S
-      pub fits : old ≡ some from
-      pub edits : List A
+      pub fits : old ≡ next from
+      pub edits : List (ℕ × A)
       pub sound : Sound i edits
       pub state : S
-      pub applied : effect edits from ≡ some state
+      pub applied : effect edits from ≡ next state
 
     -- the paper's record k is reached, and this holds of it
-    pub record AtRecord (old : Option S) (k : ℕ) (P : S → ℕ → Type 0) : Type 0 where
+    pub record AtRecord (old : Turn S) (k : ℕ) (P : S → ℕ → Type 0) : Type 0 where
       pub index : ℕ
       pub numbered : k ≡ suc index
       pub within : index < total sheet
@@ -99,40 +98,33 @@ module _ {A S : Type 0} (E : Edition A S) where
     Bad s i = (r : Item) × Is sheet i r × (r .duty ≡ true) × (n : ℕ) × (E .size (r .kind) ≡ some n) × ((e : A) → ¬ Asks r e)
 
     -- a sound duty record whose step is refused
-    abbrev pub Full : S → ℕ → Type 0
-    Full s i = (r : Item) × Is sheet i r × (e : A) × Asks r e × (E .step e s ≡ none)
+    abbrev pub Fails : Refusal → S → ℕ → Type 0
+    Fails why s i = (r : Item) × Is sheet i r × (e : A) × Asks r e × (E .step (suc i) e s ≡ stop why)
 
-    -- the condition of each refusal with its record, in the order of 01
-    abbrev pub Applies : Option S → Refusal → ℕ → Type 0
-    Applies old NotSheet k = (k ≡ 0) × ¬ Header sheet
-    Applies old NoSpace k = ((k ≡ 0) × Header sheet × (old ≡ none)) ⊎ AtRecord old k Full
-    Applies old CutRecord k = AtRecord old k (λ s i. ¬ Whole sheet i)
-    Applies old NewerKind k = AtRecord old k Newer
-    Applies old BadPayload k = AtRecord old k Bad
-    Applies old BytesRemain k = (k ≡ total sheet) × Reached old (total sheet) × (start sheet (total sheet) < length sheet)
-    Applies old StoreTooLong k = ⊥
-    Applies old CountOverStore k = ⊥
-    Applies old WidthOver k = ⊥
-    Applies old IndexOver k = ⊥
-    Applies old PastLength k = ⊥
-    Applies old NotList k = ⊥
-    Applies old NotAscii k = ⊥
-    Applies old NoEdition k = ⊥
+    -- the condition of each number x with its record k, in the order of 01; the old state and a step have their own numbers, 6 for a bitmap
+    pub data Applies (old : Turn S) (x k : ℕ) : Type 0 where
+      not-sheet : ¬ Header sheet → x ≡ 9 → k ≡ 0 → Applies old x k
+      unfit : Header sheet → (why : Refusal) → old ≡ stop why → x ≡ numberOf why → k ≡ 0 → Applies old x k
+      cut : AtRecord old k (λ s i. ¬ Whole sheet i) → x ≡ 10 → Applies old x k
+      newer : AtRecord old k Newer → x ≡ 13 → Applies old x k
+      bad : AtRecord old k Bad → x ≡ 12 → Applies old x k
+      fails : (why : Refusal) → AtRecord old k (Fails why) → x ≡ numberOf why → Applies old x k
+      remain : Reached old (total sheet) → start sheet (total sheet) < length sheet → x ≡ 11 → k ≡ total sheet → Applies old x k
 
     -- all records are sound and applied and no bytes are left: k is their number, s what their edits make of the old state
-    pub record Accepted (old : Option S) (k : ℕ) (s : S) : Type 0 where
+    pub record Accepted (old : Turn S) (k : ℕ) (s : S) : Type 0 where
       pub numbered : k ≡ total sheet
       pub reached : Reached old (total sheet)
       pub ends : start sheet (total sheet) ≡ length sheet
       pub makes : reached .state ≡ s
 
     -- what an answer says of the sheet
-    abbrev pub Means : Option S → Answer S → Type 0
-    Means old (refused e k) = Applies old e k
+    abbrev pub Means : Turn S → Answer S → Type 0
+    Means old (refused e k) = Applies old (numberOf e) k
     Means old (done k s) = Accepted old k s
 
 -- the later edition F has each kind of E, with its length, its payload rule and its meaning
 pub record Holds {A S : Type 0} (E F : Edition A S) : Type 0 where
   pub size-kept : (k n : ℕ) → E .size k ≡ some n → F .size k ≡ some n
   pub rule-kept : (k n : ℕ) (p : List ℕ) → E .size k ≡ some n → length p ≡ n → F .rule k p ≡ E .rule k p
-  pub step-kept : (k n : ℕ) (p : List ℕ) (e : A) → E .size k ≡ some n → length p ≡ n → E .rule k p ≡ some e → (s : S) → F .step e s ≡ E .step e s
+  pub step-kept : (k n : ℕ) (p : List ℕ) (e : A) → E .size k ≡ some n → length p ≡ n → E .rule k p ≡ some e → (i : ℕ) (s : S) → F .step i e s ≡ E .step i e s

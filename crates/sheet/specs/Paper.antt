@@ -1,12 +1,18 @@
--- 01's table of kinds, typed from the paper and by itself, and what it says of a payload, digit by digit. Nothing is defined by this: Promises states
--- that the table of Kinds agrees with it.
+-- 01's editions and table of kinds, typed from the paper and by themselves, and what the table says of a payload, digit by digit. Nothing is defined by
+-- this: Promises states that the editions and the table of kinds agree with it.
 use Prim.Native.Nat.{ℕ, zero, suc, _-_, _^_, _/_, _%_, _≤_}
+use mathlib.Core.Path.{_≡_}
 use mathlib.Core.Bool.{Bool}
 use mathlib.Core.List.{List, [], _∷_, _++_}
+use mathlib.Core.Logic.{_⊎_}
 use Rattle.word.specs.Sets.{val}
 use Rattle.word.specs.Bits.{isOne}
 use Rattle.sheet.specs.declared.Edit.{Edit}
 use Rattle.sheet.specs.declared.Edit.the-variants.{Set, Unset, SetRegion, SetField, Shift, Rotate, Resize, Reverse, ToggleRegion, Open, Close}
+
+-- the editions: 14 is any other
+abbrev pub IsEdition : ℕ → Type 0
+IsEdition n = (n ≡ 1) ⊎ (n ≡ 2)
 
 -- a field of so many bits, with its value, and the least and the greatest that it may have
 pub record Cell : Type 0 where

@@ -1,5 +1,5 @@
 -- The plain sheet (01): it is fed sizes and what is asked, sees no buffer's bytes and is given no length. And lists of calls.
-use Prim.Native.Nat.{ℕ, _<_, _^_}
+use Prim.Native.Nat.{ℕ, suc, _<_, _^_}
 use mathlib.Core.Path.{_≡_}
 use mathlib.Core.Bool.{Bool, true, false, _&&_, _||_}
 use mathlib.Core.List.{List, [], _∷_, _++_}
@@ -35,11 +35,14 @@ unfoldable pub sheetOf : List Entry → List ℕ
 unfolding bytes body
 sheetOf es = 78 ∷ 83 ∷ bytes 2 (length es) ++ body es
 
--- its edits are its duty records
-unfoldable pub editsIn : List Entry → List Edit
-editsIn [] = []
-editsIn (edit e ∷ es) = e ∷ editsIn es
-editsIn (note k p ∷ es) = editsIn es
+-- its edits are its duty records, here with the numbers of the records, of which n come before
+unfoldable pub editsAfter : ℕ → List Entry → List (ℕ × Edit)
+editsAfter n [] = []
+editsAfter n (edit e ∷ es) = (suc n, e) ∷ editsAfter (suc n) es
+editsAfter n (note k p ∷ es) = editsAfter (suc n) es
+
+abbrev pub editsIn : List Entry → List (ℕ × Edit)
+editsIn es = editsAfter 0 es
 
 -- 13: a duty kind that is not 1 to 11, or a remark's over 127
 abbrev pub wrongKind : Request → Bool

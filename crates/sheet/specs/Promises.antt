@@ -9,8 +9,8 @@ use lib.ListN.{length, getD, getElem?, take, drop}
 use lib.Dec.{leb}
 use Rattle.word.specs.Sets.{choose}
 use Rattle.word.specs.Bits.{member}
+use Rattle.storage.specs.Refusals.{numberOf}
 use Rattle.storage.specs.Stores.{Bits, Bounded, Outcome, limit, view, written}
-use Rattle.storage.specs.declared.Bitmap.{Bitmap}
 use Rattle.storage.specs.declared.Refusal.{Refusal}
 use Rattle.storage.specs.declared.Refusal.the-variants.{StoreTooLong, CountOverStore, NoSpace, NotSheet, CutRecord, BytesRemain, NewerKind, NoEdition}
 use Rattle.bits.specs.Promises.{Reversed}
@@ -19,10 +19,10 @@ use Rattle.bitmap.specs.Promises.{WithBit, WithoutBit, WithRegion, WithField}
 use Rattle.shape.specs.Promises.{FlippedFrom, RaisedBy, LoweredBy, ResizedTo}
 use Rattle.gap.specs.Promises.{Opens, Closes}
 use Rattle.sheet.specs.Kinds.{sizeIn, kindOf, payloadOf, Ranged}
-use Rattle.sheet.specs.Paper.{printed, Allowed, digits, cellDigits, byteDigits}
-use Rattle.sheet.specs.Reader.{Edition, Item, refused, done, read}
-use Rattle.sheet.specs.Meaning.{Header, total, start, Whole, Is, Asks, effect, AtRecord, Newer, Applies, Accepted}
-use Rattle.sheet.specs.Reads.{step, editionOf, latest, fitting, Reads}
+use Rattle.sheet.specs.Paper.{IsEdition, printed, Allowed, digits, cellDigits, byteDigits}
+use Rattle.sheet.specs.Reader.{Edition, Turn, stop, next, Item, Answer, done, answerNumber, answerRecord, read}
+use Rattle.sheet.specs.Meaning.{Header, total, start, Whole, Is, Asks, effect, AtRecord, Newer, Applies, Accepted, Means as SheetMeans}
+use Rattle.sheet.specs.Reads.{step, editionOf, latest, fitting, Reads, readingNumber, readingRecord, readingCount}
 use Rattle.sheet.specs.Writer.{Request, duty, Entry, edit, note, bytesOf}
 use Rattle.sheet.specs.Plain.{sheetOf, editsIn, refusalOf, editFor, entryOf, Call, InRow, answers, lastLength, lastBuffer, plainAnswers, lastPlain}
 use Rattle.sheet.specs.declared.Edit.{Edit}
@@ -83,9 +83,6 @@ PayloadsExact =
 abbrev pub OnlySpace : Type 0
 OnlySpace = (c : ℕ) (e : Edit) (b : Bits) (x : Refusal) → c ≤ limit → Bounded b → b .count ≤ c → Ranged e → step e c b ≡ Outcome.refused x → x ≡ NoSpace
 
-abbrev pub IsEdition : ℕ → Type 0
-IsEdition n = (1 ≤ n) × (n ≤ latest)
-
 -- a reading in edition n, from the first m words of the store ws, into a store of c words: none of 14, 1 and 2 applies
 pub record Passes (n : ℕ) (ws : List ℕ) (m c : ℕ) : Type 0 where
   pub edition : IsEdition n
@@ -94,15 +91,17 @@ pub record Passes (n : ℕ) (ws : List ℕ) (m c : ℕ) : Type 0 where
   pub result : c ≤ limit
 
 -- 14, then 1 and 2 for each store in order
-pub data Stops (n : ℕ) (ws : List ℕ) (m c : ℕ) (e : Refusal) : Type 0 where
-  no-edition : ¬ IsEdition n → e ≡ NoEdition → Stops n ws m c e
-  long : IsEdition n → limit < length ws → e ≡ StoreTooLong → Stops n ws m c e
-  over : IsEdition n → length ws ≤ limit → length ws < m → e ≡ CountOverStore → Stops n ws m c e
-  result-long : IsEdition n → length ws ≤ limit → m ≤ length ws → limit < c → e ≡ StoreTooLong → Stops n ws m c e
+pub data Stops (n : ℕ) (ws : List ℕ) (m c x : ℕ) : Type 0 where
+  no-edition : ¬ IsEdition n → x ≡ 14 → Stops n ws m c x
+  long : IsEdition n → limit < length ws → x ≡ 1 → Stops n ws m c x
+  over : IsEdition n → length ws ≤ limit → length ws < m → x ≡ 2 → Stops n ws m c x
+  result-long : IsEdition n → length ws ≤ limit → m ≤ length ws → limit < c → x ≡ 1 → Stops n ws m c x
 
--- the condition of refusal e with record k
-abbrev pub Gets : ℕ → List ℕ → List ℕ → ℕ → ℕ → Refusal → ℕ → Type 0
-Gets n sheet ws m c e k = (Stops n ws m c e × (k ≡ 0)) ⊎ (Passes n ws m c × Applies (editionOf c n) sheet (fitting c (view ws m)) e k)
+-- the number x, the record k and the word count t that a reading answers
+pub data Gets (n : ℕ) (sheet ws : List ℕ) (m c x k t : ℕ) : Type 0 where
+  stops : Stops n ws m c x → k ≡ 0 → t ≡ 0 → Gets n sheet ws m c x k t
+  applies : Passes n ws m c → Applies (editionOf c n) sheet (fitting c (view ws m)) x k → t ≡ 0 → Gets n sheet ws m c x k t
+  accepted : Passes n ws m c → (s : Bits) → Accepted (editionOf c n) sheet (fitting c (view ws m)) k s → x ≡ 0 → t ≡ s .count → Gets n sheet ws m c x k t
 
 -- demand 3's condition: the old bitmap fits, all earlier records are sound and applied, and record k, its frame whole, is a duty record of a kind that
 -- the edition lacks
@@ -110,45 +109,53 @@ abbrev pub NamesNewer : ℕ → List ℕ → List ℕ → ℕ → ℕ → ℕ �
 NamesNewer n sheet ws m c k = Passes n ws m c × AtRecord (editionOf c n) sheet (fitting c (view ws m)) k (Newer (editionOf c n) sheet)
 
 -- an accepted sheet: its duty records' edits in order have made the bitmap that stands in the result store
-pub record Made (n : ℕ) (sheet ws : List ℕ) (m : ℕ) (res : List ℕ) (k : ℕ) (b : Bitmap) (res' : List ℕ) : Type 0 where
+pub record Made (n : ℕ) (sheet ws : List ℕ) (m : ℕ) (res : List ℕ) (k t : ℕ) (res' : List ℕ) : Type 0 where
   pub passes : Passes n ws m (length res)
   pub state : Bits
   pub accepted : Accepted (editionOf (length res) n) sheet (fitting (length res) (view ws m)) k state
-  pub count : b .count ≡ state .count
-  pub space : b .count ≤ length res
+  pub count : t ≡ state .count
+  pub space : t ≤ length res
   pub bounded : Bounded state
   pub long : length res' ≡ length res
-  pub members : (i : ℕ) → i < 64 * b .count → member res' i ≡ state .members i
-  pub zeros : (j : ℕ) → b .count ≤ j → getD res' j 0 ≡ 0
+  pub members : (i : ℕ) → i < 64 * t → member res' i ≡ state .members i
+  pub zeros : (j : ℕ) → t ≤ j → getD res' j 0 ≡ 0
 
 -- what a reading answers and leaves, whatever it is given
 pub record ReadingMeans (n : ℕ) (sheet ws : List ℕ) (m : ℕ) (res : List ℕ) (r : Reading) (res' : List ℕ) : Type 0 where
   -- (a): what an accepted reading has made
-  pub made : (k : ℕ) (b : Bitmap) → r ≡ Reading.Done k b → Made n sheet ws m res k b res'
-  pub accepts : (k : ℕ) (s : Bits) → Passes n ws m (length res) → Accepted (editionOf (length res) n) sheet (fitting (length res) (view ws m)) k s
-      → r ≡ Reading.Done k (record { count = s .count })
-  -- (c): each number with its record, exactly where it applies
-  pub exact : (e : Refusal) (k : ℕ) → (r ≡ Reading.Refused e k) ↔ Gets n sheet ws m (length res) e k
-  -- the old bitmap fits exactly where its count is within the result store
-  pub fits : (fitting (length res) (view ws m) ≡ none) ↔ (length res < m)
+  pub made : readingNumber r ≡ 0 → Made n sheet ws m res (readingRecord r) (readingCount r) res'
+  -- (c): number, record and word count, exactly where they are due
+  pub exact : (x k t : ℕ) → ((readingNumber r ≡ x) × (readingRecord r ≡ k) × (readingCount r ≡ t)) ↔ Gets n sheet ws m (length res) x k t
+  -- the old bitmap, or 6 exactly where its count is above the result store
+  pub fits : m ≤ length res → fitting (length res) (view ws m) ≡ next (view ws m)
+  pub lacks : length res < m → (why : Refusal) × (fitting (length res) (view ws m) ≡ stop why) × (numberOf why ≡ 6)
   -- 13 names the first duty record of a kind that the edition lacks
-  pub newer : (k : ℕ) → (r ≡ Reading.Refused NewerKind k) ↔ NamesNewer n sheet ws m (length res) k
+  pub newer : (k : ℕ) → ((readingNumber r ≡ 13) × (readingRecord r ≡ k)) ↔ NamesNewer n sheet ws m (length res) k
   -- 14, 1 and 2 touch nothing; any later refusal leaves zeros
-  pub untouched : (e : Refusal) → Stops n ws m (length res) e → res' ≡ res
-  pub cleared : (e : Refusal) (k : ℕ) → Passes n ws m (length res) → r ≡ Reading.Refused e k → (length res' ≡ length res) × ((j : ℕ) → getD res' j 0 ≡ 0)
+  pub untouched : (x : ℕ) → Stops n ws m (length res) x → res' ≡ res
+  pub cleared : Passes n ws m (length res) → 0 < readingNumber r → (length res' ≡ length res) × ((j : ℕ) → getD res' j 0 ≡ 0)
+
+-- two readings with one number, record and word count
+abbrev pub Alike : Reading → Reading → Type 0
+Alike r s = (readingNumber r ≡ readingNumber s) × (readingRecord r ≡ readingRecord s) × (readingCount r ≡ readingCount s)
 
 -- (b): two readings of one sheet and old bitmap, into stores of one size, of equal words where 1 or 2 applies: the earlier edition gives the later's
 -- answer and words, or names a newer kind
 abbrev pub KeepsMeaning : Type 0
 KeepsMeaning =
     (e f : ℕ) → IsEdition e → IsEdition f → e ≤ f → (sheet ws : List ℕ) (m : ℕ) (res₁ res₂ : List ℕ) → length res₁ ≡ length res₂
-    → ((x : Refusal) → Stops e ws m (length res₁) x → res₁ ≡ res₂) → (r₁ r₂ : Reading) (res₁' res₂' : List ℕ)
+    → ((x : ℕ) → Stops e ws m (length res₁) x → res₁ ≡ res₂) → (r₁ r₂ : Reading) (res₁' res₂' : List ℕ)
     → Reads e sheet ws m res₁ r₁ res₁' → Reads f sheet ws m res₂ r₂ res₂'
-    → ((r₁ ≡ r₂) × (res₁' ≡ res₂')) ⊎ ((k : ℕ) × (r₁ ≡ Reading.Refused NewerKind k) × NamesNewer e sheet ws m (length res₁) k)
+    → (Alike r₁ r₂ × (res₁' ≡ res₂')) ⊎ ((readingNumber r₁ ≡ 13) × NamesNewer e sheet ws m (length res₁) (readingRecord r₁))
 
--- the same of any two editions of which the later holds the earlier, whatever their edits and states; what the earlier accepts keeps its meaning
-pub record AnyTwo {A S : Type 0} (E F : Edition A S) (sheet : List ℕ) (old : Option S) : Type 0 where
-  pub same : (read E sheet old ≡ read F sheet old) ⊎ ((k : ℕ) × (read E sheet old ≡ refused NewerKind k) × AtRecord E sheet old k (Newer E sheet))
+-- of any edition, whatever its edits and states: a reading gives the answer that the sheet means, and no other
+abbrev pub ReadExact : {A S : Type 0} → Edition A S → List ℕ → Turn S → Type 0
+ReadExact {S = S} E sheet old = (a : Answer S) → (read E sheet old ≡ a) ↔ SheetMeans E sheet old a
+
+-- (b) of any two editions of which the later holds the earlier, whatever their edits and states; what the earlier accepts keeps its meaning
+pub record AnyTwo {A S : Type 0} (E F : Edition A S) (sheet : List ℕ) (old : Turn S) : Type 0 where
+  pub same : (read E sheet old ≡ read F sheet old)
+      ⊎ ((answerNumber (read E sheet old) ≡ 13) × AtRecord E sheet old (answerRecord (read E sheet old)) (Newer E sheet))
   pub kept : (k : ℕ) (s : S) → read E sheet old ≡ done k s → read F sheet old ≡ done k s
 
 -- (d): 9, 10 or 11 of a sheet that is given to the writer, or nothing
@@ -207,12 +214,12 @@ pub record ListMeans (buf : List ℕ) (cs : List Call) : Type 0 where
   pub bytes-are : (es : List Entry) → lastPlain none cs ≡ some es → take (lastLength 0 cs) (lastBuffer buf cs) ≡ sheetOf es
   -- which hold exactly its records
   pub laid : (es : List Entry) → lastPlain none cs ≡ some es → Holding (sheetOf es) es
-  -- and edition 2 accepts them with the effect of exactly its edits in order
+  -- and the latest edition accepts them with the effect of exactly its edits in order
   pub effect-is : (es : List Entry) → lastPlain none cs ≡ some es
-      → (ws : List ℕ) (m : ℕ) (res : List ℕ) (r : Reading) (res' : List ℕ) → Passes 2 ws m (length res) → m ≤ length res
-      → (t : Bits) → effect (editionOf (length res) 2) (editsIn es) (view ws m) ≡ some t
-      → Reads 2 (take (lastLength 0 cs) (lastBuffer buf cs)) ws m res r res'
-      → (r ≡ Reading.Done (length es) (record { count = t .count })) × (res' ≡ written res (length res) t)
+      → (ws : List ℕ) (m : ℕ) (res : List ℕ) (r : Reading) (res' : List ℕ) → Passes latest ws m (length res) → m ≤ length res
+      → (t : Bits) → effect (editionOf (length res) latest) (editsIn es) (view ws m) ≡ next t
+      → Reads latest (take (lastLength 0 cs) (lastBuffer buf cs)) ws m res r res'
+      → (readingNumber r ≡ 0) × (readingRecord r ≡ length es) × (readingCount r ≡ t .count) × (res' ≡ written res (length res) t)
 
 abbrev pub WholeLists : Type 0
 WholeLists = (buf : List ℕ) (cs : List Call) → InRow buf 0 cs → ListMeans buf cs

@@ -6,15 +6,21 @@ use mathlib.Core.Option.{Option, none, some}
 use lib.ListN.{length, getD, take, drop}
 use lib.Dec.{leb, ltb, eqb}
 use Rattle.word.specs.Sets.{choose}
+use Rattle.storage.specs.Refusals.{numberOf}
 use Rattle.storage.specs.declared.Refusal.{Refusal}
-use Rattle.storage.specs.declared.Refusal.the-variants.{NoSpace, NotSheet, CutRecord, BytesRemain, BadPayload, NewerKind}
+use Rattle.storage.specs.declared.Refusal.the-variants.{NotSheet, CutRecord, BytesRemain, BadPayload, NewerKind}
+
+-- a refusal, or the next state
+pub data Turn (S : Type 0) : Type 0 where
+  stop : Refusal → Turn S
+  next : S → Turn S
 
 -- an edition: the payload's bytes of each kind that it has, what a payload of that length asks for (none: a bad payload),
--- and what an edit makes of a state (none: the step is refused)
+-- and what the edit of record k makes of a state
 pub record Edition (A S : Type 0) : Type 0 where
   pub size : ℕ → Option ℕ
   pub rule : ℕ → List ℕ → Option A
-  pub step : A → S → Option S
+  pub step : (k : ℕ) → A → S → Turn S
 
 -- a record of a sheet
 pub record Item : Type 0 where
@@ -27,10 +33,14 @@ pub data Answer (S : Type 0) : Type 0 where
   refused : Refusal → ℕ → Answer S
   done : ℕ → S → Answer S
 
--- what one record comes to
-pub data Turn (S : Type 0) : Type 0 where
-  stop : Refusal → Turn S
-  next : S → Turn S
+-- of an answer its number, 0 for done, and its record
+abbrev pub answerNumber : {S : Type 0} → Answer S → ℕ
+answerNumber (refused e k) = numberOf e
+answerNumber (done k s) = 0
+
+abbrev pub answerRecord : {S : Type 0} → Answer S → ℕ
+answerRecord (refused e k) = k
+answerRecord (done k s) = k
 
 module _ (sheet : List ℕ) where
   -- at least four bytes, the letters N and S first
@@ -58,24 +68,19 @@ module _ {A S : Type 0} (E : Edition A S) where
   abbrev pub edit : Item → ℕ → Option A
   edit r n = choose (eqb (length (r .payload)) n) (E .rule (r .kind) (r .payload)) none
 
-  -- 6 where the step is refused
-  abbrev pub stepped : Option S → Turn S
-  stepped none = stop NoSpace
-  stepped (some s) = next s
-
-  -- 12 where the payload is bad
-  abbrev pub edited : Option A → S → Turn S
-  edited none s = stop BadPayload
-  edited (some e) s = stepped (E .step e s)
+  -- 12 where the payload is bad, else what the step says
+  abbrev pub edited : ℕ → Option A → S → Turn S
+  edited k none s = stop BadPayload
+  edited k (some e) s = E .step k e s
 
   -- 13 where the edition has not the kind
-  abbrev pub known : Item → Option ℕ → S → Turn S
-  known r none s = stop NewerKind
-  known r (some n) s = edited (edit r n) s
+  abbrev pub known : ℕ → Item → Option ℕ → S → Turn S
+  known k r none s = stop NewerKind
+  known k r (some n) s = edited k (edit r n) s
 
-  -- a record whose frame is whole: a remark does nothing; a duty record gets 13, 12 or 6, or makes the next state
-  unfoldable pub act : Item → S → Turn S
-  act r s = choose (r .duty) (known r (E .size (r .kind)) s) (next s)
+  -- record k, its frame whole: a remark does nothing; a duty record gets 13, 12 or its step's refusal, or makes the next state
+  unfoldable pub act : ℕ → Item → S → Turn S
+  act k r s = choose (r .duty) (known k r (E .size (r .kind)) s) (next s)
 
   -- a stopped reading names record i, another goes on
   abbrev pub then : (S → Answer S) → ℕ → Turn S → Answer S
@@ -88,15 +93,15 @@ module _ {A S : Type 0} (E : Edition A S) where
   records sheet zero i at s = choose (ltb at (length sheet)) (refused BytesRemain i) (done i s)
   records sheet (suc n) i at s =
       choose (leb (endAt sheet at) (length sheet))
-      (then (records sheet n (suc i) (endAt sheet at)) (suc i) (act (itemAt sheet at) s))
+      (then (records sheet n (suc i) (endAt sheet at)) (suc i) (act (suc i) (itemAt sheet at) s))
       (refused CutRecord (suc i))
 
-  -- 6 at record 0 where the old state does not fit
-  abbrev pub copied : List ℕ → Option S → Answer S
-  copied sheet none = refused NoSpace 0
-  copied sheet (some s) = records sheet (countIn sheet) 0 4 s
+  -- at record 0, where the old state does not fit
+  abbrev pub copied : List ℕ → Turn S → Answer S
+  copied sheet (stop e) = refused e 0
+  copied sheet (next s) = records sheet (countIn sheet) 0 4 s
 
-  -- the whole sheet; the old state is none where it does not fit
-  unfoldable pub read : List ℕ → Option S → Answer S
+  -- the whole sheet, from the old state or why it does not fit
+  unfoldable pub read : List ℕ → Turn S → Answer S
   unfolding records
   read sheet old = choose (headed sheet) (copied sheet old) (refused NotSheet 0)

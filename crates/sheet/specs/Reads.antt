@@ -3,21 +3,20 @@ use Prim.Native.Nat.{ℕ}
 use mathlib.Core.Path.{_≡_}
 use mathlib.Core.Bool.{Bool, _&&_}
 use mathlib.Core.List.{List}
-use mathlib.Core.Option.{Option, none, some}
 use lib.ListN.{length}
 use lib.Dec.{leb}
 use Rattle.word.specs.Sets.{choose}
 use Rattle.storage.specs.Refusals.{numberOf}
 use Rattle.storage.specs.Stores.{Bits, Outcome, refused, done, Op, checked, view, written, zeroed}
 use Rattle.storage.specs.declared.Refusal.{Refusal}
-use Rattle.storage.specs.declared.Refusal.the-variants.{NoEdition}
+use Rattle.storage.specs.declared.Refusal.the-variants.{NoSpace, NoEdition}
 use Rattle.bits.specs.Bits.{reversing}
 use Rattle.shift.specs.Shifts.{rotatingLeft, rotatingRight}
 use Rattle.bitmap.specs.Bitmaps.{setting, unsetting, settingRegion, settingField}
 use Rattle.shape.specs.Shapes.{togglingRegion, raising, lowering, resizing}
 use Rattle.gap.specs.Gaps.{opening, closing}
 use Rattle.sheet.specs.Kinds.{sizeIn, ruleOf}
-use Rattle.sheet.specs.Reader.{Edition, Answer, refused, done, read}
+use Rattle.sheet.specs.Reader.{Edition, Turn, stop, next, Answer, refused, done, read}
 use Rattle.sheet.specs.declared.Edit.{Edit}
 use Rattle.sheet.specs.declared.Edit.the-variants.{Set, Unset, SetRegion, SetField, Shift, Rotate, Resize, Reverse, ToggleRegion, Open, Close}
 use Rattle.sheet.specs.declared.Reading.{Reading}
@@ -37,13 +36,13 @@ step (ToggleRegion p k) = togglingRegion p k
 step (Open p k) = opening p k
 step (Close p k) = closing p k
 
-abbrev pub made : Outcome → Option Bits
-made (Outcome.refused e) = none
-made (Outcome.done s) = some s
+abbrev pub made : Outcome → Turn Bits
+made (Outcome.refused e) = stop e
+made (Outcome.done s) = next s
 
--- an edition of the table, on bitmaps in a store of c words
+-- an edition of the table, on bitmaps in a store of c words: a step goes by its edit alone, whichever record asks for it
 unfoldable pub editionOf : ℕ → ℕ → Edition Edit Bits
-editionOf c n = record { size = sizeIn n; rule = ruleOf; step = λ e b. made (step e c b) }
+editionOf c n = record { size = sizeIn n; rule = ruleOf; step = λ k e b. made (step e c b) }
 
 -- the editions there are
 abbrev pub latest : ℕ
@@ -52,9 +51,9 @@ latest = 2
 abbrev pub isEdition : ℕ → Bool
 isEdition n = leb 1 n && leb n latest
 
--- the old bitmap, where it fits into a store of c words
-abbrev pub fitting : ℕ → Bits → Option Bits
-fitting c b = choose (leb (b .count) c) (some b) none
+-- the old bitmap, or 6 where it does not fit into a store of c words
+abbrev pub fitting : ℕ → Bits → Turn Bits
+fitting c b = choose (leb (b .count) c) (next b) (stop NoSpace)
 
 -- what a reading comes to: 14, 1 and 2 stop it before it touches anything
 pub data Course : Type 0 where
