@@ -113,7 +113,7 @@ toggle-changes ws b i x f p h e =
     there : (m j : ℕ) → (m ≡ k → ⊥) → j < 64 → view ws n .members (64 * m + j) ≡ xorb (view ws n .members (64 * m + j)) (eqb (64 * m + j) i)
     there m j q l = keep (view ws n .members (64 * m + j)) ∙ ap (xorb (view ws n .members (64 * m + j))) (sym (ne-eqb (64 * m + j) i (omega arith)))
 
-toggling-past : (i c : ℕ) (s : Bits) → 64 * s .count ≤ i → toggling i c s ≡ refused PastLength
+pub toggling-past : (i c : ℕ) (s : Bits) → 64 * s .count ≤ i → toggling i c s ≡ refused PastLength
 unfolding toggling
 toggling-past i c s h = rw (le-ltb i (64 * s .count) h)
 

@@ -3,86 +3,92 @@ use mathlib.Core.Path.{_≡_, refl, sym, ap, _∙_, subst}
 use mathlib.Core.Bool.{Bool, not, _&&_}
 use Prim.Native.Nat.{ℕ, suc, _+_, _-_, _*_, _<_}
 use native.Mathlib.Omega.{arith}
-use lib.Dec.{eqb}
+use lib.Dec.{ltb, eqb}
 use borrow.Author.Tests.{lt-ltb, le-ltb, eq-eqb, ne-eqb}
 use Rattle.word.specs.Sets.{choose, xorb, countBelow, nth, Nth}
 use Rattle.word.proofs.Cases.{by-lt, xor-true, xor-false}
 use Rattle.word.proofs.Sets.{count-le, counts, nth-has, nth-none}
+use Rattle.storage.specs.Refusals.{numberOf}
 use Rattle.storage.specs.Stores.{Bits, refused, done, size, foundBelow}
-use Rattle.storage.specs.Promises.{Sound}
+use Rattle.storage.specs.Promises.{Meets, Never}
 use Rattle.storage.specs.declared.Refusal.the-variants.{PastLength}
 use Rattle.storage.specs.declared.Found.the-variants.{At, Nothing}
+use Rattle.storage.proofs.Outcomes.{same, never, which, sound-done}
 use Rattle.bits.specs.Bits.{toggling, inverting, reversing, clearSize, countRegion, rankOf, selected}
-use Rattle.bits.specs.Promises.{Toggled, Toggling, Always, Inverted, Reversed, Counted, Selected}
+use Rattle.bits.specs.Promises.{Toggled, Toggles, Inverted, Reversed, Counted, Selected}
+use Rattle.bits.proofs.Moves.{toggling-past}
 
 -- ---- toggle
 
-pub toggles : (i c : ℕ) (b : Bits) → Toggling i b (toggling i c b)
-unfolding toggling
-toggles i c b =
-    by-lt i (64 * b .count)
-    (λ l.
-    subst (Toggling i b) (sym (ap (λ (t : Bool). choose t (done flipped) (refused PastLength)) (lt-ltb i (64 * b .count) l))) (
-      l,
-      record {
-        count = refl;
-        flipped = ap (xorb (b .members i)) (eq-eqb i i refl) ∙ xor-true (b .members i);
-        others = λ j n. ap (xorb (b .members j)) (ne-eqb j i n) ∙ xor-false (b .members j);
-      },
-    ))
-    (λ l. subst (Toggling i b) (sym (ap (λ (t : Bool). choose t (done flipped) (refused PastLength)) (le-ltb i (64 * b .count) l))) (l, refl))
-  where
-    flipped : Bits
-    flipped = record { members = λ j. xorb (b .members j) (eqb j i); count = b .count }
+-- i flipped, in as many words
+abbrev turned : ℕ → Bits → Bits
+turned i b = record { members = λ j. xorb (b .members j) (eqb j i); count = b .count }
 
-pub toggling-sound : (i : ℕ) → Sound (toggling i)
-toggling-sound i = record {
-  space = λ c b s h l e. omega (arith, toggled c b s e .1 .count);
-  bound = λ c b s h l e.
-      let t : Toggled i b s = toggled c b s e .1 in
-      let k : i < 64 * b .count = toggled c b s e .0 in
-      record { past = λ j m. t .others j (omega (arith, t .count)) ∙ h .past j (omega (arith, t .count)) };
+toggling-below : (i c : ℕ) (b : Bits) → i < 64 * b .count → toggling i c b ≡ done (turned i b)
+unfolding toggling
+toggling-below i c b l = ap (λ (t : Bool). choose t (done (turned i b)) (refused PastLength)) (lt-ltb i (64 * b .count) l)
+
+toggled : (i c : ℕ) (b s : Bits) → toggling i c b ≡ done s → (i < 64 * b .count) × Toggled i b s
+toggled i c b s q =
+    by-lt i (64 * b .count)
+    (λ l. (
+      l,
+      subst (Toggled i b) (same (sym (toggling-below i c b l) ∙ q))
+          (record {
+            count = refl;
+            flipped = ap (xorb (b .members i)) (eq-eqb i i refl) ∙ xor-true (b .members i);
+            others = λ j n. ap (xorb (b .members j)) (ne-eqb j i n) ∙ xor-false (b .members j);
+          }),
+    ))
+    (λ l. absurd (never (sym q ∙ toggling-past i c b l)))
+
+pub toggles : (i : ℕ) → Toggles i
+toggles i = record {
+  made = toggled i;
+  sound = record {
+    space = λ c b s h l q. omega (arith, toggled i c b s q .1 .count);
+    bound = λ c b s h l q.
+        let (k, t) = toggled i c b s q in
+        record { past = λ j m. t .others j (omega (arith, t .count)) ∙ h .past j (omega (arith, t .count)) };
+  };
+  why = λ c b e q.
+      by-lt i (64 * b .count)
+      (λ l. absurd (never (sym (toggling-below i c b l) ∙ q)))
+      (λ l. (ap numberOf (which (sym q ∙ toggling-past i c b l)), l));
 }
-  where
-    toggled : (c : ℕ) (b s : Bits) → toggling i c b ≡ done s → Toggling i b (done s)
-    toggled c b s e = subst (Toggling i b) e (toggles i c b)
 
 -- ---- invert and reverse
 
-pub inverts : (c : ℕ) (b : Bits) → Always Inverted b (inverting c b)
+pub inverts : Meets inverting (λ c b s. Inverted b s) Never
 unfolding inverting
-inverts c b = record {
-  count = refl;
-  below = λ i l. ap (λ (t : Bool). t && not (b .members i)) (lt-ltb i (64 * b .count) l);
-  past = λ i l. ap (λ (t : Bool). t && not (b .members i)) (le-ltb i (64 * b .count) l);
+inverts = record {
+  made = λ c b s q. subst (Inverted b) (same q) (inverted b);
+  sound = sound-done inverting _ (λ c b. refl) (λ b. omega arith) (λ b h. record { past = inverted b .past });
+  why = λ c b e q. never q;
 }
+  where
+    inverted : (b : Bits) → Inverted b (record { members = λ i. ltb i (64 * b .count) && not (b .members i); count = b .count })
+    inverted b = record {
+      count = refl;
+      below = λ i l. ap (λ (t : Bool). t && not (b .members i)) (lt-ltb i (64 * b .count) l);
+      past = λ i l. ap (λ (t : Bool). t && not (b .members i)) (le-ltb i (64 * b .count) l);
+    }
 
-pub reverses : (c : ℕ) (b : Bits) → Always Reversed b (reversing c b)
+pub reverses : Meets reversing (λ c b s. Reversed b s) Never
 unfolding reversing
-reverses c b = record {
-  count = refl;
-  mirror = λ i j q.
-      ap (λ (t : Bool). t && b .members (64 * b .count - suc i)) (lt-ltb i (64 * b .count) (omega arith)) ∙ ap (b .members) (omega arith);
-  past = λ i l. ap (λ (t : Bool). t && b .members (64 * b .count - suc i)) (le-ltb i (64 * b .count) l);
+reverses = record {
+  made = λ c b s q. subst (Reversed b) (same q) (reversed b);
+  sound = sound-done reversing _ (λ c b. refl) (λ b. omega arith) (λ b h. record { past = reversed b .past });
+  why = λ c b e q. never q;
 }
-
-inverted : (c : ℕ) (b s : Bits) → inverting c b ≡ done s → Inverted b s
-inverted c b s e = subst (Always Inverted b) e (inverts c b)
-
-reversed : (c : ℕ) (b s : Bits) → reversing c b ≡ done s → Reversed b s
-reversed c b s e = subst (Always Reversed b) e (reverses c b)
-
-pub inverting-sound : Sound inverting
-inverting-sound = record {
-  space = λ c b s h l e. omega (arith, inverted c b s e .count);
-  bound = λ c b s h l e. record { past = λ i m. inverted c b s e .past i (omega (arith, inverted c b s e .count)) };
-}
-
-pub reversing-sound : Sound reversing
-reversing-sound = record {
-  space = λ c b s h l e. omega (arith, reversed c b s e .count);
-  bound = λ c b s h l e. record { past = λ i m. reversed c b s e .past i (omega (arith, reversed c b s e .count)) };
-}
+  where
+    reversed : (b : Bits) → Reversed b (record { members = λ i. ltb i (64 * b .count) && b .members (64 * b .count - suc i); count = b .count })
+    reversed b = record {
+      count = refl;
+      mirror = λ i j q.
+          ap (λ (t : Bool). t && b .members (64 * b .count - suc i)) (lt-ltb i (64 * b .count) (omega arith)) ∙ ap (b .members) (omega arith);
+      past = λ i l. ap (λ (t : Bool). t && b .members (64 * b .count - suc i)) (le-ltb i (64 * b .count) l);
+    }
 
 -- ---- counts
 

@@ -3,11 +3,11 @@ use Prim.Native.Nat.{ℕ, _+_, _*_, _≤_, _<_}
 use mathlib.Core.Path.{_≡_}
 use mathlib.Core.Bool.{true, false, not}
 use Rattle.word.specs.Sets.{Counts}
-use Rattle.storage.specs.Refusals.{numberOf}
-use Rattle.storage.specs.Stores.{Bits, Outcome, refused, done, size}
+use Rattle.storage.specs.Stores.{Bits, size}
+use Rattle.storage.specs.Promises.{Meets}
 use Rattle.storage.specs.declared.Found.{Found}
 use Rattle.storage.specs.declared.Found.the-variants.{At, Nothing, Refused}
-use Rattle.bits.specs.Bits.{clearSize, countRegion, rankOf}
+use Rattle.bits.specs.Bits.{toggling, clearSize, countRegion, rankOf}
 
 pub record Toggled (i : ℕ) (b s : Bits) : Type 0 where
   pub count : s .count ≡ b .count
@@ -20,14 +20,8 @@ pub record Inverted (b s : Bits) : Type 0 where
   pub past : (i : ℕ) → 64 * b .count ≤ i → s .members i ≡ false
 
 -- `toggle`: done below the length, 5 exactly from there on
-abbrev pub Toggling : ℕ → Bits → Outcome → Type 0
-Toggling i b (done s) = (i < 64 * b .count) × Toggled i b s
-Toggling i b (refused e) = (64 * b .count ≤ i) × (numberOf e ≡ 5)
-
--- a call that is always done, by the rule
-abbrev pub Always : (Bits → Bits → Type 0) → Bits → Outcome → Type 0
-Always rule b (done s) = rule b s
-Always rule b (refused e) = ⊥
+abbrev pub Toggles : ℕ → Type 0
+Toggles i = Meets (toggling i) (λ c b s. (i < 64 * b .count) × Toggled i b s) (λ c b k. (k ≡ 5) × (64 * b .count ≤ i))
 
 -- the mirror of each number, over the whole length
 pub record Reversed (b s : Bits) : Type 0 where

@@ -33,4 +33,4 @@ pub record Closes (p k : ℕ) (b s : Bits) : Type 0 where
 
 -- only a bitmap that no store has is refused
 abbrev pub NotClosed : ℕ → Bits → ℕ → Type 0
-NotClosed c b m = b .count ≤ c → c ≤ limit → ⊥
+NotClosed c b m = b .count ≤ c → b .count ≤ limit → ⊥

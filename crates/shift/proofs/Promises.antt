@@ -1,4 +1,4 @@
--- The promises of specs/Promises, and that the four operations stay within their store and their length. Assumes nothing.
+-- The promises of specs/Promises. Assumes nothing.
 use mathlib.Core.Path.{_≡_, refl, sym, ap, ap₂, _∙_, fun-ext, subst}
 use mathlib.Core.Bool.{Bool, true, false, _&&_, false≢true}
 use Prim.Native.Nat.{ℕ, _+_, _-_, _*_, _%_, _≤_, _<_}
@@ -8,7 +8,7 @@ use borrow.Author.Tests.{lt-ltb, le-ltb, ltb-true}
 use lib.Dec.{ltb}
 use Rattle.word.proofs.Cases.{by-lt, and-true}
 use Rattle.storage.specs.Stores.{Bits, Bounded, done, Op}
-use Rattle.storage.specs.Promises.{Sound}
+use Rattle.storage.proofs.Outcomes.{same, never, sound-done}
 use Rattle.shift.specs.Shifts.{movedUp, movedDown, turnedUp, turnedDown, kept, shiftingLeft, shiftingRight, rotatingLeft, rotatingRight}
 use Rattle.shift.specs.Promises.{Moves, ShiftedLeft, ShiftedRight, RotatedLeft, RotatedRight, Rotations}
 use Rattle.shift.proofs.Rings.{there, back, turned-from}
@@ -39,70 +39,64 @@ kept-is f b s h e g =
     (λ l. past-it f s i (omega (arith, e)) ∙ sym (h .past i l))))
     e
 
+-- what keeps below the length is done, and moves by the rule
+kept-moves : (op : Op) (f : Bits → ℕ → Bool) (rule : ℕ → (ℕ → Bool) → (ℕ → Bool) → Type 0) → ((c : ℕ) (b : Bits) → op c b ≡ done (kept (f b) b))
+    → ((b : Bits) → Bounded b → rule (64 * b .count) (b .members) (kept (f b) b .members)) → Moves op rule
+kept-moves op f rule e r = record {
+  made = λ c b s q h. subst (λ (x : Bits). (x .count ≡ b .count) × rule (64 * b .count) (b .members) (x .members)) (same (sym (e c b) ∙ q)) (refl, r b h);
+  sound = sound-done op (λ b. kept (f b) b) e (λ b. omega arith) (λ b h. record { past = past-it (f b) b });
+  why = λ c b x q. never (sym (e c b) ∙ q);
+}
+
 -- ---- the shifts
 
 pub shifts-left : (k : ℕ) → Moves (shiftingLeft k) (ShiftedLeft k)
 unfolding shiftingLeft
-shifts-left k c b h = (
-  kept (movedUp k (b .members)) b,
-  refl,
-  refl,
-  record {
-    goes = λ i e l. within (movedUp k (b .members)) b (i + k) l ∙ moved-up k (b .members) (i + k) (omega arith) ∙ ap (b .members) (omega arith) ∙ e;
-    comes = λ m e. came m (inside (movedUp k (b .members)) b m e);
-  },
-)
+shifts-left k =
+    kept-moves (shiftingLeft k) (λ b. movedUp k (b .members)) (ShiftedLeft k) (λ c b. refl)
+    (λ b h. record {
+      goes = λ i e l. within (movedUp k (b .members)) b (i + k) l ∙ moved-up k (b .members) (i + k) (omega arith) ∙ ap (b .members) (omega arith) ∙ e;
+      comes = λ m e. came b m (inside (movedUp k (b .members)) b m e);
+    })
   where
-    came : (m : ℕ) → (m < 64 * b .count) × (movedUp k (b .members) m ≡ true) → (i : ℕ) × (b .members i ≡ true) × (i + k ≡ m) × (m < 64 * b .count)
-    came m p =
+    came : (b : Bits) (m : ℕ) → (m < 64 * b .count) × (movedUp k (b .members) m ≡ true) → (i : ℕ) × (b .members i ≡ true) × (i + k ≡ m) × (m < 64 * b .count)
+    came b m p =
         by-lt m k
         (λ l. absurd (false≢true (sym (moved-in k (b .members) m l) ∙ p .1)))
         (λ l. (m - k, sym (moved-up k (b .members) m l) ∙ p .1, omega arith, p .0))
 
 pub shifts-right : (k : ℕ) → Moves (shiftingRight k) (ShiftedRight k)
 unfolding shiftingRight
-shifts-right k c b h = (
-  kept (movedDown k (b .members)) b,
-  refl,
-  refl,
-  record {
-    goes = λ i e l.
-        within (movedDown k (b .members)) b (i - k) (omega (arith, below b i h e)) ∙ ap (b .members) (omega arith) ∙ e;
-    comes = λ m e.
-        let p = inside (movedDown k (b .members)) b m e in
-        (m + k, p .1, omega arith, omega arith, p .0);
-  },
-)
+shifts-right k =
+    kept-moves (shiftingRight k) (λ b. movedDown k (b .members)) (ShiftedRight k) (λ c b. refl)
+    (λ b h. record {
+      goes = λ i e l. within (movedDown k (b .members)) b (i - k) (omega (arith, below b i h e)) ∙ ap (b .members) (omega arith) ∙ e;
+      comes = λ m e. let p = inside (movedDown k (b .members)) b m e in (m + k, p .1, omega arith, omega arith, p .0);
+    })
 
 -- ---- the rotations
 
 pub rotates-left : (k : ℕ) → Moves (rotatingLeft k) (RotatedLeft k)
 unfolding rotatingLeft
-rotates-left k c b h = (
-  kept (turnedUp (64 * b .count) k (b .members)) b,
-  refl,
-  refl,
-  record {
-    goes = λ i l.
-        within (turnedUp (64 * b .count) k (b .members)) b ((i + k) % (64 * b .count)) (mod-lt (i + k) (omega arith))
-        ∙ turned-from (64 * b .count) (b .members) k ((i + k) % (64 * b .count)) i l refl;
-    comes = λ m l.
-        ((m + (64 * b .count - k % (64 * b .count))) % (64 * b .count), mod-lt (m + (64 * b .count - k % (64 * b .count))) (omega arith), there (64 * b .count) k m l);
-    past = λ m l. past-it (turnedUp (64 * b .count) k (b .members)) b m l;
-  },
-)
+rotates-left k =
+    kept-moves (rotatingLeft k) (λ b. turnedUp (64 * b .count) k (b .members)) (RotatedLeft k) (λ c b. refl)
+    (λ b h.
+    let len : ℕ = 64 * b .count in
+    record {
+      goes = λ i l.
+          within (turnedUp len k (b .members)) b ((i + k) % len) (mod-lt (i + k) (omega arith)) ∙ turned-from len (b .members) k ((i + k) % len) i l refl;
+      comes = λ m l. ((m + (len - k % len)) % len, mod-lt (m + (len - k % len)) (omega arith), there len k m l);
+      past = past-it (turnedUp len k (b .members)) b;
+    })
 
 pub rotates-right : (k : ℕ) → Moves (rotatingRight k) (RotatedRight k)
 unfolding rotatingRight
-rotates-right k c b h = (
-  kept (turnedDown (64 * b .count) k (b .members)) b,
-  refl,
-  refl,
-  record {
-    goes = λ i l. within (turnedDown (64 * b .count) k (b .members)) b i l;
-    past = λ m l. past-it (turnedDown (64 * b .count) k (b .members)) b m l;
-  },
-)
+rotates-right k =
+    kept-moves (rotatingRight k) (λ b. turnedDown (64 * b .count) k (b .members)) (RotatedRight k) (λ c b. refl)
+    (λ b h. record {
+      goes = within (turnedDown (64 * b .count) k (b .members)) b;
+      past = past-it (turnedDown (64 * b .count) k (b .members)) b;
+    })
 
 -- the result of an operation on sets that keeps below the length has no member where there are no words
 none : (f : ℕ → Bool) (b s : Bits) → b .count ≡ 0 → done (kept f b) ≡ done s → (i : ℕ) → s .members i ≡ false
@@ -141,30 +135,3 @@ rotations = record {
   empty-left = λ k c b s e q. none (turnedUp (64 * b .count) k (b .members)) b s e q;
   empty-right = λ k c b s e q. none (turnedDown (64 * b .count) k (b .members)) b s e q;
 }
-
--- ---- in a row with other calls
-
-kept-sound : (op : Op) (f : Bits → ℕ → Bool) → ((c : ℕ) (b : Bits) → op c b ≡ done (kept (f b) b)) → Sound op
-kept-sound op f e = record {
-  space = λ c b s h l q. let r : kept (f b) b ≡ s = same c b s q in subst (λ (x : Bits). x .count ≤ c) r l;
-  bound = λ c b s h l q. subst Bounded (same c b s q) (record { past = λ i p. past-it (f b) b i p });
-}
-  where
-    same : (c : ℕ) (b s : Bits) → op c b ≡ done s → kept (f b) b ≡ s
-    same c b s q = let r : done (kept (f b) b) ≡ done s = sym (e c b) ∙ q in cc
-
-pub sound-left : (k : ℕ) → Sound (shiftingLeft k)
-unfolding shiftingLeft
-sound-left k = kept-sound (shiftingLeft k) (λ b. movedUp k (b .members)) (λ c b. refl)
-
-pub sound-right : (k : ℕ) → Sound (shiftingRight k)
-unfolding shiftingRight
-sound-right k = kept-sound (shiftingRight k) (λ b. movedDown k (b .members)) (λ c b. refl)
-
-pub sound-rotate-left : (k : ℕ) → Sound (rotatingLeft k)
-unfolding rotatingLeft
-sound-rotate-left k = kept-sound (rotatingLeft k) (λ b. turnedUp (64 * b .count) k (b .members)) (λ c b. refl)
-
-pub sound-rotate-right : (k : ℕ) → Sound (rotatingRight k)
-unfolding rotatingRight
-sound-rotate-right k = kept-sound (rotatingRight k) (λ b. turnedDown (64 * b .count) k (b .members)) (λ c b. refl)

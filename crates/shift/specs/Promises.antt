@@ -3,12 +3,12 @@ use Prim.Native.Nat.{ℕ, _+_, _-_, _*_, _%_, _≤_, _<_}
 use mathlib.Core.Path.{_≡_}
 use mathlib.Core.Bool.{Bool, true, false}
 use Rattle.storage.specs.Stores.{Bits, Bounded, done, Op}
+use Rattle.storage.specs.Promises.{Meets, Never}
 use Rattle.shift.specs.Shifts.{rotatingLeft, rotatingRight}
 
 -- whatever the capacity, the call is done, the count stays, and the rule holds of the length, the old set and the new one
 abbrev pub Moves : Op → (ℕ → (ℕ → Bool) → (ℕ → Bool) → Type 0) → Type 0
-Moves op rule =
-    (c : ℕ) (b : Bits) → Bounded b → (s : Bits) × (op c b ≡ done s) × (s .count ≡ b .count) × rule (64 * b .count) (b .members) (s .members)
+Moves op rule = Meets op (λ c b s. Bounded b → (s .count ≡ b .count) × rule (64 * b .count) (b .members) (s .members)) Never
 
 -- a member i goes to i + k where that is below the length, and nothing else is a member
 pub record ShiftedLeft (k len : ℕ) (old new : ℕ → Bool) : Type 0 where

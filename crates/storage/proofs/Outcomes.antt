@@ -1,5 +1,5 @@
 -- What an outcome tells, and operations whose results have space and hold no member past their words. Assumes nothing.
-use mathlib.Core.Path.{_≡_, sym, ap, ap₂, _∙_, subst}
+use mathlib.Core.Path.{_≡_, refl, sym, ap, ap₂, _∙_, subst}
 use mathlib.Core.Bool.{Bool, false}
 use mathlib.Core.List.{List}
 use Prim.Native.Nat.{ℕ, _≤_, _<_}
@@ -23,6 +23,11 @@ never q = let z : _≡_ {A = ℕ} 0 1 = cc in omega arith
 
 pub which : {d e : Refusal} → refused d ≡ refused e → d ≡ e
 which q = cc
+
+-- an outcome is one or the other
+pub by-outcome {ℓ} : {A : Type ℓ} (o : Outcome) → ((s : Bits) → o ≡ done s → A) → ((e : Refusal) → o ≡ refused e → A) → A
+by-outcome (refused e) f g = g e refl
+by-outcome (done s) f g = f s refl
 
 -- a result that was refused for space has too many words
 pub lacks : (c : ℕ) (b : Bits) (e : Refusal) → within c b ≡ refused e → (numberOf e ≡ 6) × (c < b .count)

@@ -13,7 +13,7 @@ use Rattle.word.specs.Bits.{member}
 use Rattle.word.proofs.Cases.{by-lt, every-at, or-true}
 use Rattle.word.proofs.Sets.{least}
 use Rattle.word.proofs.Lists.{determined, at-place, member-at}
-use Rattle.storage.specs.Refusals.{numberOf, changeNumber, changeRecord}
+use Rattle.storage.specs.Refusals.{lastNumber, numberOf, changeNumber, changeRecord}
 use Rattle.storage.specs.Stores.{Bits, Bounded, Outcome, refused, done, view, beside, trimmedCount, trimmed, combined, written, answer, store, outcome, Leaves, foundBelow, nextFrom}
 use Rattle.storage.specs.Promises.{EachNumberOnce, RefusalKeeps, StoresFirst, WordsAndSets, SpaceRules, SpaceExact, LeastCount, Combines, Unites, NextMember, Chains}
 use Rattle.storage.specs.declared.Bitmap.{Bitmap}
@@ -30,7 +30,7 @@ use Rattle.storage.proofs.Trims.{trimmed-le, trimmed-holds, trimmed-lea
 
 -- ---- the numbers
 
-range : (e : Refusal) → (1 ≤ numberOf e) × (numberOf e ≤ 14)
+range : (e : Refusal) → (1 ≤ numberOf e) × (numberOf e ≤ lastNumber)
 range StoreTooLong = omega arith
 range CountOverStore = omega arith
 range WidthOver = omega arith
@@ -51,9 +51,9 @@ abbrev ordered : List Refusal
 ordered =
     StoreTooLong ∷ CountOverStore ∷ WidthOver ∷ IndexOver ∷ PastLength ∷ NoSpace ∷ NotList ∷ NotAscii ∷ NotSheet ∷ CutRecord ∷ BytesRemain ∷ BadPayload ∷ NewerKind ∷ NoEdition ∷ []
 
-nth-refusal : (k : ℕ) → k < 14 → numberOf (getD ordered k NoEdition) ≡ suc k
+nth-refusal : (k : ℕ) → k < lastNumber → numberOf (getD ordered k NoEdition) ≡ suc k
 nth-refusal k l =
-    eqb→eq (numberOf (getD ordered k NoEdition)) (suc k) (every-at (λ k. eqb (numberOf (getD ordered k NoEdition)) (suc k)) 14 tt k l)
+    eqb→eq (numberOf (getD ordered k NoEdition)) (suc k) (every-at (λ k. eqb (numberOf (getD ordered k NoEdition)) (suc k)) lastNumber tt k l)
 
 found : (e : Refusal) → getD ordered (numberOf e - 1) NoEdition ≡ e
 found StoreTooLong = refl

@@ -6,7 +6,7 @@ use mathlib.Core.List.{List}
 use mathlib.Core.Logic.{_⊎_}
 use lib.ListN.{length, getD}
 use Rattle.word.specs.Bits.{member}
-use Rattle.storage.specs.Refusals.{numberOf, changeNumber, changeRecord}
+use Rattle.storage.specs.Refusals.{lastNumber, numberOf, changeNumber, changeRecord}
 use Rattle.storage.specs.Stores.{Bits, Bounded, refused, done, Op, limit, view, beside, within, written, Changes}
 use Rattle.storage.specs.declared.Bitmap.{Bitmap}
 use Rattle.storage.specs.declared.Refusal.{Refusal}
@@ -15,11 +15,11 @@ use Rattle.storage.specs.declared.Found.the-variants.{At, Nothing, Refus
 use Rattle.storage.specs.declared.Change.{Change}
 use Rattle.storage.specs.declared.Change.the-variants.{Done, Refused}
 
--- demand 1: the numbers 1 to 14, each for one refusal
+-- demand 1: the numbers from 1 to the last, each for one refusal
 pub record EachNumberOnce : Type 0 where
-  pub range : (e : Refusal) → (1 ≤ numberOf e) × (numberOf e ≤ 14)
+  pub range : (e : Refusal) → (1 ≤ numberOf e) × (numberOf e ≤ lastNumber)
   pub once : (d e : Refusal) → numberOf d ≡ numberOf e → d ≡ e
-  pub each : (n : ℕ) → 1 ≤ n → n ≤ 14 → (e : Refusal) × (numberOf e ≡ n)
+  pub each : (n : ℕ) → 1 ≤ n → n ≤ lastNumber → (e : Refusal) × (numberOf e ≡ n)
 
 -- demand 1: whatever the operation, a call whose number is not 0 returns the old record and leaves every word
 abbrev pub RefusalKeeps : Type 0

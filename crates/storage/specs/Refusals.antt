@@ -15,6 +15,10 @@ use Rattle.storage.specs.declared.Field.the-variants.{Is, Refused}
 use Rattle.storage.specs.declared.Truth.{Truth}
 use Rattle.storage.specs.declared.Truth.the-variants.{Is, Refused}
 
+-- the numbers are 1 to this one
+abbrev pub lastNumber : ℕ
+lastNumber = 14
+
 abbrev pub numberOf : Refusal → ℕ
 numberOf StoreTooLong = 1
 numberOf CountOverStore = 2
