@@ -3,7 +3,7 @@ use Prim.Native.Nat.{ℕ, _<_, _≤_}
 use mathlib.Core.Path.{_≡_}
 use mathlib.Core.Bool.{true, false}
 use native.Mathlib.Omega.{arith}
-use Rattle.storage.specs.Refusals.{numberOf}
+use Rattle.storage.specs.Refusals.{lastNumber, numberOf}
 use Rattle.storage.specs.declared.Refusal.{Refusal}
 use Rattle.storage.proofs.Promises.{each-number-once}
 use Rattle.storage.specs.declared.Change.{Change}
@@ -23,46 +23,46 @@ use Rattle.sheet.specs.declared.Reading.the-variants.{Done, Refused}
 use Rattle.sheet.specs.declared.Added.{Added}
 use Rattle.sheet.specs.declared.Added.the-variants.{Done, Refused}
 use Rattle.answers.specs.Answers.{ChangeOut, SplitOut, FoundOut, NumberOut, FieldOut, TruthOut, ReadingOut, AddedOut}
-use Rattle.answers.specs.Promises.{AtMost14, RefusedHandsOut, Flags}
+use Rattle.answers.specs.Promises.{AtMostLast, RefusedHandsOut, Flags}
 
-top : (e : Refusal) → numberOf e ≤ 14
+top : (e : Refusal) → numberOf e ≤ lastNumber
 top e = each-number-once .range e .1
 
-change-14 : (a : Change) (r n : ℕ) → ChangeOut a r n → r ≤ 14
-change-14 (Change.Done b) r n o = omega arith
-change-14 (Change.Refused e b) r n o = omega (arith, top e)
+change-last : (a : Change) (r n : ℕ) → ChangeOut a r n → r ≤ lastNumber
+change-last (Change.Done b) r n o = omega arith
+change-last (Change.Refused e b) r n o = omega (arith, top e)
 
-split-14 : (a : Split) (r n t : ℕ) → SplitOut a r n t → r ≤ 14
-split-14 (Split.Done h t1) r n t o = omega arith
-split-14 (Split.Refused e b) r n t o = omega (arith, top e)
+split-last : (a : Split) (r n t : ℕ) → SplitOut a r n t → r ≤ lastNumber
+split-last (Split.Done h t1) r n t o = omega arith
+split-last (Split.Refused e b) r n t o = omega (arith, top e)
 
-found-14 : (a : Found) (r f v : ℕ) → FoundOut a r f v → r ≤ 14
-found-14 (Found.At p) r f v o = omega arith
-found-14 Found.Nothing r f v o = omega arith
-found-14 (Found.Refused e) r f v o = omega (arith, top e)
+found-last : (a : Found) (r f v : ℕ) → FoundOut a r f v → r ≤ lastNumber
+found-last (Found.At p) r f v o = omega arith
+found-last Found.Nothing r f v o = omega arith
+found-last (Found.Refused e) r f v o = omega (arith, top e)
 
-number-14 : (a : Number) (r v : ℕ) → NumberOut a r v → r ≤ 14
-number-14 (Number.Is n) r v o = omega arith
-number-14 (Number.Refused e) r v o = omega (arith, top e)
+number-last : (a : Number) (r v : ℕ) → NumberOut a r v → r ≤ lastNumber
+number-last (Number.Is n) r v o = omega arith
+number-last (Number.Refused e) r v o = omega (arith, top e)
 
-field-14 : (a : Field) (r v : ℕ) → FieldOut a r v → r ≤ 14
-field-14 (Field.Is x) r v o = omega arith
-field-14 (Field.Refused e) r v o = omega (arith, top e)
+field-last : (a : Field) (r v : ℕ) → FieldOut a r v → r ≤ lastNumber
+field-last (Field.Is x) r v o = omega arith
+field-last (Field.Refused e) r v o = omega (arith, top e)
 
-truth-14 : (a : Truth) (r v : ℕ) → TruthOut a r v → r ≤ 14
-truth-14 (Truth.Is t) r v o = omega arith
-truth-14 (Truth.Refused e) r v o = omega (arith, top e)
+truth-last : (a : Truth) (r v : ℕ) → TruthOut a r v → r ≤ lastNumber
+truth-last (Truth.Is t) r v o = omega arith
+truth-last (Truth.Refused e) r v o = omega (arith, top e)
 
-reading-14 : (a : Reading) (r k n : ℕ) → ReadingOut a r k n → r ≤ 14
-reading-14 (Reading.Done k1 b) r k n o = omega arith
-reading-14 (Reading.Refused e k1) r k n o = omega (arith, top e)
+reading-last : (a : Reading) (r k n : ℕ) → ReadingOut a r k n → r ≤ lastNumber
+reading-last (Reading.Done k1 b) r k n o = omega arith
+reading-last (Reading.Refused e k1) r k n o = omega (arith, top e)
 
-added-14 : (a : Added) (old r n : ℕ) → AddedOut a old r n → r ≤ 14
-added-14 (Added.Done n1) old r n o = omega arith
-added-14 (Added.Refused e) old r n o = omega (arith, top e)
+added-last : (a : Added) (old r n : ℕ) → AddedOut a old r n → r ≤ lastNumber
+added-last (Added.Done n1) old r n o = omega arith
+added-last (Added.Refused e) old r n o = omega (arith, top e)
 
-pub at-most-14 : AtMost14
-at-most-14 = record { change = change-14; split = split-14; found = found-14; number = number-14; field = field-14; truth = truth-14; reading = reading-14; added = added-14 }
+pub at-most-last : AtMostLast
+at-most-last = record { change = change-last; split = split-last; found = found-last; number = number-last; field = field-last; truth = truth-last; reading = reading-last; added = added-last }
 
 split-refused : (a : Split) (r n t : ℕ) → SplitOut a r n t → 0 < r → t ≡ 0
 split-refused (Split.Done h t1) r n t o q = omega arith

@@ -1,6 +1,7 @@
 -- What the header says of a number and of what goes out, without the answers' own words. Each is proved in proofs/Promises.
 use Prim.Native.Nat.{ℕ, _<_, _≤_}
 use mathlib.Core.Path.{_≡_}
+use Rattle.storage.specs.Refusals.{lastNumber}
 use Rattle.storage.specs.declared.Change.{Change}
 use Rattle.storage.specs.declared.Found.{Found}
 use Rattle.storage.specs.declared.Number.{Number}
@@ -11,16 +12,16 @@ use Rattle.sheet.specs.declared.Reading.{Reading}
 use Rattle.sheet.specs.declared.Added.{Added}
 use Rattle.answers.specs.Answers.{ChangeOut, SplitOut, FoundOut, NumberOut, FieldOut, TruthOut, ReadingOut, AddedOut}
 
--- no number is over 14
-pub record AtMost14 : Type 0 where
-  pub change : (a : Change) (r n : ℕ) → ChangeOut a r n → r ≤ 14
-  pub split : (a : Split) (r n t : ℕ) → SplitOut a r n t → r ≤ 14
-  pub found : (a : Found) (r f v : ℕ) → FoundOut a r f v → r ≤ 14
-  pub number : (a : Number) (r v : ℕ) → NumberOut a r v → r ≤ 14
-  pub field : (a : Field) (r v : ℕ) → FieldOut a r v → r ≤ 14
-  pub truth : (a : Truth) (r v : ℕ) → TruthOut a r v → r ≤ 14
-  pub reading : (a : Reading) (r k n : ℕ) → ReadingOut a r k n → r ≤ 14
-  pub added : (a : Added) (old r n : ℕ) → AddedOut a old r n → r ≤ 14
+-- no number is over the last one there is
+pub record AtMostLast : Type 0 where
+  pub change : (a : Change) (r n : ℕ) → ChangeOut a r n → r ≤ lastNumber
+  pub split : (a : Split) (r n t : ℕ) → SplitOut a r n t → r ≤ lastNumber
+  pub found : (a : Found) (r f v : ℕ) → FoundOut a r f v → r ≤ lastNumber
+  pub number : (a : Number) (r v : ℕ) → NumberOut a r v → r ≤ lastNumber
+  pub field : (a : Field) (r v : ℕ) → FieldOut a r v → r ≤ lastNumber
+  pub truth : (a : Truth) (r v : ℕ) → TruthOut a r v → r ≤ lastNumber
+  pub reading : (a : Reading) (r k n : ℕ) → ReadingOut a r k n → r ≤ lastNumber
+  pub added : (a : Added) (old r n : ℕ) → AddedOut a old r n → r ≤ lastNumber
 
 -- a refused call hands out 0, and the old length of a sheet
 pub record RefusedHandsOut : Type 0 where

@@ -11,8 +11,7 @@ use Rattle.sheet.specs.Meaning.{onward, effect}
 use Rattle.sheet.specs.Reads.{step, made, editionOf}
 use Rattle.sheet.specs.declared.Edit.{Edit}
 use Rattle.sheet.proofs.Turns.{stop-next, next-inj}
-use Rattle.sheet.proofs.Steps.{step-sound}
-use Rattle.sheet.proofs.Spaces.{only-space}
+use Rattle.sheet.proofs.Steps.{step-sound, step-six}
 
 made-next : (o : Outcome) (s : Bits) → made o ≡ next s → o ≡ done s
 made-next (refused e) s q = absurd (stop-next q)
@@ -45,4 +44,4 @@ module _ (c n : ℕ) where
   -- a step's own number
   pub step-stops : (k : ℕ) (e : Edit) (b : Bits) (x : Refusal) → c ≤ limit → Kept c b → Ranged e → editionOf c n .step k e b ≡ stop x → numberOf x ≡ 6
   unfolding editionOf
-  step-stops k e b x l h r q = ap numberOf (only-space c e b x l (h .bounded) (h .space) r (made-stop (step e c b) x q))
+  step-stops k e b x l h r q = step-six c e b x l (h .bounded) (h .space) r (made-stop (step e c b) x q)

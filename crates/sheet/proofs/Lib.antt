@@ -11,7 +11,6 @@ pub mod Rules
 pub mod Layouts
 pub mod Payloads
 pub mod Papers
-pub mod Spaces
 pub mod Laid
 pub mod Sheets
 pub mod Requests

@@ -47,8 +47,17 @@ Means (ToggleRegion p k) b s = (k ≡ 0 → s ≡ b) × ((k ≡ 0 → ⊥) → F
 Means (Open p k) b s = Opens p k b s
 Means (Close p k) b s = Closes p k b s
 
-abbrev pub StepsMean : Type 0
-StepsMean = (e : Edit) (c : ℕ) (b s : Bits) → Bounded b → step e c b ≡ Outcome.done s → Means e b s
+-- 6, exactly: a step in c words is done where the result that the edit means has space, and makes that one; where it has none, it is refused with 6
+pub record StepExact (e : Edit) (c : ℕ) (b : Bits) : Type 0 where
+  pub done-is : (s : Bits) → (step e c b ≡ Outcome.done s) ↔ (Means e b s × (s .count ≤ c))
+  pub refused-is : (x : Refusal) → (step e c b ≡ Outcome.refused x) ↔ ((numberOf x ≡ 6) × (s : Bits) × Means e b s × (c < s .count))
+  -- an edit means one result, with no member past its words
+  pub one : (s t : Bits) → Means e b s → Means e b t → s ≡ t
+  pub bounded : (s : Bits) → Means e b s → Bounded s
+
+-- in a store that 1 lets pass, of every edit whose fields are in their ranges
+abbrev pub StepsExact : Type 0
+StepsExact = (e : Edit) (c : ℕ) (b : Bits) → c ≤ limit → Bounded b → b .count ≤ c → Ranged e → StepExact e c b
 
 -- the line of an edit in 01's table: its kind, its bytes from its edition on, and the digits of its payload, the fields first and zeros for the unused bits
 pub record AsPrinted (e : Edit) : Type 0 where
@@ -78,10 +87,6 @@ abbrev pub PayloadsExact : Type 0
 PayloadsExact =
     (n c m : ℕ) (r : Item) (e : Edit) → r .duty ≡ true → sizeIn n (r .kind) ≡ some m → ((i : ℕ) → getD (r .payload) i 0 < 256)
     → Asks (editionOf c n) r e ↔ Laid (r .kind) (r .payload) e
-
--- 6: in a store that 1 lets pass, a step of such an edit is refused for want of space alone
-abbrev pub OnlySpace : Type 0
-OnlySpace = (c : ℕ) (e : Edit) (b : Bits) (x : Refusal) → c ≤ limit → Bounded b → b .count ≤ c → Ranged e → step e c b ≡ Outcome.refused x → x ≡ NoSpace
 
 -- a reading in edition n, from the first m words of the store ws, into a store of c words: none of 14, 1 and 2 applies
 pub record Passes (n : ℕ) (ws : List ℕ) (m c : ℕ) : Type 0 where
