@@ -11,7 +11,7 @@ use borrow.Author.Tests.{eq-eqb, ne-eqb}
 use Rattle.word.specs.Sets.{choose}
 use Rattle.word.proofs.Cases.{by-lt}
 use Rattle.storage.specs.declared.Refusal.the-variants.{BadPayload, NewerKind}
-use Rattle.sheet.specs.Kinds.{Row, rowOf, bytesIn, sizeBy, sizeIn, bytesBy, ruleOf, known}
+use Rattle.sheet.specs.Kinds.{Row, table, rowOf, bytesIn, sizeBy, sizeIn, bytesBy, ruleOf, known}
 use Rattle.sheet.specs.declared.Known.the-variants.{Bytes, Newer}
 use Rattle.sheet.proofs.Tables.{past-kinds}
 use Rattle.decode.specs.declared.Asked.{Asked}
@@ -83,7 +83,7 @@ row-bytes e n (some r) p = go (leb (r .since) e) p
 pub record Held (kind n : ℕ) : Type 0 where
   pub bytes : n ≡ bytesOf kind
   pub low : 1 ≤ kind
-  pub high : kind ≤ 11
+  pub high : kind ≤ length table
 
 pub held : (e kind n : ℕ) → Bytes n ≡ known (sizeIn e kind) → Held kind n
 unfolding sizeIn bytesOf
@@ -91,7 +91,7 @@ held e zero n p = absurd (never p)
 held e (suc k) n p = record {
   bytes = row-bytes e n (rowOf (suc k)) p;
   low = omega arith;
-  high = by-lt 11 (suc k) (λ l. absurd (never (p ∙ ap known (past-kinds e (suc k) (omega arith))))) (λ l. l);
+  high = by-lt (length table) (suc k) (λ l. absurd (never (p ∙ ap known (past-kinds e (suc k) (omega arith))))) (λ l. l);
 }
 
 -- ---- what is asked
