@@ -21,12 +21,12 @@ use Rattle.bits.proofs.Moves.{toggling-past}
 -- ---- toggle
 
 -- i flipped, in as many words
-abbrev turned : ℕ → Bits → Bits
-turned i b = record { members = λ j. xorb (b .members j) (eqb j i); count = b .count }
+abbrev flippedAt : ℕ → Bits → Bits
+flippedAt i b = record { members = λ j. xorb (b .members j) (eqb j i); count = b .count }
 
-toggling-below : (i c : ℕ) (b : Bits) → i < 64 * b .count → toggling i c b ≡ done (turned i b)
+toggling-below : (i c : ℕ) (b : Bits) → i < 64 * b .count → toggling i c b ≡ done (flippedAt i b)
 unfolding toggling
-toggling-below i c b l = ap (λ (t : Bool). choose t (done (turned i b)) (refused PastLength)) (lt-ltb i (64 * b .count) l)
+toggling-below i c b l = ap (λ (t : Bool). choose t (done (flippedAt i b)) (refused PastLength)) (lt-ltb i (64 * b .count) l)
 
 toggled : (i c : ℕ) (b s : Bits) → toggling i c b ≡ done s → (i < 64 * b .count) × Toggled i b s
 toggled i c b s q =

@@ -26,6 +26,7 @@ same-set f g to from i =
 fewest : (s t : Bits) → ((i : ℕ) → s .members i ≡ t .members i) → Trimmed s → Trimmed t → s .count ≡ t .count
 fewest s t f a b = omega (arith, a .least (t .count) (λ i y. b .holds i (sym (f i) ∙ y)), b .least (s .count) (λ i y. a .holds i (f i ∙ y)))
 
+-- and of the members in the first n words
 fewest-of : (n : ℕ) (s t : Bits) → ((i : ℕ) → s .members i ≡ t .members i) → LeastCount (s .members) n (s .count) → LeastCount (t .members) n (t .count)
     → s .count ≡ t .count
 fewest-of n s t f a b =
