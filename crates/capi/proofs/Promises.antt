@@ -41,7 +41,7 @@ print ws bs bs' n r v h p =
 
 kept : (a : Added) (bs bs' : List ℕ) (n r n' : ℕ) → AddedOut a n r n' → Leaves bs a bs' → 0 < r → (n' ≡ n) × (bs' ≡ bs)
 kept (Done m) bs bs' n r n' o k p = absurd (omega (arith, o .number))
-kept (Refused e) bs bs' n r n' o k p = (o .length, k .kept e refl)
+kept (Refused e) bs bs' n r n' o k p = (o .length, k .kept (omega (arith, o .number)))
 
 start : (bs bs' : List ℕ) (n r n' : ℕ) → Written (started bs) n r bs' n' → 0 < r → (n' ≡ n) × (bs' ≡ bs)
 start bs bs' n r n' h = kept _ bs bs' n r n' (h .out) (starting-means bs _ bs' (record { answers = refl; leaves = h .leaves }) .leaves)

@@ -14,5 +14,6 @@ pub mod Papers
 pub mod Laid
 pub mod Sheets
 pub mod Requests
+pub mod Grown
 pub mod Written
 pub mod Writings

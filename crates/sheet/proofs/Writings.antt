@@ -11,29 +11,38 @@ use native.Mathlib.Nat.{add-zero, add-suc, suc-add, zero-add}
 use lib.ListN.{set as put, length, take, drop, length-take}
 use lib.Seq.{sets, drop-set-lt, length-sets}
 use lib.Dec.{leb, ltb}
-use borrow.Author.Tests.{lt-ltb, le-ltb, le-leb, lt-leb}
+use borrow.Author.Tests.{ltb-true, ltb-false, lt-ltb, le-ltb, le-leb, lt-leb}
 use Rattle.word.specs.Sets.{choose}
 use Rattle.word.proofs.Cases.{by-lt, or-true}
 use Rattle.storage.specs.Stores.{Bits, view}
+use Rattle.storage.specs.Refusals.{numberOf}
+use Rattle.storage.proofs.Promises.{each-number-once}
 use Rattle.storage.specs.declared.Refusal.{Refusal}
 use Rattle.storage.specs.declared.Refusal.the-variants.{CountOverStore, NoSpace}
 use Rattle.sheet.specs.Bytes.{bytes}
 use Rattle.sheet.specs.Reader.{Turn, done, countIn, endAt, read}
-use Rattle.sheet.specs.Meaning.{Header, start, Whole}
+use Rattle.sheet.specs.Meaning.{Header, total, start, Whole}
 use Rattle.sheet.specs.Reads.{editionOf, latest, fitting, Course, went, course, readAnswer, readStore, readingNumber, readingRecord, readingCount}
-use Rattle.sheet.specs.Writer.{Request, requested, Entry, bytesOf, framesFault, sheetFault, Left, refuse, started, placed, placedBy, judged, added, Writes, Starts, Adds}
-use Rattle.sheet.specs.Plain.{asked, refusalOf, entryOf, answers, lastLength, lastBuffer, plainAnswers, lastPlain}
-use Rattle.sheet.specs.Promises.{SheetGets, no-header, cut, remain, nothing, AddGets, over, fault, wrong, full, fine, Leaves, AddMeans, StartMeans, WholeLists}
+use Rattle.sheet.specs.Writer.{most, Request, duty, remark, requested, Entry, edit, note, Checked, bad, good, checkedOf, bytesOf, framesFault, sheetFault, Left, refuse, started, placed, placedBy, judged, added, Writes, Starts, Adds, addedNumber, addedLength}
+use Rattle.sheet.specs.Plain.{asked, sheetOf, refusalOf, editFor, entryOf, answers, lastLength, lastBuffer, plainAnswers, lastPlain}
+use Rattle.sheet.specs.Promises.{SheetGets, no-header, cut, remain, nothing, RequestGets, bytesAsked, AddGets, over, fault, wrong, full, fine, Leaves, Grows, AddMeans, Holding, StartGets, short, fresh, StartMeans, WholeLists}
 use Rattle.sheet.specs.declared.Fields.{Fields}
 use Rattle.sheet.specs.declared.Added.{Added}
 use Rattle.sheet.specs.declared.Added.the-variants.{Done, Refused}
-use Rattle.sheet.proofs.Turns.{none-some, take-true, take-false, header?, headed-true, headed-false}
+use Rattle.sheet.proofs.Turns.{take-true, take-false, header?, headed-true, headed-false}
 use Rattle.sheet.proofs.Rules.{length-bytes}
 use Rattle.sheet.proofs.Laid.{read-sheet, in-latest}
 use Rattle.sheet.proofs.Readings.{course-passes, fits-old}
-use Rattle.sheet.proofs.Requests.{verdict, same-checks, kind-kept}
-use Rattle.sheet.proofs.Written.{same-request, Fronts, along}
+use Rattle.sheet.proofs.Papers.{table-agrees}
+use Rattle.sheet.proofs.Requests.{Says, checks-say, checks-good, request-gets, request-is}
+use Rattle.sheet.proofs.Grown.{put-last, count-front, bytes-long, grown, framed-entry, wanted}
+use Rattle.sheet.proofs.Written.{begun, same-request, Fronts, along}
 use Rattle.sheet.proofs.Sheets.{sheet-is}
+
+-- the number of a fault, 0 for none
+abbrev faultNumber : Option Refusal → ℕ
+faultNumber none = 0
+faultNumber (some e) = numberOf e
 
 -- ---- the sheet given
 
@@ -41,19 +50,22 @@ module _ (sheet : List ℕ) where
   abbrev WholeBelow : ℕ → Type 0
   WholeBelow n = (j : ℕ) → j < n → Whole sheet j
 
+  abbrev GetsFault : Option Refusal → Type 0
+  GetsFault o = SheetGets sheet (faultNumber o)
+
   within : Header sheet → (n : ℕ) → WholeBelow n → start sheet n ≤ length sheet
   unfolding start
   within h zero w = h .0
   within h (suc n) w = w n (omega arith)
 
-  walked : Header sheet → (n i : ℕ) → i + n ≡ countIn sheet → WholeBelow i → SheetGets sheet (framesFault sheet n (start sheet i))
+  walked : Header sheet → (n i : ℕ) → i + n ≡ countIn sheet → WholeBelow i → GetsFault (framesFault sheet n (start sheet i))
   unfolding framesFault start
   walked h zero i c w =
       let e : i ≡ countIn sheet = sym (add-zero i) ∙ c in
       let all : WholeBelow (countIn sheet) = subst WholeBelow e w in
       by-lt (start sheet i) (length sheet)
-      (λ l. subst (SheetGets sheet) (sym (take-true _ _ (lt-ltb (start sheet i) (length sheet) l))) (remain h all (subst (λ (n : ℕ). start sheet n < length sheet) e l) refl))
-      (λ l. subst (SheetGets sheet) (sym (take-false _ _ (le-ltb (start sheet i) (length sheet) l)))
+      (λ l. subst GetsFault (sym (take-true _ _ (lt-ltb (start sheet i) (length sheet) l))) (remain h all (subst (λ (n : ℕ). start sheet n < length sheet) e l) refl))
+      (λ l. subst GetsFault (sym (take-false _ _ (le-ltb (start sheet i) (length sheet) l)))
       (nothing h all (subst (λ (n : ℕ). start sheet n ≡ length sheet) e (omega (arith, within h i w))) refl))
   walked h (suc n) i c w = go (λ w′. walked h n (suc i) (suc-add i n ∙ sym (add-suc i n) ∙ c) w′) (decLe (endAt sheet (start sheet i)) (length sheet))
     where
@@ -64,95 +76,181 @@ module _ (sheet : List ℕ) where
           on (yes k) = w j k
           on (no k) = let e : i ≡ j = omega arith in subst (Whole sheet) e u
 
-      go : (WholeBelow (suc i) → SheetGets sheet (framesFault sheet n (start sheet (suc i)))) → Dec (Whole sheet i) → SheetGets sheet (framesFault sheet (suc n) (start sheet i))
-      go ih (yes u) = subst (SheetGets sheet) (sym (take-true _ _ (le-leb (endAt sheet (start sheet i)) (length sheet) u))) (ih (more u))
-      go ih (no u) = subst (SheetGets sheet) (sym (take-false _ _ (lt-leb (endAt sheet (start sheet i)) (length sheet) (omega arith)))) (cut h i (omega arith) w u refl)
+      go : (WholeBelow (suc i) → GetsFault (framesFault sheet n (start sheet (suc i)))) → Dec (Whole sheet i) → GetsFault (framesFault sheet (suc n) (start sheet i))
+      go ih (yes u) = subst GetsFault (sym (take-true _ _ (le-leb (endAt sheet (start sheet i)) (length sheet) u))) (ih (more u))
+      go ih (no u) = subst GetsFault (sym (take-false _ _ (lt-leb (endAt sheet (start sheet i)) (length sheet) (omega arith)))) (cut h i (omega arith) w u refl)
 
-  sheet-gets : SheetGets sheet (sheetFault sheet)
+  sheet-gets : GetsFault (sheetFault sheet)
   unfolding sheetFault start
   sheet-gets = go (header? sheet)
     where
-      go : Dec (Header sheet) → SheetGets sheet (sheetFault sheet)
-      go (yes h) = subst (SheetGets sheet) (sym (take-true _ _ (headed-true sheet h))) (walked h (countIn sheet) 0 (zero-add (countIn sheet)) (λ j l. absurd (omega arith)))
-      go (no h) = no-header h (take-false _ _ (headed-false sheet h))
+      go : Dec (Header sheet) → GetsFault (sheetFault sheet)
+      go (yes h) = subst GetsFault (sym (take-true _ _ (headed-true sheet h))) (walked h (countIn sheet) 0 (zero-add (countIn sheet)) (λ j l. absurd (omega arith)))
+      go (no h) = no-header h (ap faultNumber (take-false _ _ (headed-false sheet h)))
 
   -- at most one of them applies
-  once : (o q : Option Refusal) → SheetGets sheet o → SheetGets sheet q → o ≡ q
-  once o q (no-header h e) (no-header h′ e′) = e ∙ sym e′
-  once o q (no-header h e) (cut h′ i l w n e′) = absurd (h h′)
-  once o q (no-header h e) (remain h′ w l e′) = absurd (h h′)
-  once o q (no-header h e) (nothing h′ w l e′) = absurd (h h′)
-  once o q (cut h i l w n e) (no-header h′ e′) = absurd (h′ h)
-  once o q (cut h i l w n e) (cut h′ i′ l′ w′ n′ e′) = e ∙ sym e′
-  once o q (cut h i l w n e) (remain h′ w′ l′ e′) = absurd (n (w′ i l))
-  once o q (cut h i l w n e) (nothing h′ w′ l′ e′) = absurd (n (w′ i l))
-  once o q (remain h w l e) (no-header h′ e′) = absurd (h′ h)
-  once o q (remain h w l e) (cut h′ i′ l′ w′ n′ e′) = absurd (n′ (w i′ l′))
-  once o q (remain h w l e) (remain h′ w′ l′ e′) = e ∙ sym e′
-  once o q (remain h w l e) (nothing h′ w′ l′ e′) = absurd (omega arith)
-  once o q (nothing h w l e) (no-header h′ e′) = absurd (h′ h)
-  once o q (nothing h w l e) (cut h′ i′ l′ w′ n′ e′) = absurd (n′ (w i′ l′))
-  once o q (nothing h w l e) (remain h′ w′ l′ e′) = absurd (omega arith)
-  once o q (nothing h w l e) (nothing h′ w′ l′ e′) = e ∙ sym e′
+  once : (x y : ℕ) → SheetGets sheet x → SheetGets sheet y → x ≡ y
+  once x y (no-header h e) (no-header h′ e′) = e ∙ sym e′
+  once x y (no-header h e) (cut h′ i l w n e′) = absurd (h h′)
+  once x y (no-header h e) (remain h′ w l e′) = absurd (h h′)
+  once x y (no-header h e) (nothing h′ w l e′) = absurd (h h′)
+  once x y (cut h i l w n e) (no-header h′ e′) = absurd (h′ h)
+  once x y (cut h i l w n e) (cut h′ i′ l′ w′ n′ e′) = e ∙ sym e′
+  once x y (cut h i l w n e) (remain h′ w′ l′ e′) = absurd (n (w′ i l))
+  once x y (cut h i l w n e) (nothing h′ w′ l′ e′) = absurd (n (w′ i l))
+  once x y (remain h w l e) (no-header h′ e′) = absurd (h′ h)
+  once x y (remain h w l e) (cut h′ i′ l′ w′ n′ e′) = absurd (n′ (w i′ l′))
+  once x y (remain h w l e) (remain h′ w′ l′ e′) = e ∙ sym e′
+  once x y (remain h w l e) (nothing h′ w′ l′ e′) = absurd (omega arith)
+  once x y (nothing h w l e) (no-header h′ e′) = absurd (h′ h)
+  once x y (nothing h w l e) (cut h′ i′ l′ w′ n′ e′) = absurd (n′ (w i′ l′))
+  once x y (nothing h w l e) (remain h′ w′ l′ e′) = absurd (omega arith)
+  once x y (nothing h w l e) (nothing h′ w′ l′ e′) = e ∙ sym e′
 
-  fault-is : (o : Option Refusal) → SheetGets sheet o → sheetFault sheet ≡ o
-  fault-is o g = once (sheetFault sheet) o sheet-gets g
+  fault-is : (x : ℕ) → SheetGets sheet x → faultNumber (sheetFault sheet) ≡ x
+  fault-is x g = once (faultNumber (sheetFault sheet)) x sheet-gets g
 
-  fault-of : (o : Option Refusal) → sheetFault sheet ≡ o → SheetGets sheet o
-  fault-of o e = subst (SheetGets sheet) e sheet-gets
+  fault-none : SheetGets sheet 0 → sheetFault sheet ≡ none
+  fault-none g = go (sheetFault sheet) refl (fault-is 0 g)
+    where
+      go : (o : Option Refusal) → sheetFault sheet ≡ o → faultNumber o ≡ 0 → sheetFault sheet ≡ none
+      go none a z = a
+      go (some e) a z = absurd (omega (arith, each-number-once .range e .0))
+
+  -- a sheet with no fault
+  record Good : Type 0 where
+    headed : Header sheet
+    whole : WholeBelow (total sheet)
+    ends : start sheet (total sheet) ≡ length sheet
+
+  good-sheet : SheetGets sheet 0 → Good
+  good-sheet (no-header h q) = absurd (omega arith)
+  good-sheet (cut h i l w n q) = absurd (omega arith)
+  good-sheet (remain h w l q) = absurd (omega arith)
+  good-sheet (nothing h w l q) = record { headed = h; whole = w; ends = l }
 
 -- ---- one addition
 
+bytes-asked : (q : Request) → length (bytesOf (entryOf q)) ≡ 3 + bytesAsked q
+unfolding entryOf
+bytes-asked (duty k f) = bytes-long (edit (editFor k f)) ∙ ap (λ (n : ℕ). 3 + n) (table-agrees .lines (editFor k f) .bytes .0)
+bytes-asked (remark k p) = bytes-long (note k p)
+
 module _ (buf : List ℕ) (len : ℕ) (q : Request) where
-  abbrev end : ℕ
-  end = len + length (bytesOf (entryOf q))
+  abbrev sheet : List ℕ
+  sheet = take len buf
+
+  abbrev new : List ℕ
+  new = bytesOf (entryOf q)
+
+  abbrev raised : List ℕ
+  raised = sets buf 2 (bytes 2 (countIn buf + 1))
+
+  abbrev put-in : Left
+  put-in = record { answer = Done (len + length new); buffer = sets raised len new }
+
+  end-is : len + length new ≡ len + 3 + bytesAsked q
+  end-is = omega (arith, bytes-asked q)
+
+  -- the call is refused with a number
+  abbrev Refuses : ℕ → Type 0
+  Refuses x = (e : Refusal) × (numberOf e ≡ x) × (added buf len q ≡ refuse e buf)
 
   by-over : length buf < len → added buf len q ≡ refuse CountOverStore buf
   unfolding added
   by-over l = take-true _ _ (lt-ltb (length buf) len l)
 
-  by-fault : len ≤ length buf → (o : Option Refusal) → sheetFault (take len buf) ≡ o → added buf len q ≡ judged buf len q o
+  by-fault : len ≤ length buf → (o : Option Refusal) → sheetFault sheet ≡ o → added buf len q ≡ judged buf len q o
   unfolding added
   by-fault l o e = take-false _ _ (le-ltb (length buf) len l) ∙ ap (judged buf len q) e
 
-  by-request : len ≤ length buf → sheetFault (take len buf) ≡ none → (o : Option Refusal) → refusalOf q ≡ o → added buf len q ≡ placedBy buf len (verdict q o)
-  by-request l e o r = by-fault l none e ∙ ap (placedBy buf len) (same-checks q ∙ ap (verdict q) r)
-
-  no-room : (e : Entry) → (65_535 ≤ countIn buf) ⊎ (length buf < len + length (bytesOf e)) → placed buf len e ≡ refuse NoSpace buf
-  unfolding placed
-  no-room e (inl l) = take-true _ _ (ap (λ (t : Bool). t || ltb (length buf) (len + length (bytesOf e))) (le-leb 65_535 (countIn buf) l))
-  no-room e (inr l) = take-true _ _ (ap (λ (t : Bool). leb 65_535 (countIn buf) || t) (lt-ltb (length buf) (len + length (bytesOf e)) l) ∙ or-true (leb 65_535 (countIn buf)))
-
-  room : (e : Entry) → countIn buf < 65_535 → len + length (bytesOf e) ≤ length buf
-      → placed buf len e ≡ record { answer = Done (len + length (bytesOf e)); buffer = sets (sets buf 2 (bytes 2 (countIn buf + 1))) len (bytesOf e) }
-  unfolding placed
-  room e l m = take-false _ _ (ap₂ (λ (x y : Bool). x || y) (lt-leb 65_535 (countIn buf) l) (le-ltb (length buf) (len + length (bytesOf e)) m))
-
-  gets : AddGets buf len q (added buf len q .answer)
-  gets =
-      by-lt (length buf) len
-      (λ l. over l (ap (λ (x : Left). x .answer) (by-over l)))
-      (λ l. given l (sheetFault (take len buf)) refl)
+  at-fault : len ≤ length buf → (x : ℕ) → SheetGets sheet x → 0 < x → Refuses x
+  at-fault l x g p = go (sheetFault sheet) refl (fault-is sheet x g)
     where
-      asked : len ≤ length buf → sheetFault (take len buf) ≡ none → (o : Option Refusal) → refusalOf q ≡ o → AddGets buf len q (added buf len q .answer)
-      asked l e (some x) r = wrong l (fault-of (take len buf) none e) x r (ap (λ (y : Left). y .answer) (by-request l e (some x) r))
-      asked l e none r =
-          by-lt (countIn buf) 65_535
-          (λ u. by-lt (length buf) end
-          (λ v. full l (fault-of (take len buf) none e) r (inr v) (ap (λ (y : Left). y .answer) (by-request l e none r ∙ no-room (entryOf q) (inr v))))
-          (λ v. fine l (fault-of (take len buf) none e) r u v (ap (λ (y : Left). y .answer) (by-request l e none r ∙ room (entryOf q) u v))))
-          (λ u. full l (fault-of (take len buf) none e) r (inl u) (ap (λ (y : Left). y .answer) (by-request l e none r ∙ no-room (entryOf q) (inl u))))
+      go : (o : Option Refusal) → sheetFault sheet ≡ o → faultNumber o ≡ x → Refuses x
+      go none a z = absurd (omega arith)
+      go (some e) a z = (e, z, by-fault l (some e) a)
 
-      given : len ≤ length buf → (o : Option Refusal) → sheetFault (take len buf) ≡ o → AddGets buf len q (added buf len q .answer)
-      given l (some x) e = fault l x (fault-of (take len buf) (some x) e) (ap (λ (y : Left). y .answer) (by-fault l (some x) e))
-      given l none e = asked l e (refusalOf q) refl
+  module _ (l : len ≤ length buf) (g : SheetGets sheet 0) where
+    by-request : added buf len q ≡ placedBy buf len (checkedOf q)
+    by-request = by-fault l none (fault-none sheet g)
 
-  given : (x : Added) → AddGets buf len q x → added buf len q .answer ≡ x
-  given x (over l e) = ap (λ (y : Left). y .answer) (by-over l) ∙ sym e
-  given x (fault l d g e) = ap (λ (y : Left). y .answer) (by-fault l (some d) (fault-is (take len buf) (some d) g)) ∙ sym e
-  given x (wrong l g d r e) = ap (λ (y : Left). y .answer) (by-request l (fault-is (take len buf) none g) (some d) r) ∙ sym e
-  given x (full l g r u e) = ap (λ (y : Left). y .answer) (by-request l (fault-is (take len buf) none g) none r ∙ no-room (entryOf q) u) ∙ sym e
-  given x (fine l g r u v e) = ap (λ (y : Left). y .answer) (by-request l (fault-is (take len buf) none g) none r ∙ room (entryOf q) u v) ∙ sym e
+    at-wrong : (x : ℕ) → RequestGets q x → 0 < x → Refuses x
+    at-wrong x w p = go (checkedOf q) refl (checks-say q)
+      where
+        go : (c : Checked) → checkedOf q ≡ c → Says q c → Refuses x
+        go (bad e) a h = (e, sym h ∙ request-is q x w, by-request ∙ ap (placedBy buf len) a)
+        go (good y) a h = absurd (omega (arith, h .0, request-is q x w))
+
+    module _ (w : RequestGets q 0) where
+      by-good : added buf len q ≡ placed buf len (entryOf q)
+      by-good = by-request ∙ ap (placedBy buf len) (checks-good q (checkedOf q) (checks-say q) (request-is q 0 w))
+
+      counted : total sheet ≡ countIn buf
+      counted = count-front buf len (good-sheet sheet g .headed .0)
+
+      no-room : (most ≤ total sheet) ⊎ (length buf < len + 3 + bytesAsked q) → added buf len q ≡ refuse NoSpace buf
+      unfolding placed
+      no-room (inl u) = by-good ∙ take-true _ _ (ap (λ (t : Bool). t || ltb (length buf) (len + length new)) (le-leb most (countIn buf) (omega (arith, counted))))
+      no-room (inr v) =
+          by-good ∙ take-true _ _ (ap (λ (t : Bool). leb most (countIn buf) || t) (lt-ltb (length buf) (len + length new) (omega (arith, end-is))) ∙ or-true (leb most (countIn buf)))
+
+      room : total sheet < most → len + 3 + bytesAsked q ≤ length buf → added buf len q ≡ put-in
+      unfolding placed
+      room u v =
+          by-good
+          ∙ take-false _ _ (ap₂ (λ (s t : Bool). s || t) (lt-leb most (countIn buf) (omega (arith, counted))) (le-ltb (length buf) (len + length new) (omega (arith, end-is))))
+
+  -- what it came to
+  data Came : Left → Type 0 where
+    refusing : (e : Refusal) → AddGets buf len q (numberOf e) 0 → Came (refuse e buf)
+    putting : len ≤ length buf → SheetGets sheet 0 → RequestGets q 0 → total sheet < most → len + 3 + bytesAsked q ≤ length buf → Came put-in
+
+  came : Came (added buf len q)
+  came = by-lt (length buf) len (λ l. subst Came (sym (by-over l)) (refusing CountOverStore (over l refl refl))) given
+    where
+      held : len ≤ length buf → SheetGets sheet 0 → RequestGets q 0 → Came (added buf len q)
+      held l g w =
+          by-lt (total sheet) most
+          (λ u. by-lt (length buf) (len + 3 + bytesAsked q)
+          (λ v. subst Came (sym (no-room l g w (inr v))) (refusing NoSpace (full l g w (inr v) refl refl)))
+          (λ v. subst Came (sym (room l g w u v)) (putting l g w u v)))
+          (λ u. subst Came (sym (no-room l g w (inl u))) (refusing NoSpace (full l g w (inl u) refl refl)))
+
+      asked : len ≤ length buf → SheetGets sheet 0 → Came (added buf len q)
+      asked l g =
+          by-lt 0 (refusalOf q)
+          (λ p.
+          let (e, z, a) = at-wrong l g (refusalOf q) (request-gets q) p in
+          subst Came (sym a) (refusing e (wrong l g (subst (RequestGets q) (sym z) (request-gets q)) (omega arith) refl)))
+          (λ p. let z : refusalOf q ≡ 0 = omega arith in held l g (subst (RequestGets q) z (request-gets q)))
+
+      given : len ≤ length buf → Came (added buf len q)
+      given l =
+          by-lt 0 (faultNumber (sheetFault sheet))
+          (λ p.
+          let (e, z, a) = at-fault l (faultNumber (sheetFault sheet)) (sheet-gets sheet) p in
+          subst Came (sym a) (refusing e (fault l (subst (SheetGets sheet) (sym z) (sheet-gets sheet)) (omega arith) refl)))
+          (λ p. let z : faultNumber (sheetFault sheet) ≡ 0 = omega arith in asked l (subst (SheetGets sheet) z (sheet-gets sheet)))
+
+  gets : (a : Left) → Came a → AddGets buf len q (addedNumber (a .answer)) (addedLength (a .answer))
+  gets a (refusing e g) = g
+  gets a (putting l g w u v) = fine l g w u v refl end-is
+
+  -- and no other number and length
+  gives : (x n : ℕ) → AddGets buf len q x n → (addedNumber (added buf len q .answer) ≡ x) × (addedLength (added buf len q .answer) ≡ n)
+  gives x n h = go h
+    where
+      refused : Refuses x → n ≡ 0 → (addedNumber (added buf len q .answer) ≡ x) × (addedLength (added buf len q .answer) ≡ n)
+      refused (e, z, a) m = (ap (λ (l : Left). addedNumber (l .answer)) a ∙ z, ap (λ (l : Left). addedLength (l .answer)) a ∙ sym m)
+
+      go : AddGets buf len q x n → (addedNumber (added buf len q .answer) ≡ x) × (addedLength (added buf len q .answer) ≡ n)
+      go (over l e m) = refused (CountOverStore, sym e, by-over l) m
+      go (fault l g p m) = refused (at-fault l x g p) m
+      go (wrong l g w p m) = refused (at-wrong l g x w p) m
+      go (full l g w u e m) = refused (NoSpace, sym e, no-room l g w u) m
+      go (fine l g w u v e m) =
+          (ap (λ (a : Left). addedNumber (a .answer)) (room l g w u v) ∙ sym e, ap (λ (a : Left). addedLength (a .answer)) (room l g w u v) ∙ end-is ∙ sym m)
 
 -- ---- what is left in the buffer
 
@@ -160,110 +258,99 @@ drop-sets : (vs l : List ℕ) (i n : ℕ) → i + length vs ≤ n → drop n (se
 drop-sets [] l i n h = refl
 drop-sets (v ∷ vs) l i n h = drop-sets vs (put l i v) (suc i) n (omega arith) ∙ drop-set-lt n l i v (omega arith)
 
-abbrev LeavesL : List ℕ → Left → Type 0
-LeavesL buf l = Leaves buf (l .answer) (l .buffer)
+refuse-leaves : (e : Refusal) (buf : List ℕ) → Leaves buf (Refused e) buf
+refuse-leaves e buf = record { kept = λ p. refl; long = refl; past = λ z. refl }
 
-not-done : {e : Refusal} {n : ℕ} → Refused e ≡ Done n → ⊥
-not-done q = let z : _≡_ {A = ℕ} 0 1 = cc in omega arith
+module _ (buf : List ℕ) (len : ℕ) (q : Request) where
+  leaves : (a : Left) → Came buf len q a → Leaves buf (a .answer) (a .buffer)
+  leaves a (refusing e g) = refuse-leaves e buf
+  leaves a (putting l g w u v) =
+      let head = good-sheet (sheet buf len q) g .headed in
+      record {
+        kept = λ p. absurd (omega arith);
+        long = length-sets (raised buf len q) len (new buf len q) ∙ length-sets buf 2 (bytes 2 (countIn buf + 1));
+        past = λ z.
+            drop-sets (new buf len q) (raised buf len q) len (len + length (new buf len q)) (omega arith)
+            ∙ drop-sets (bytes 2 (countIn buf + 1)) buf 2 (len + length (new buf len q)) (omega (arith, head .0, length-take len buf, length-bytes 2 (countIn buf + 1)));
+      }
 
-refuse-leaves : (e : Refusal) (buf : List ℕ) → LeavesL buf (refuse e buf)
-refuse-leaves e buf = record { kept = λ d q. refl; long = refl; past = λ n q. absurd (not-done q) }
+  grows : (a : Left) → Came buf len q a → addedNumber (a .answer) ≡ 0 → Grows (take len buf) q (take (addedLength (a .answer)) (a .buffer))
+  grows a (refusing e g) z = absurd (omega (arith, each-number-once .range e .0))
+  grows a (putting l g w u v) z =
+      let its = good-sheet (sheet buf len q) g in
+      let good = request-is q 0 w in
+      subst (Grows (take len buf) q)
+      (sym (put-last (new buf len q) (raised buf len q) len (omega (arith, length-sets buf 2 (bytes 2 (countIn buf + 1)), end-is buf len q))))
+      (grown buf len (entryOf q) l (its .headed) (its .whole) (its .ends) u (framed-entry q good) q (wanted q good))
 
-four-bytes : (sheet : List ℕ) → sheetFault sheet ≡ none → 4 ≤ length sheet
-four-bytes sheet e = go (fault-of sheet none e)
-  where
-    go : SheetGets sheet none → 4 ≤ length sheet
-    go (no-header h q) = absurd (none-some q)
-    go (cut h i l w n q) = absurd (none-some q)
-    go (remain h w l q) = h .0
-    go (nothing h w l q) = h .0
+-- what holds of what a call came to holds of its answer and of the buffer that it left
+by-writes : (P : Added → List ℕ → Type 0) (l : Left) (r : Added) (buf' : List ℕ) → Writes l r buf' → P (l .answer) (l .buffer) → P r buf'
+by-writes P l r buf' w h = subst (λ (a : Added). P a buf') (sym (w .answers)) (subst (P (l .answer)) (sym (w .leaves)) h)
 
-add-leaves : (buf : List ℕ) (len : ℕ) (q : Request) → LeavesL buf (added buf len q)
-add-leaves buf len q =
-    by-lt (length buf) len
-    (λ l. subst (LeavesL buf) (sym (by-over buf len q l)) (refuse-leaves CountOverStore buf))
-    (λ l. on l (sheetFault (take len buf)) refl)
-  where
-    asked : len ≤ length buf → sheetFault (take len buf) ≡ none → (o : Option Refusal) → refusalOf q ≡ o → LeavesL buf (added buf len q)
-    asked l e (some x) r = subst (LeavesL buf) (sym (by-request buf len q l e (some x) r)) (refuse-leaves x buf)
-    asked l e none r =
-        by-lt (countIn buf) 65_535
-        (λ u. by-lt (length buf) (end buf len q)
-        (λ v. subst (LeavesL buf) (sym (by-request buf len q l e none r ∙ no-room buf len q (entryOf q) (inr v))) (refuse-leaves NoSpace buf))
-        (λ v. subst (LeavesL buf) (sym (by-request buf len q l e none r ∙ room buf len q (entryOf q) u v)) (put-in (omega (arith, four-bytes (take len buf) e, length-take len buf)))))
-        (λ u. subst (LeavesL buf) (sym (by-request buf len q l e none r ∙ no-room buf len q (entryOf q) (inl u))) (refuse-leaves NoSpace buf))
-      where
-        raised : List ℕ
-        raised = sets buf 2 (bytes 2 (countIn buf + 1))
-
-        put-in : 4 ≤ len → LeavesL buf (record { answer = Done (end buf len q); buffer = sets raised len (bytesOf (entryOf q)) })
-        put-in four = record {
-          kept = λ d x. absurd (not-done (sym x));
-          long = length-sets raised len (bytesOf (entryOf q)) ∙ length-sets buf 2 (bytes 2 (countIn buf + 1));
-          past = λ n x.
-              let y : end buf len q ≡ n = cc in
-              drop-sets (bytesOf (entryOf q)) raised len n (omega arith) ∙ drop-sets (bytes 2 (countIn buf + 1)) buf 2 n (omega (arith, length-bytes 2 (countIn buf + 1)));
-        }
-
-    on : len ≤ length buf → (o : Option Refusal) → sheetFault (take len buf) ≡ o → LeavesL buf (added buf len q)
-    on l (some x) e = subst (LeavesL buf) (sym (by-fault buf len q l (some x) e)) (refuse-leaves x buf)
-    on l none e = asked l e (refusalOf q) refl
-
-start-leaves : (buf : List ℕ) → LeavesL buf (started buf)
-unfolding started
-start-leaves buf = go (ltb (length buf) 4)
-  where
-    go : (t : Bool) → LeavesL buf (choose t (refuse NoSpace buf) (record { answer = Done 4; buffer = sets buf 0 (78 ∷ 83 ∷ 0 ∷ 0 ∷ []) }))
-    go true = refuse-leaves NoSpace buf
-    go false = record {
-      kept = λ d x. absurd (not-done (sym x));
-      long = length-sets buf 0 (78 ∷ 83 ∷ 0 ∷ 0 ∷ []);
-      past = λ n x. let y : 4 ≡ n = cc in drop-sets (78 ∷ 83 ∷ 0 ∷ 0 ∷ []) buf 0 n (omega arith);
-    }
-
-leaves-by : (buf : List ℕ) (l : Left) (r : Added) (buf' : List ℕ) → Writes l r buf' → LeavesL buf l → Leaves buf r buf'
-leaves-by buf l r buf' w h = record {
-  kept = λ e q. w .leaves ∙ h .kept e (sym (w .answers) ∙ q);
-  long = ap length (w .leaves) ∙ h .long;
-  past = λ n q. ap (drop n) (w .leaves) ∙ h .past n (sym (w .answers) ∙ q);
-}
+exactly : (G : ℕ → ℕ → Type 0) (a b x n : ℕ) → G a b → (a ≡ x) × (b ≡ n) → G x n
+exactly G a b x n g h = subst (λ (y : ℕ). G y n) (h .0) (subst (G a) (h .1) g)
 
 -- (d): each number exactly, whatever is asked of whatever buffer
 pub adding-means : (buf : List ℕ) (len : ℕ) (d : Bool) (kind : ℕ) (f : Fields) (payload : List ℕ) (r : Added) (buf' : List ℕ) → Adds buf len d kind f payload r buf'
     → AddMeans buf len (asked d kind f payload) r buf'
-adding-means buf len d kind f payload r buf' w = subst (λ (q : Request). AddMeans buf len q r buf') (same-request d kind f payload) (means (requested d kind f payload) w)
+adding-means buf len d kind f payload r buf' w =
+    subst (λ (q : Request). AddMeans buf len q r buf') (same-request d kind f payload)
+    (by-writes (AddMeans buf len (requested d kind f payload)) (added buf len (requested d kind f payload)) r buf' w (means (requested d kind f payload)))
   where
-    means : (q : Request) → Writes (added buf len q) r buf' → AddMeans buf len q r buf'
-    means q w = record {
-      exact = λ x. ((λ e. subst (AddGets buf len q) (sym (w .answers) ∙ e) (gets buf len q)), λ g. w .answers ∙ given buf len q x g);
-      leaves = leaves-by buf (added buf len q) r buf' w (add-leaves buf len q);
-      kind = λ k g x y. kind-kept g k (sym (ap refusalOf x) ∙ y);
-    }
+    means : (q : Request) → AddMeans buf len q (added buf len q .answer) (added buf len q .buffer)
+    means q =
+        let a = added buf len q in
+        let c = came buf len q in
+        record {
+          exact = λ x n. (exactly (AddGets buf len q) (addedNumber (a .answer)) (addedLength (a .answer)) x n (gets buf len q a c), gives buf len q x n);
+          leaves = leaves buf len q a c;
+          grows = grows buf len q a c;
+        }
 
-short-start : (buf : List ℕ) → length buf < 4 → started buf .answer ≡ Refused NoSpace
-unfolding started
-short-start buf l = ap (λ (x : Left). x .answer) (take-true _ _ (lt-ltb (length buf) 4 l))
+-- ---- a start
 
-fine-start : (buf : List ℕ) → 4 ≤ length buf → started buf .answer ≡ Done 4
-unfolding started
-fine-start buf l = ap (λ (x : Left). x .answer) (take-false _ _ (le-ltb (length buf) 4 l))
+module _ (buf : List ℕ) where
+  -- what is promised of what a start came to
+  start-of : (a : Left) → StartGets buf (addedNumber (a .answer)) (addedLength (a .answer)) → Leaves buf (a .answer) (a .buffer)
+      → (addedNumber (a .answer) ≡ 0 → Holding (take 4 (a .buffer)) [])
+      → ((x n : ℕ) → StartGets buf x n → (addedNumber (a .answer) ≡ x) × (addedLength (a .answer) ≡ n)) → StartMeans buf (a .answer) (a .buffer)
+  start-of a g l h b = record {
+    exact = λ x n. (exactly (StartGets buf) (addedNumber (a .answer)) (addedLength (a .answer)) x n g, b x n);
+    leaves = l;
+    empty = h;
+  }
+
+  started-means : StartMeans buf (started buf .answer) (started buf .buffer)
+  unfolding started sheetOf
+  started-means = go (ltb (length buf) 4) refl
+    where
+      sheet′ : List ℕ
+      sheet′ = 78 ∷ 83 ∷ 0 ∷ 0 ∷ []
+
+      made : Left
+      made = record { answer = Done 4; buffer = sets buf 0 sheet′ }
+
+      made-leaves : Leaves buf (Done 4) (sets buf 0 sheet′)
+      made-leaves = record { kept = λ p. absurd (omega arith); long = length-sets buf 0 sheet′; past = λ z. drop-sets sheet′ buf 0 4 (omega arith) }
+
+      only-short : length buf < 4 → (x n : ℕ) → StartGets buf x n → (6 ≡ x) × (0 ≡ n)
+      only-short l x n (short h a b) = (sym a, sym b)
+      only-short l x n (fresh h a b) = absurd (omega arith)
+
+      only-fresh : 4 ≤ length buf → (x n : ℕ) → StartGets buf x n → (0 ≡ x) × (4 ≡ n)
+      only-fresh l x n (short h a b) = absurd (omega arith)
+      only-fresh l x n (fresh h a b) = (sym a, sym b)
+
+      go : (t : Bool) → ltb (length buf) 4 ≡ t → StartMeans buf (choose t (refuse NoSpace buf) made .answer) (choose t (refuse NoSpace buf) made .buffer)
+      go true e =
+          let l = ltb-true (length buf) 4 e in
+          start-of (refuse NoSpace buf) (short l refl refl) (refuse-leaves NoSpace buf) (λ z. absurd (omega arith)) (only-short l)
+      go false e =
+          let l = ltb-false (length buf) 4 e in
+          start-of made (fresh l refl refl) made-leaves (λ z. subst (λ (s : List ℕ). Holding s []) (sym (begun buf l)) (sheet-is [] (omega arith) tt)) (only-fresh l)
 
 pub starting-means : (buf : List ℕ) (r : Added) (buf' : List ℕ) → Starts buf r buf' → StartMeans buf r buf'
-starting-means buf r buf' w = record {
-  short = λ e. (
-    (λ q. by-lt (length buf) 4
-        (λ l. (l, let y : Refused NoSpace ≡ Refused e = sym (w .answers ∙ short-start buf l) ∙ q in let z : e ≡ NoSpace = cc in z))
-        (λ l. absurd (not-done (sym q ∙ w .answers ∙ fine-start buf l)))),
-    λ h. w .answers ∙ short-start buf (h .0) ∙ ap Refused (sym (h .1)),
-  );
-  fine = λ n. (
-    (λ q. by-lt (length buf) 4
-        (λ l. absurd (not-done (sym (w .answers ∙ short-start buf l) ∙ q)))
-        (λ l. (l, let y : Done 4 ≡ Done n = sym (w .answers ∙ fine-start buf l) ∙ q in let z : n ≡ 4 = cc in z))),
-    λ h. w .answers ∙ fine-start buf (h .0) ∙ ap Done (sym (h .1)),
-  );
-  leaves = leaves-by buf (started buf) r buf' w (start-leaves buf);
-}
+starting-means buf r buf' w = by-writes (StartMeans buf) (started buf) r buf' w (started-means buf)
 
 -- ---- lists of calls
 

@@ -1,41 +1,48 @@
 -- What the writer leaves is the plain sheet, after one call and after every list of calls.
-use Prim.Native.Nat.{ℕ, _+_, _*_, _^_, _/_, _%_, _≤_, _<_}
+use Prim.Native.Nat.{ℕ, zero, suc, _+_, _*_, _^_, _/_, _%_, _≤_, _<_}
 use mathlib.Core.Path.{_≡_, refl, sym, ap, ap₂, _∙_, subst}
 use mathlib.Core.Bool.{Bool, true, false, _||_}
 use mathlib.Core.List.{List, [], _∷_, _++_, append-assoc, append-nil}
 use mathlib.Core.Option.{Option, none, some}
 use native.Mathlib.Omega.{arith}
 use lib.ListN.{set as put, length, getD, take, drop, length-append, length-take}
-use lib.Seq.{sets, sets-eq, take-set-lt, getD-take, take-at, length-sets}
+use lib.Seq.{sets, take-set-lt, getD-take, length-sets}
 use lib.Dec.{leb, ltb}
-use borrow.Author.Tests.{lt-ltb, le-ltb, le-leb}
+use borrow.Author.Tests.{ltb-false, leb-false, le-ltb}
 use Rattle.word.specs.Sets.{choose}
-use Rattle.word.proofs.Cases.{by-lt}
+use Rattle.storage.specs.Refusals.{numberOf}
+use Rattle.storage.proofs.Promises.{each-number-once}
 use Rattle.storage.specs.declared.Refusal.{Refusal}
 use Rattle.storage.specs.declared.Refusal.the-variants.{NoSpace, NotSheet}
 use Rattle.sheet.specs.Bytes.{bytes}
 use Rattle.sheet.specs.Reader.{countIn}
-use Rattle.sheet.specs.Writer.{Request, requested, Entry, bytesOf, sheetFault, Left, refuse, started, placed, placedBy, judged, added, Writes}
-use Rattle.sheet.specs.Plain.{asked, Plain, body, sheetOf, noRoom, refusalOf, entryOf, Answered, refusing, holding, Ask, start, addition, answered, Call, Typed, Went, lengthAfter, InRow, answers, lastLength, lastBuffer, plainAnswers, lastPlain}
+use Rattle.sheet.specs.Writer.{most, Request, requested, Entry, Checked, bad, good, checkedOf, bytesOf, sheetFault, Left, refuse, started, placed, placedBy, judged, added, Writes, addedNumber, addedLength}
+use Rattle.sheet.specs.Plain.{asked, Plain, body, sheetOf, noRoom, refusalOf, entryOf, Answered, refusing, accepting, holding, Ask, start, addition, answered, Call, Typed, Went, lengthAfter, InRow, answers, lastLength, lastBuffer, plainAnswers, lastPlain}
 use Rattle.sheet.specs.declared.Fields.{Fields}
 use Rattle.sheet.specs.declared.Added.{Added}
 use Rattle.sheet.specs.declared.Added.the-variants.{Done}
 use Rattle.sheet.proofs.Turns.{take-false}
 use Rattle.sheet.proofs.Laid.{Proper, AllProper, two-bytes, no-fault}
-use Rattle.sheet.proofs.Requests.{verdict, same-checks, TypedQ, proper-entry}
+use Rattle.sheet.proofs.Grown.{put-last}
+use Rattle.sheet.proofs.Requests.{Says, Passing, checks-say, TypedQ, checks-pass, neither}
 
 -- the buffer's front is the plain sheet
 abbrev pub Fronts : List ℕ → ℕ → Plain → Type 0
 Fronts buf len none = len ≡ 0
-Fronts buf len (some es) = (len ≡ length (sheetOf es)) × (take len buf ≡ sheetOf es) × (length es ≤ 65_535) × AllProper es
+Fronts buf len (some es) = (len ≡ length (sheetOf es)) × (take len buf ≡ sheetOf es) × (length es ≤ most) × AllProper es
 
--- a call's answer and buffer agree with the plain sheet's answer and records
-abbrev Agrees : ℕ → Left → Answered → Type 0
-Agrees len l a = (l .answer ≡ a .answer) × Fronts (l .buffer) (lengthAfter len (l .answer)) (a .plain)
+-- a call's number, length and buffer agree with the plain sheet
+record Agrees (len : ℕ) (l : Left) (a : Answered) : Type 0 where
+  number : addedNumber (l .answer) ≡ a .number
+  long : addedLength (l .answer) ≡ a .long
+  fronts : Fronts (l .buffer) (lengthAfter len (l .answer)) (a .plain)
+
+agree-refused : (buf : List ℕ) (len : ℕ) (p : Plain) (e : Refusal) → Fronts buf len p → Agrees len (refuse e buf) (refusing (numberOf e) p)
+agree-refused buf len p e h = record { number = refl; long = refl; fronts = h }
 
 -- ---- a start
 
-begun : (buf : List ℕ) → 4 ≤ length buf → take 4 (sets buf 0 (78 ∷ 83 ∷ 0 ∷ 0 ∷ [])) ≡ 78 ∷ 83 ∷ 0 ∷ 0 ∷ []
+pub begun : (buf : List ℕ) → 4 ≤ length buf → take 4 (sets buf 0 (78 ∷ 83 ∷ 0 ∷ 0 ∷ [])) ≡ 78 ∷ 83 ∷ 0 ∷ 0 ∷ []
 begun [] h = absurd (omega arith)
 begun (a ∷ []) h = absurd (omega arith)
 begun (a ∷ b ∷ []) h = absurd (omega arith)
@@ -43,18 +50,15 @@ begun (a ∷ b ∷ c ∷ []) h = absurd (omega arith)
 begun (a ∷ b ∷ c ∷ d ∷ buf) h = refl
 
 agree-start : (buf : List ℕ) (len : ℕ) (p : Plain) → Fronts buf len p → Agrees len (started buf) (answered (length buf) start p)
-unfolding started answered
-agree-start buf len p h =
-    by-lt (length buf) 4
-    (λ l. subst (λ (t : Bool). Agrees len (choose t (refuse NoSpace buf) fresh) (choose t (refusing NoSpace p) empty)) (sym (lt-ltb (length buf) 4 l)) (refl, h))
-    (λ l. subst (λ (t : Bool). Agrees len (choose t (refuse NoSpace buf) fresh) (choose t (refusing NoSpace p) empty)) (sym (le-ltb (length buf) 4 l))
-    (refl, (refl, begun buf l, omega arith, tt)))
+unfolding started answered sheetOf
+agree-start buf len p h = go (ltb (length buf) 4) refl
   where
     fresh : Left
     fresh = record { answer = Done 4; buffer = sets buf 0 (78 ∷ 83 ∷ 0 ∷ 0 ∷ []) }
 
-    empty : Answered
-    empty = record { answer = Done 4; plain = some [] }
+    go : (t : Bool) → ltb (length buf) 4 ≡ t → Agrees len (choose t (refuse NoSpace buf) fresh) (choose t (refusing 6 p) (accepting []))
+    go true e = agree-refused buf len p NoSpace h
+    go false e = record { number = refl; long = refl; fronts = (refl, begun buf (ltb-false (length buf) 4 e), omega arith, tt) }
 
 -- ---- an addition
 
@@ -92,8 +96,7 @@ module _ (buf : List ℕ) (len : ℕ) (es : List Entry) (h : Fronts buf len (som
   stored : (e : Entry) → len + length (bytesOf e) ≤ length buf → take (len + length (bytesOf e)) (sets (sets buf 2 (bytes 2 (countIn buf + 1))) len (bytesOf e)) ≡ sheetOf (es ++ e ∷ [])
   unfolding sheetOf
   stored e l =
-      ap (take (len + length (bytesOf e))) (sets-eq (bytesOf e) raised len (rw (length-sets buf 2 (bytes 2 (countIn buf + 1))) l))
-      ∙ take-at (take len raised ++ bytesOf e) (drop (len + length (bytesOf e)) raised) (len + length (bytesOf e)) size
+      put-last (bytesOf e) raised len (rw (length-sets buf 2 (bytes 2 (countIn buf + 1))) l)
       ∙ ap (λ (f : List ℕ). f ++ bytesOf e) front
       ∙ last
     where
@@ -105,52 +108,55 @@ module _ (buf : List ℕ) (len : ℕ) (es : List Entry) (h : Fronts buf len (som
           take-set-lt len (put buf 2 ((countIn buf + 1) / 256 ^ 1 % 256)) 3 ((countIn buf + 1) / 256 ^ 0 % 256) (omega (arith, four))
           ∙ ap (λ (f : List ℕ). put f 3 ((countIn buf + 1) / 256 ^ 0 % 256)) (take-set-lt len buf 2 ((countIn buf + 1) / 256 ^ 1 % 256) (omega (arith, four)) ∙ ap (λ (f : List ℕ). put f 2 ((countIn buf + 1) / 256 ^ 1 % 256)) (h .1))
 
-      size : length (take len raised ++ bytesOf e) ≡ len + length (bytesOf e)
-      size = rw (length-append (take len raised) (bytesOf e), front) (ap (λ (n : ℕ). n + length (bytesOf e)) (sym (h .0)))
-
       last : (78 ∷ 83 ∷ (countIn buf + 1) / 256 ^ 1 % 256 ∷ (countIn buf + 1) / 256 ^ 0 % 256 ∷ body es) ++ bytesOf e ≡ sheetOf (es ++ e ∷ [])
       last = rw (counted, ← (length-snoc es e), body-snoc es e)
 
   -- a record that is refused by nothing but want of room
-  agree-room : (e : Entry) → Proper e → Agrees len (placed buf len e) (holding (length buf) es e none)
+  agree-room : (e : Entry) → Proper e → Agrees len (placed buf len e) (holding (length buf) es e 0)
   unfolding placed
-  agree-room e p =
-      subst (λ (t : Bool). Agrees len (choose (leb 65_535 (countIn buf) || ltb (length buf) (len + length (bytesOf e))) (refuse NoSpace buf) put-in) (choose t (refusing NoSpace (some es)) held))
-      same (go (leb 65_535 (countIn buf) || ltb (length buf) (len + length (bytesOf e))) refl)
+  agree-room e p = subst (λ (t : Bool). Agrees len (placed buf len e) (choose t (refusing 6 (some es)) (accepting (es ++ e ∷ [])))) same (go full refl)
     where
+      end : ℕ
+      end = len + length (bytesOf e)
+
+      full : Bool
+      full = leb most (countIn buf) || ltb (length buf) end
+
       put-in : Left
-      put-in = record { answer = Done (len + length (bytesOf e)); buffer = sets (sets buf 2 (bytes 2 (countIn buf + 1))) len (bytesOf e) }
+      put-in = record { answer = Done end; buffer = sets (sets buf 2 (bytes 2 (countIn buf + 1))) len (bytesOf e) }
 
-      held : Answered
-      held = record { answer = Done (length (sheetOf (es ++ e ∷ []))); plain = some (es ++ e ∷ []) }
+      same : full ≡ noRoom (length buf) es e
+      same = ap₂ (λ (a b : ℕ). leb most a || ltb (length buf) b) counted (sym (longer e))
 
-      same : (leb 65_535 (countIn buf) || ltb (length buf) (len + length (bytesOf e))) ≡ noRoom (length buf) es e
-      same = ap₂ (λ (a b : ℕ). leb 65_535 a || ltb (length buf) b) counted (sym (longer e))
-
-      no-more : (a b : Bool) → (a || b) ≡ false → (a ≡ false) × (b ≡ false)
-      no-more false b q = (refl, q)
-      no-more true b q = absurd (let z : _≡_ {A = ℕ} 0 1 = cc in omega arith)
-
-      go : (t : Bool) → (leb 65_535 (countIn buf) || ltb (length buf) (len + length (bytesOf e))) ≡ t → Agrees len (choose t (refuse NoSpace buf) put-in) (choose t (refusing NoSpace (some es)) held)
-      go true q = (refl, h)
+      go : (t : Bool) → full ≡ t → Agrees len (choose t (refuse NoSpace buf) put-in) (choose t (refusing 6 (some es)) (accepting (es ++ e ∷ [])))
+      go true q = agree-refused buf len (some es) NoSpace h
       go false q =
-          let (a, b) = no-more (leb 65_535 (countIn buf)) (ltb (length buf) (len + length (bytesOf e))) q in
-          let l₁ : countIn buf < 65_535 =
-          by-lt (countIn buf) 65_535 (λ l. l) (λ l. absurd (let z : true ≡ false = sym (le-leb 65_535 (countIn buf) l) ∙ a in let y : _≡_ {A = ℕ} 0 1 = cc in omega arith)) in
-          let l₂ : len + length (bytesOf e) ≤ length buf =
-          by-lt (length buf) (len + length (bytesOf e)) (λ l. absurd (let z : true ≡ false = sym (lt-ltb (length buf) (len + length (bytesOf e)) l) ∙ b in let y : _≡_ {A = ℕ} 0 1 = cc in omega arith)) (λ l. l) in
-          (ap Done (sym (longer e)), (sym (longer e), stored e l₂, omega (arith, counted, length-snoc es e), proper-snoc es e (h .3) p))
+          let (a, b) = neither (leb most (countIn buf)) (ltb (length buf) end) q in
+          let room : end ≤ length buf = ltb-false (length buf) end b in
+          let few : length es < most = subst (λ (n : ℕ). n < most) counted (leb-false most (countIn buf) a) in
+          record {
+            number = refl;
+            long = sym (longer e);
+            fronts = (sym (longer e), stored e room, omega (arith, length-snoc es e), proper-snoc es e (h .3) p);
+          }
 
-  agree-checked : (q : Request) → TypedQ q → (o : Option Refusal) → refusalOf q ≡ o → Agrees len (placedBy buf len (verdict q o)) (holding (length buf) es (entryOf q) o)
-  agree-checked q t (some e) r = (refl, h)
-  agree-checked q t none r = agree-room (entryOf q) (proper-entry q t r)
+  agree-checked : (q : Request) (c : Checked) → Says q c → Passing c → Agrees len (placedBy buf len c) (holding (length buf) es (entryOf q) (refusalOf q))
+  agree-checked q (bad e) s p =
+      subst (Agrees len (refuse e buf)) (sym (ap (holding (length buf) es (entryOf q)) s ∙ wrong (numberOf e) (each-number-once .range e .0)))
+      (agree-refused buf len (some es) e h)
+    where
+      wrong : (n : ℕ) → 1 ≤ n → holding (length buf) es (entryOf q) n ≡ refusing n (some es)
+      wrong zero l = absurd (omega arith)
+      wrong (suc n) l = refl
+  agree-checked q (good x) s p =
+      subst (Agrees len (placed buf len x)) (sym (ap₂ (holding (length buf) es) (s .1) (s .0))) (agree-room x p)
 
   agree-addition : (q : Request) → TypedQ q → Agrees len (added buf len q) (holding (length buf) es (entryOf q) (refusalOf q))
   unfolding added
   agree-addition q t =
-      let e : added buf len q ≡ placedBy buf len (verdict q (refusalOf q)) =
-      take-false _ _ (le-ltb (length buf) len in-buffer) ∙ ap (judged buf len q) (ap sheetFault (h .1) ∙ no-fault es (h .2) (h .3)) ∙ ap (placedBy buf len) (same-checks q) in
-      subst (λ (l : Left). Agrees len l (holding (length buf) es (entryOf q) (refusalOf q))) (sym e) (agree-checked q t (refusalOf q) refl)
+      let e : added buf len q ≡ placedBy buf len (checkedOf q) =
+      take-false _ _ (le-ltb (length buf) len in-buffer) ∙ ap (judged buf len q) (ap sheetFault (h .1) ∙ no-fault es (h .2) (h .3)) in
+      subst (λ (l : Left). Agrees len l (holding (length buf) es (entryOf q) (refusalOf q))) (sym e) (agree-checked q (checkedOf q) (checks-say q) (checks-pass q t))
 
 -- ---- lists
 
@@ -176,7 +182,8 @@ agree : (buf : List ℕ) (len : ℕ) (p : Plain) (a : Ask) (r : Added) (buf' : L
 unfolding answered
 agree buf len p start r buf' w h = agree-start buf len p h
 agree buf len none (addition d kind f payload) r buf' w h =
-    subst (λ (l : Left). Agrees len l (refusing NotSheet none)) (sym (ap (λ (n : ℕ). added buf n (requested d kind f payload)) h ∙ no-start buf (requested d kind f payload))) (refl, h)
+    subst (λ (l : Left). Agrees len l (refusing 9 none)) (sym (ap (λ (n : ℕ). added buf n (requested d kind f payload)) h ∙ no-start buf (requested d kind f payload)))
+    (agree-refused buf len none NotSheet h)
 agree buf len (some es) (addition d kind f payload) r buf' w h =
     let q : Request = asked d kind f payload in
     subst (λ (x : Request). Agrees len (added buf len x) (holding (length buf) es (entryOf q) (refusalOf q))) (sym (same-request d kind f payload))
@@ -200,6 +207,8 @@ along (c ∷ cs) buf len p a h =
     let g = agree (c .buffer) len p (c .ask) (c .answer) (c .after) (a .1) (moved buf (c .buffer) len p (a .0) h) in
     let next : Fronts (c .after) (lengthAfter len (c .answer)) (answered (length (c .buffer)) (c .ask) p .plain) =
     subst (λ (b : List ℕ). Fronts b (lengthAfter len (c .answer)) (answered (length (c .buffer)) (c .ask) p .plain)) (sym (w .leaves))
-    (subst (λ (r : Added). Fronts (leftBy len (c .buffer) (c .ask) .buffer) (lengthAfter len r) (answered (length (c .buffer)) (c .ask) p .plain)) (sym (w .answers)) (g .1)) in
+    (subst (λ (r : Added). Fronts (leftBy len (c .buffer) (c .ask) .buffer) (lengthAfter len r) (answered (length (c .buffer)) (c .ask) p .plain)) (sym (w .answers)) (g .fronts)) in
     let r = along cs (c .after) (lengthAfter len (c .answer)) (answered (length (c .buffer)) (c .ask) p .plain) (a .2) next in
-    (ap₂ (λ (x : Added) (xs : List Added). x ∷ xs) (w .answers ∙ g .0) (r .0), r .1)
+    let x = ap addedNumber (w .answers) ∙ g .number in
+    let n = ap addedLength (w .answers) ∙ g .long in
+    (ap₂ (λ (a : ℕ × ℕ) (l : List (ℕ × ℕ)). a ∷ l) (λ i. (x i, n i)) (r .0), r .1)

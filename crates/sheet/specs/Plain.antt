@@ -1,5 +1,5 @@
 -- The plain sheet (01): it is fed sizes and what is asked, sees no buffer's bytes and is given no length. And lists of calls.
-use Prim.Native.Nat.{ℕ, suc, _<_, _^_}
+use Prim.Native.Nat.{ℕ, zero, suc, _<_, _^_}
 use mathlib.Core.Path.{_≡_}
 use mathlib.Core.Bool.{Bool, true, false, _&&_, _||_}
 use mathlib.Core.List.{List, [], _∷_, _++_}
@@ -7,10 +7,8 @@ use mathlib.Core.Option.{Option, none, some}
 use lib.ListN.{length, take}
 use lib.Dec.{leb, ltb, eqb}
 use Rattle.word.specs.Sets.{choose}
-use Rattle.storage.specs.declared.Refusal.{Refusal}
-use Rattle.storage.specs.declared.Refusal.the-variants.{WidthOver, IndexOver, NoSpace, NotSheet, BadPayload, NewerKind}
 use Rattle.sheet.specs.Bytes.{bytes}
-use Rattle.sheet.specs.Writer.{Request, duty, remark, Entry, edit, note, bytesOf, Starts, Adds}
+use Rattle.sheet.specs.Writer.{Request, duty, remark, Entry, edit, note, bytesOf, Starts, Adds, addedNumber, addedLength}
 use Rattle.sheet.specs.declared.Edit.{Edit}
 use Rattle.sheet.specs.declared.Edit.the-variants.{Set, Unset, SetRegion, SetField, Shift, Rotate, Resize, Reverse, ToggleRegion, Open, Close}
 use Rattle.sheet.specs.declared.Fields.{Fields}
@@ -68,15 +66,15 @@ wrongPayload (remark k p) = ltb 65_535 (length p)
 abbrev pub noRoom : ℕ → List Entry → Entry → Bool
 noRoom size es e = leb 65_535 (length es) || ltb size (length (sheetOf (es ++ e ∷ [])))
 
--- the first whose test holds
-unfoldable pub firstOf : List (Bool × Refusal) → Option Refusal
-firstOf [] = none
-firstOf ((t, e) ∷ rest) = choose t (some e) (firstOf rest)
+-- the first number that applies, 0 where none does
+unfoldable pub firstOf : List (Bool × ℕ) → ℕ
+firstOf [] = 0
+firstOf ((applies, n) ∷ rest) = choose applies n (firstOf rest)
 
--- what is wrong with a request, whatever is held
-unfoldable pub refusalOf : Request → Option Refusal
+-- the number of a request, whatever is held
+unfoldable pub refusalOf : Request → ℕ
 unfolding firstOf
-refusalOf q = firstOf ((wrongKind q, NewerKind) ∷ (wrongWidth q, WidthOver) ∷ (wrongSize q, IndexOver) ∷ (wrongPayload q, BadPayload) ∷ [])
+refusalOf q = firstOf ((wrongKind q, 13) ∷ (wrongWidth q, 3) ∷ (wrongSize q, 4) ∷ (wrongPayload q, 12) ∷ [])
 
 -- the edit of a kind by its fields, 1 to 11
 unfoldable pub editFor : ℕ → Fields → Edit
@@ -92,18 +90,22 @@ unfolding editFor
 entryOf (duty k f) = edit (editFor k f)
 entryOf (remark k p) = note k p
 
--- its answer, and what it holds then
+-- its answer, the number and, if accepted, the length (else 0), and what it holds then
 pub record Answered : Type 0 where
-  pub answer : Added
+  pub number : ℕ
+  pub long : ℕ
   pub plain : Plain
 
-abbrev pub refusing : Refusal → Plain → Answered
-refusing e p = record { answer = Refused e; plain = p }
+abbrev pub refusing : ℕ → Plain → Answered
+refusing n p = record { number = n; long = 0; plain = p }
 
-abbrev pub holding : ℕ → List Entry → Entry → Option Refusal → Answered
-holding size es e (some why) = refusing why (some es)
-holding size es e none =
-    choose (noRoom size es e) (refusing NoSpace (some es)) (record { answer = Done (length (sheetOf (es ++ e ∷ []))); plain = some (es ++ e ∷ []) })
+abbrev pub accepting : List Entry → Answered
+accepting es = record { number = 0; long = length (sheetOf es); plain = some es }
+
+-- an addition with its request's number
+abbrev pub holding : ℕ → List Entry → Entry → ℕ → Answered
+holding size es e zero = choose (noRoom size es e) (refusing 6 (some es)) (accepting (es ++ e ∷ []))
+holding size es e (suc n) = refusing (suc n) (some es)
 
 -- what is asked of the writer
 pub data Ask : Type 0 where
@@ -113,8 +115,8 @@ pub data Ask : Type 0 where
 -- the plain sheet's answer to a call on a buffer of a size
 unfoldable pub answered : ℕ → Ask → Plain → Answered
 unfolding sheetOf
-answered size start p = choose (ltb size 4) (refusing NoSpace p) (record { answer = Done 4; plain = some [] })
-answered size (addition d kind f payload) none = refusing NotSheet none
+answered size start p = choose (ltb size 4) (refusing 6 p) (accepting [])
+answered size (addition d kind f payload) none = refusing 9 none
 answered size (addition d kind f payload) (some es) =
     let q = asked d kind f payload in
     holding size es (entryOf q) (refusalOf q)
@@ -146,10 +148,10 @@ InRow buf len [] = Unit {0}
 InRow buf len (c ∷ cs) =
     (take len (c .buffer) ≡ take len buf) × Went len (c .buffer) (c .ask) (c .answer) (c .after) × InRow (c .after) (lengthAfter len (c .answer)) cs
 
--- what the calls answered, the last accepted length, and the buffer as the last call left it
-unfoldable pub answers : List Call → List Added
+-- the numbers and lengths that the calls answered, the last accepted length, and the buffer as the last call left it
+unfoldable pub answers : List Call → List (ℕ × ℕ)
 answers [] = []
-answers (c ∷ cs) = c .answer ∷ answers cs
+answers (c ∷ cs) = (addedNumber (c .answer), addedLength (c .answer)) ∷ answers cs
 
 unfoldable pub lastLength : ℕ → List Call → ℕ
 lastLength len [] = len
@@ -160,10 +162,10 @@ lastBuffer buf [] = buf
 lastBuffer buf (c ∷ cs) = lastBuffer (c .after) cs
 
 -- what the plain sheet answers, and what it holds at the end
-unfoldable pub plainAnswers : Plain → List Call → List Added
+unfoldable pub plainAnswers : Plain → List Call → List (ℕ × ℕ)
 unfolding answered
 plainAnswers p [] = []
-plainAnswers p (c ∷ cs) = let a = answered (length (c .buffer)) (c .ask) p in a .answer ∷ plainAnswers (a .plain) cs
+plainAnswers p (c ∷ cs) = let a = answered (length (c .buffer)) (c .ask) p in (a .number, a .long) ∷ plainAnswers (a .plain) cs
 
 unfoldable pub lastPlain : Plain → List Call → Plain
 unfolding answered

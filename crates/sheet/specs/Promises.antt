@@ -2,7 +2,7 @@
 use Prim.Native.Nat.{ℕ, _+_, _*_, _≤_, _<_}
 use mathlib.Core.Path.{_≡_}
 use mathlib.Core.Bool.{true, false}
-use mathlib.Core.List.{List, _++_}
+use mathlib.Core.List.{List, [], _++_}
 use mathlib.Core.Logic.{_↔_, _⊎_}
 use mathlib.Core.Option.{Option, none, some}
 use lib.ListN.{length, getD, getElem?, take, drop}
@@ -12,7 +12,7 @@ use Rattle.word.specs.Bits.{member}
 use Rattle.storage.specs.Refusals.{numberOf}
 use Rattle.storage.specs.Stores.{Bits, Bounded, Outcome, limit, view, written}
 use Rattle.storage.specs.declared.Refusal.{Refusal}
-use Rattle.storage.specs.declared.Refusal.the-variants.{StoreTooLong, CountOverStore, NoSpace, NotSheet, CutRecord, BytesRemain, NewerKind, NoEdition}
+use Rattle.storage.specs.declared.Refusal.the-variants.{StoreTooLong, CountOverStore, NoSpace, NewerKind, NoEdition}
 use Rattle.bits.specs.Promises.{Reversed}
 use Rattle.shift.specs.Promises.{RotatedLeft, RotatedRight}
 use Rattle.bitmap.specs.Promises.{WithBit, WithoutBit, WithRegion, WithField}
@@ -20,11 +20,11 @@ use Rattle.shape.specs.Promises.{FlippedFrom, RaisedBy, LoweredBy, ResizedTo}
 use Rattle.gap.specs.Promises.{Opens, Closes}
 use Rattle.sheet.specs.Kinds.{sizeIn, kindOf, payloadOf, Ranged}
 use Rattle.sheet.specs.Paper.{IsEdition, printed, Allowed, digits, cellDigits, byteDigits}
-use Rattle.sheet.specs.Reader.{Edition, Turn, stop, next, Item, Answer, done, answerNumber, answerRecord, read}
+use Rattle.sheet.specs.Reader.{Edition, Turn, stop, next, Item, Answer, done, answerNumber, answerRecord, read, refused}
 use Rattle.sheet.specs.Meaning.{Header, total, start, Whole, Is, Asks, effect, AtRecord, Newer, Applies, Accepted, Means as SheetMeans}
 use Rattle.sheet.specs.Reads.{step, editionOf, latest, fitting, Reads, readingNumber, readingRecord, readingCount}
-use Rattle.sheet.specs.Writer.{Request, duty, Entry, edit, note, bytesOf}
-use Rattle.sheet.specs.Plain.{sheetOf, editsIn, refusalOf, editFor, entryOf, Call, InRow, answers, lastLength, lastBuffer, plainAnswers, lastPlain}
+use Rattle.sheet.specs.Writer.{Request, duty, remark, Entry, edit, note, addedNumber, addedLength, bytesOf}
+use Rattle.sheet.specs.Plain.{sheetOf, editsIn, editFor, Typed, Call, InRow, answers, lastLength, lastBuffer, plainAnswers, lastPlain, refusalOf, entryOf}
 use Rattle.sheet.specs.declared.Edit.{Edit}
 use Rattle.sheet.specs.declared.Edit.the-variants.{Set, Unset, SetRegion, SetField, Shift, Rotate, Resize, Reverse, ToggleRegion, Open, Close}
 use Rattle.sheet.specs.declared.Fields.{Fields}
@@ -163,56 +163,97 @@ pub record AnyTwo {A S : Type 0} (E F : Edition A S) (sheet : List ℕ) (old : T
       ⊎ ((answerNumber (read E sheet old) ≡ 13) × AtRecord E sheet old (answerRecord (read E sheet old)) (Newer E sheet))
   pub kept : (k : ℕ) (s : S) → read E sheet old ≡ done k s → read F sheet old ≡ done k s
 
--- (d): 9, 10 or 11 of a sheet that is given to the writer, or nothing
-pub data SheetGets (sheet : List ℕ) (o : Option Refusal) : Type 0 where
-  no-header : ¬ Header sheet → o ≡ some NotSheet → SheetGets sheet o
-  cut : Header sheet → (i : ℕ) → i < total sheet → ((j : ℕ) → j < i → Whole sheet j) → ¬ Whole sheet i → o ≡ some CutRecord → SheetGets sheet o
-  remain : Header sheet → ((j : ℕ) → j < total sheet → Whole sheet j) → start sheet (total sheet) < length sheet → o ≡ some BytesRemain → SheetGets sheet o
-  nothing : Header sheet → ((j : ℕ) → j < total sheet → Whole sheet j) → start sheet (total sheet) ≡ length sheet → o ≡ none → SheetGets sheet o
+-- (d): 9, 10 or 11 of a sheet that is given to the writer, or 0 for nothing
+pub data SheetGets (sheet : List ℕ) (x : ℕ) : Type 0 where
+  no-header : ¬ Header sheet → x ≡ 9 → SheetGets sheet x
+  cut : Header sheet → (i : ℕ) → i < total sheet → ((j : ℕ) → j < i → Whole sheet j) → ¬ Whole sheet i → x ≡ 10 → SheetGets sheet x
+  remain : Header sheet → ((j : ℕ) → j < total sheet → Whole sheet j) → start sheet (total sheet) < length sheet → x ≡ 11 → SheetGets sheet x
+  nothing : Header sheet → ((j : ℕ) → j < total sheet → Whole sheet j) → start sheet (total sheet) ≡ length sheet → x ≡ 0 → SheetGets sheet x
 
--- what an addition to the first len bytes of the buffer answers: 2, then the sheet's faults, then what is wrong with the request, then 6
-pub data AddGets (buf : List ℕ) (len : ℕ) (q : Request) (r : Added) : Type 0 where
-  over : length buf < len → r ≡ Added.Refused CountOverStore → AddGets buf len q r
-  fault : len ≤ length buf → (e : Refusal) → SheetGets (take len buf) (some e) → r ≡ Added.Refused e → AddGets buf len q r
-  wrong : len ≤ length buf → SheetGets (take len buf) none → (e : Refusal) → refusalOf q ≡ some e → r ≡ Added.Refused e → AddGets buf len q r
-  full : len ≤ length buf → SheetGets (take len buf) none → refusalOf q ≡ none
-      → (65_535 ≤ total buf) ⊎ (length buf < len + length (bytesOf (entryOf q))) → r ≡ Added.Refused NoSpace → AddGets buf len q r
-  fine : len ≤ length buf → SheetGets (take len buf) none → refusalOf q ≡ none
-      → total buf < 65_535 → len + length (bytesOf (entryOf q)) ≤ length buf → r ≡ Added.Done (len + length (bytesOf (entryOf q))) → AddGets buf len q r
+-- 13, 3 or 4 of a duty record that is asked for by its kind and fields, or 0
+pub data DutyGets (k : ℕ) (f : Fields) (x : ℕ) : Type 0 where
+  no-kind : (k < 1) ⊎ (11 < k) → x ≡ 13 → DutyGets k f x
+  wide : k ≡ 4 → 64 < f .width → x ≡ 3 → DutyGets k f x
+  large : k ≡ 7 → 4_294_967_296 < f .size → x ≡ 4 → DutyGets k f x
+  good-duty : 1 ≤ k → k ≤ 11 → (k ≡ 4 → f .width ≤ 64) → (k ≡ 7 → f .size ≤ 4_294_967_296) → x ≡ 0 → DutyGets k f x
+
+-- 13 or 12 of a remark, or 0
+pub data RemarkGets (k : ℕ) (p : List ℕ) (x : ℕ) : Type 0 where
+  high : 127 < k → x ≡ 13 → RemarkGets k p x
+  over-long : k ≤ 127 → 65_535 < length p → x ≡ 12 → RemarkGets k p x
+  good-remark : k ≤ 127 → length p ≤ 65_535 → x ≡ 0 → RemarkGets k p x
+
+abbrev pub RequestGets : Request → ℕ → Type 0
+RequestGets (duty k f) x = DutyGets k f x
+RequestGets (remark k p) x = RemarkGets k p x
+
+-- the bytes of the payload asked for; of a duty record those of its line in 01's table
+abbrev pub bytesAsked : Request → ℕ
+bytesAsked (duty k f) = printed (editFor k f) .bytes
+bytesAsked (remark k p) = length p
+
+-- what an addition to the first len bytes of the buffer answers, number and length: 2, then the sheet's faults, then the request's, then 6
+pub data AddGets (buf : List ℕ) (len : ℕ) (q : Request) (x n : ℕ) : Type 0 where
+  over : length buf < len → x ≡ 2 → n ≡ 0 → AddGets buf len q x n
+  fault : len ≤ length buf → SheetGets (take len buf) x → 0 < x → n ≡ 0 → AddGets buf len q x n
+  wrong : len ≤ length buf → SheetGets (take len buf) 0 → RequestGets q x → 0 < x → n ≡ 0 → AddGets buf len q x n
+  full : len ≤ length buf → SheetGets (take len buf) 0 → RequestGets q 0
+      → (65_535 ≤ total (take len buf)) ⊎ (length buf < len + 3 + bytesAsked q) → x ≡ 6 → n ≡ 0 → AddGets buf len q x n
+  fine : len ≤ length buf → SheetGets (take len buf) 0 → RequestGets q 0
+      → total (take len buf) < 65_535 → len + 3 + bytesAsked q ≤ length buf → x ≡ 0 → n ≡ len + 3 + bytesAsked q → AddGets buf len q x n
 
 -- a refused call changes nothing, and the bytes past the new sheet are untouched
 pub record Leaves (buf : List ℕ) (r : Added) (buf' : List ℕ) : Type 0 where
-  pub kept : (e : Refusal) → r ≡ Added.Refused e → buf' ≡ buf
+  pub kept : 0 < addedNumber r → buf' ≡ buf
   pub long : length buf' ≡ length buf
-  pub past : (n : ℕ) → r ≡ Added.Done n → drop n buf' ≡ drop n buf
+  pub past : addedNumber r ≡ 0 → drop (addedLength r) buf' ≡ drop (addedLength r) buf
+
+-- the record is the one asked for: duty, kind, and a remark's payload or, of a duty record, the layout of its edit, where the fields are in their types' ranges
+abbrev pub Wanted : Request → Item → Type 0
+Wanted (duty k f) r = (r .duty ≡ true) × (r .kind ≡ k) × (Typed f → Laid k (r .payload) (editFor k f))
+Wanted (remark k p) r = (r .duty ≡ false) × (r .kind ≡ k) × (r .payload ≡ p)
+
+-- a sheet after an accepted addition, whoever made it: R is one more, the earlier records are as they were, the one asked for is last, and nothing
+-- follows it
+pub record Grows (sheet : List ℕ) (q : Request) (sheet' : List ℕ) : Type 0 where
+  pub headed : Header sheet'
+  pub raised : total sheet' ≡ total sheet + 1
+  pub kept : (i : ℕ) (r : Item) → i < total sheet → Is sheet i r ↔ Is sheet' i r
+  pub last : (r : Item) × Is sheet' (total sheet) r × Wanted q r
+  pub ends : start sheet' (total sheet + 1) ≡ length sheet'
 
 -- whatever it is given
 pub record AddMeans (buf : List ℕ) (len : ℕ) (q : Request) (r : Added) (buf' : List ℕ) : Type 0 where
-  pub exact : (x : Added) → (r ≡ x) ↔ AddGets buf len q x
+  pub exact : (x n : ℕ) → ((addedNumber r ≡ x) × (addedLength r ≡ n)) ↔ AddGets buf len q x n
   pub leaves : Leaves buf r buf'
-  -- the record asked for has the kind asked for
-  pub kind : (k : ℕ) (f : Fields) → q ≡ duty k f → refusalOf q ≡ none → kindOf (editFor k f) ≡ k
+  pub grows : addedNumber r ≡ 0 → Grows (take len buf) q (take (addedLength r) buf')
 
-pub record StartMeans (buf : List ℕ) (r : Added) (buf' : List ℕ) : Type 0 where
-  pub short : (e : Refusal) → (r ≡ Added.Refused e) ↔ ((length buf < 4) × (e ≡ NoSpace))
-  pub fine : (n : ℕ) → (r ≡ Added.Done n) ↔ ((4 ≤ length buf) × (n ≡ 4))
-  pub leaves : Leaves buf r buf'
-
--- a record as it is held: what stands in the sheet for it
-abbrev pub itemFor : Entry → Item
-itemFor (edit e) = record { duty = true; kind = printed e .kind; payload = payloadOf e }
-itemFor (note kind payload) = record { duty = false; kind = kind; payload = payload }
+-- the record is the one held: a remark's kind and payload, or the layout of an edit
+abbrev pub Shows : Entry → Item → Type 0
+Shows (edit e) r = (r .duty ≡ true) × Laid (r .kind) (r .payload) e
+Shows (note k p) r = (r .duty ≡ false) × (r .kind ≡ k) × (r .payload ≡ p)
 
 -- bytes that hold exactly these records, in order
 pub record Holding (sheet : List ℕ) (es : List Entry) : Type 0 where
   pub headed : Header sheet
   pub many : total sheet ≡ length es
-  pub records : (i : ℕ) (x : Entry) → getElem? es i ≡ some x → Is sheet i (itemFor x)
+  pub records : (i : ℕ) (x : Entry) → getElem? es i ≡ some x → (r : Item) × Is sheet i r × Shows x r
   pub ends : start sheet (length es) ≡ length sheet
+
+-- what a start answers
+pub data StartGets (buf : List ℕ) (x n : ℕ) : Type 0 where
+  short : length buf < 4 → x ≡ 6 → n ≡ 0 → StartGets buf x n
+  fresh : 4 ≤ length buf → x ≡ 0 → n ≡ 4 → StartGets buf x n
+
+-- it leaves a sheet of no records
+pub record StartMeans (buf : List ℕ) (r : Added) (buf' : List ℕ) : Type 0 where
+  pub exact : (x n : ℕ) → ((addedNumber r ≡ x) × (addedLength r ≡ n)) ↔ StartGets buf x n
+  pub leaves : Leaves buf r buf'
+  pub empty : addedNumber r ≡ 0 → Holding (take 4 buf') []
 
 -- (e): after a list of calls from a buffer of any bytes at length 0 on
 pub record ListMeans (buf : List ℕ) (cs : List Call) : Type 0 where
-  -- each call answered as the plain sheet
+  -- each call answered the plain sheet's number and length
   pub same : answers cs ≡ plainAnswers none cs
   -- if a start was accepted, the bytes up to the last accepted length are the plain sheet's
   pub length-is : (es : List Entry) → lastPlain none cs ≡ some es → lastLength 0 cs ≡ length (sheetOf es)

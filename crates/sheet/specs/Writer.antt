@@ -20,6 +20,10 @@ use Rattle.sheet.specs.declared.Edit.the-variants.{Set, Unset, SetRegion
 use Rattle.sheet.specs.declared.Added.{Added}
 use Rattle.sheet.specs.declared.Added.the-variants.{Done, Refused}
 
+-- the most records of a sheet, and the most bytes of a payload
+abbrev pub most : ℕ
+most = 65_535
+
 -- an addition asked for: a duty record's kind and fields, or a remark's kind and payload
 pub data Request : Type 0 where
   duty : (kind : ℕ) → Fields → Request
@@ -68,7 +72,7 @@ madeBy (some m) f = m f
 unfoldable pub checkedOf : Request → Checked
 checkedOf (duty kind f) = madeBy (makerOf kind) f
 checkedOf (remark kind payload) =
-    choose (ltb 127 kind) (bad NewerKind) (choose (ltb 65_535 (length payload)) (bad BadPayload) (good (note kind payload)))
+    choose (ltb 127 kind) (bad NewerKind) (choose (ltb most (length payload)) (bad BadPayload) (good (note kind payload)))
 
 -- a record's bytes: duty bit and kind, the payload's length, the payload
 abbrev pub laid : ℕ → List ℕ → List ℕ
@@ -101,13 +105,13 @@ refuse e buf = record { answer = Refused e; buffer = buf }
 unfoldable pub started : List ℕ → Left
 started buf = choose (ltb (length buf) 4) (refuse NoSpace buf) (record { answer = Done 4; buffer = sets buf 0 (78 ∷ 83 ∷ 0 ∷ 0 ∷ []) })
 
--- the record goes to the end and R rises; 6 where there are 65,535 already or the buffer is too short
+-- the record goes to the end and R rises; 6 where there are the most already or the buffer is too short
 unfoldable pub placed : List ℕ → ℕ → Entry → Left
 unfolding bytesOf
 placed buf len e =
     let end = len + length (bytesOf e) in
     let put : Left = record { answer = Done end; buffer = sets (sets buf 2 (bytes 2 (countIn buf + 1))) len (bytesOf e) } in
-    choose (leb 65_535 (countIn buf) || ltb (length buf) end) (refuse NoSpace buf) put
+    choose (leb most (countIn buf) || ltb (length buf) end) (refuse NoSpace buf) put
 
 abbrev pub placedBy : List ℕ → ℕ → Checked → Left
 placedBy buf len (bad e) = refuse e buf

@@ -11,7 +11,7 @@ use Rattle.storage.specs.declared.Guard.{Guard}
 use Rattle.storage.specs.declared.Guard.the-variants.{Pass, Stop}
 use Rattle.sheet.specs.Kinds.{numbered}
 use Rattle.sheet.specs.Reader.{countIn, endAt}
-use Rattle.sheet.specs.Writer.{Checked, bad, good, edit, note}
+use Rattle.sheet.specs.Writer.{most, Checked, bad, good, edit, note}
 use Rattle.writer.specs.declared.Parts.{Parts}
 use Rattle.writer.specs.declared.Parts.the-variants.{Are, Refused}
 
@@ -43,4 +43,4 @@ partsOf (good (note kind payload)) = Are 0 0
 
 -- a record with n bytes of payload has no room, or would be the 65,536th
 unfoldable pub roomlessIn : List ℕ → ℕ → ℕ → Bool
-roomlessIn buf len n = leb 65_535 (countIn buf) || ltb (length buf) (len + 3 + n)
+roomlessIn buf len n = leb most (countIn buf) || ltb (length buf) (len + 3 + n)
