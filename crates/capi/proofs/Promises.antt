@@ -1,7 +1,7 @@
 -- The promises of specs/Promises. Assumes nothing.
 use Prim.Native.Nat.{ℕ, _<_}
 use mathlib.Core.Path.{_≡_, refl, ap, _∙_}
-use mathlib.Core.Bool.{Bool}
+use mathlib.Core.Bool.{Bool, true, false}
 use mathlib.Core.List.{List}
 use native.Mathlib.Omega.{arith}
 use lib.ListN.{length}
@@ -48,8 +48,10 @@ start bs bs' n r n' h = kept _ bs bs' n r n' (h .out) (starting-means bs _ bs' (
 
 add : (bs bs' payload : List ℕ) (d : Bool) (f : Fields) (n kind r n' : ℕ) → Written (added bs n (requested d kind f payload)) n r bs' n' → 0 < r
     → (n' ≡ n) × (bs' ≡ bs)
-add bs bs' payload d f n kind r n' h =
-    kept _ bs bs' n r n' (h .out) (adding-means bs n d kind f payload _ bs' (record { answers = refl; leaves = h .leaves }) .leaves)
+add bs bs' payload true f n kind r n' h =
+    kept _ bs bs' n r n' (h .out) (adding-means .duties bs n kind f payload _ bs' (record { answers = refl; leaves = h .leaves }) .leaves)
+add bs bs' payload false f n kind r n' h =
+    kept _ bs bs' n r n' (h .out) (adding-means .remarks bs n kind f payload _ bs' (record { answers = refl; leaves = h .leaves }) .leaves)
 
 pub refusal-keeps : RefusalKeeps
 refusal-keeps = record { change = change; split = split; print = print; start = start; add = add }

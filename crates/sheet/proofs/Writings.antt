@@ -23,9 +23,9 @@ use Rattle.sheet.specs.Bytes.{bytes}
 use Rattle.sheet.specs.Reader.{Turn, done, countIn, endAt, read}
 use Rattle.sheet.specs.Meaning.{Header, total, start, Whole}
 use Rattle.sheet.specs.Reads.{editionOf, latest, fitting, Course, went, course, readAnswer, readStore, readingNumber, readingRecord, readingCount}
-use Rattle.sheet.specs.Writer.{most, Request, duty, remark, requested, Entry, edit, note, Checked, bad, good, checkedOf, bytesOf, framesFault, sheetFault, Left, refuse, started, placed, placedBy, judged, added, Writes, Starts, Adds, addedNumber, addedLength}
-use Rattle.sheet.specs.Plain.{asked, sheetOf, refusalOf, editFor, entryOf, answers, lastLength, lastBuffer, plainAnswers, lastPlain}
-use Rattle.sheet.specs.Promises.{SheetGets, no-header, cut, remain, nothing, RequestGets, bytesAsked, AddGets, over, fault, wrong, full, fine, Leaves, Grows, AddMeans, Holding, StartGets, short, fresh, StartMeans, WholeLists}
+use Rattle.sheet.specs.Writer.{most, Request, duty, remark, Entry, edit, note, Checked, bad, good, checkedOf, bytesOf, framesFault, sheetFault, Left, refuse, started, placed, placedBy, judged, added, Writes, addedNumber, addedLength, requested, Starts, Adds}
+use Rattle.sheet.specs.Plain.{sheetOf, refusalOf, editFor, entryOf, answers, lastLength, lastBuffer, plainAnswers, lastPlain, asked}
+use Rattle.sheet.specs.Promises.{SheetGets, no-header, cut, remain, nothing, RequestGets, bytesAsked, AddGets, over, fault, wrong, full, fine, Leaves, Grows, AddMeans, AddsMean, Holding, StartGets, short, fresh, StartMeans, StartsMean, WholeLists}
 use Rattle.sheet.specs.declared.Fields.{Fields}
 use Rattle.sheet.specs.declared.Added.{Added}
 use Rattle.sheet.specs.declared.Added.the-variants.{Done, Refused}
@@ -36,7 +36,7 @@ use Rattle.sheet.proofs.Readings.{course-passes, fits-old}
 use Rattle.sheet.proofs.Papers.{table-agrees}
 use Rattle.sheet.proofs.Requests.{Says, checks-say, checks-good, request-gets, request-is}
 use Rattle.sheet.proofs.Grown.{put-last, count-front, bytes-long, grown, framed-entry, wanted}
-use Rattle.sheet.proofs.Written.{begun, same-request, Fronts, along}
+use Rattle.sheet.proofs.Written.{begun, Fronts, along}
 use Rattle.sheet.proofs.Sheets.{sheet-is}
 
 -- the number of a fault, 0 for none
@@ -290,15 +290,11 @@ by-writes P l r buf' w h = subst (λ (a : Added). P a buf') (sym (w .answers)) (
 exactly : (G : ℕ → ℕ → Type 0) (a b x n : ℕ) → G a b → (a ≡ x) × (b ≡ n) → G x n
 exactly G a b x n g h = subst (λ (y : ℕ). G y n) (h .0) (subst (G a) (h .1) g)
 
--- (d): each number exactly, whatever is asked of whatever buffer
-pub adding-means : (buf : List ℕ) (len : ℕ) (d : Bool) (kind : ℕ) (f : Fields) (payload : List ℕ) (r : Added) (buf' : List ℕ) → Adds buf len d kind f payload r buf'
-    → AddMeans buf len (asked d kind f payload) r buf'
-adding-means buf len d kind f payload r buf' w =
-    subst (λ (q : Request). AddMeans buf len q r buf') (same-request d kind f payload)
-    (by-writes (AddMeans buf len (requested d kind f payload)) (added buf len (requested d kind f payload)) r buf' w (means (requested d kind f payload)))
+add-means : (buf : List ℕ) (len : ℕ) (q : Request) (r : Added) (buf' : List ℕ) → Writes (added buf len q) r buf' → AddMeans buf len q r buf'
+add-means buf len q r buf' w = by-writes (AddMeans buf len q) (added buf len q) r buf' w means
   where
-    means : (q : Request) → AddMeans buf len q (added buf len q .answer) (added buf len q .buffer)
-    means q =
+    means : AddMeans buf len q (added buf len q .answer) (added buf len q .buffer)
+    means =
         let a = added buf len q in
         let c = came buf len q in
         record {
@@ -306,6 +302,13 @@ adding-means buf len d kind f payload r buf' w =
           leaves = leaves buf len q a c;
           grows = grows buf len q a c;
         }
+
+-- (d): each number exactly, whatever is asked of whatever buffer
+pub adding-means : AddsMean
+adding-means = record {
+  duties = λ buf len kind f payload r buf' w. add-means buf len (duty kind f) r buf' w;
+  remarks = λ buf len kind f payload r buf' w. add-means buf len (remark kind payload) r buf' w;
+}
 
 -- ---- a start
 
@@ -349,7 +352,7 @@ module _ (buf : List ℕ) where
           let l = ltb-false (length buf) 4 e in
           start-of made (fresh l refl refl) made-leaves (λ z. subst (λ (s : List ℕ). Holding s []) (sym (begun buf l)) (sheet-is [] (omega arith) tt)) (only-fresh l)
 
-pub starting-means : (buf : List ℕ) (r : Added) (buf' : List ℕ) → Starts buf r buf' → StartMeans buf r buf'
+pub starting-means : StartsMean
 starting-means buf r buf' w = by-writes (StartMeans buf) (started buf) r buf' w (started-means buf)
 
 -- ---- lists of calls

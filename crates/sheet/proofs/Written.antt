@@ -166,7 +166,7 @@ leftBy len buf start = started buf
 leftBy len buf (addition d kind f payload) = added buf len (requested d kind f payload)
 
 -- the writer reads an addition as the plain sheet does
-pub same-request : (d : Bool) (kind : ℕ) (f : Fields) (payload : List ℕ) → requested d kind f payload ≡ asked d kind f payload
+same-request : (d : Bool) (kind : ℕ) (f : Fields) (payload : List ℕ) → requested d kind f payload ≡ asked d kind f payload
 same-request true kind f payload = refl
 same-request false kind f payload = refl
 

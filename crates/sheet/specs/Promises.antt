@@ -23,7 +23,7 @@ use Rattle.sheet.specs.Paper.{IsEdition, printed, Allowed, digits, cellD
 use Rattle.sheet.specs.Reader.{Edition, Turn, stop, next, Item, Answer, done, answerNumber, answerRecord, read, refused}
 use Rattle.sheet.specs.Meaning.{Header, total, start, Whole, Is, Asks, effect, AtRecord, Newer, Applies, Accepted, Means as SheetMeans}
 use Rattle.sheet.specs.Reads.{step, editionOf, latest, fitting, Reads, readingNumber, readingRecord, readingCount}
-use Rattle.sheet.specs.Writer.{Request, duty, remark, Entry, edit, note, addedNumber, addedLength, bytesOf}
+use Rattle.sheet.specs.Writer.{Request, duty, remark, Entry, edit, note, Starts, Adds, addedNumber, addedLength, bytesOf}
 use Rattle.sheet.specs.Plain.{sheetOf, editsIn, editFor, Typed, Call, InRow, answers, lastLength, lastBuffer, plainAnswers, lastPlain, refusalOf, entryOf}
 use Rattle.sheet.specs.declared.Edit.{Edit}
 use Rattle.sheet.specs.declared.Edit.the-variants.{Set, Unset, SetRegion, SetField, Shift, Rotate, Resize, Reverse, ToggleRegion, Open, Close}
@@ -222,11 +222,18 @@ pub record Grows (sheet : List ℕ) (q : Request) (sheet' : List ℕ) : Type 0 w
   pub last : (r : Item) × Is sheet' (total sheet) r × Wanted q r
   pub ends : start sheet' (total sheet + 1) ≡ length sheet'
 
--- whatever it is given
+-- what an addition answers and leaves, whatever it is given
 pub record AddMeans (buf : List ℕ) (len : ℕ) (q : Request) (r : Added) (buf' : List ℕ) : Type 0 where
   pub exact : (x n : ℕ) → ((addedNumber r ≡ x) × (addedLength r ≡ n)) ↔ AddGets buf len q x n
   pub leaves : Leaves buf r buf'
   pub grows : addedNumber r ≡ 0 → Grows (take len buf) q (take (addedLength r) buf')
+
+-- `add` asks for a duty record by its kind and fields, or for a remark by its kind and payload; what is not its own is ignored
+pub record AddsMean : Type 0 where
+  pub duties : (buf : List ℕ) (len kind : ℕ) (f : Fields) (payload : List ℕ) (r : Added) (buf' : List ℕ)
+      → Adds buf len true kind f payload r buf' → AddMeans buf len (duty kind f) r buf'
+  pub remarks : (buf : List ℕ) (len kind : ℕ) (f : Fields) (payload : List ℕ) (r : Added) (buf' : List ℕ)
+      → Adds buf len false kind f payload r buf' → AddMeans buf len (remark kind payload) r buf'
 
 -- the record is the one held: a remark's kind and payload, or the layout of an edit
 abbrev pub Shows : Entry → Item → Type 0
@@ -250,6 +257,9 @@ pub record StartMeans (buf : List ℕ) (r : Added) (buf' : List ℕ) : Type 0 wh
   pub exact : (x n : ℕ) → ((addedNumber r ≡ x) × (addedLength r ≡ n)) ↔ StartGets buf x n
   pub leaves : Leaves buf r buf'
   pub empty : addedNumber r ≡ 0 → Holding (take 4 buf') []
+
+abbrev pub StartsMean : Type 0
+StartsMean = (buf : List ℕ) (r : Added) (buf' : List ℕ) → Starts buf r buf' → StartMeans buf r buf'
 
 -- (e): after a list of calls from a buffer of any bytes at length 0 on
 pub record ListMeans (buf : List ℕ) (cs : List Call) : Type 0 where

@@ -1,24 +1,19 @@
 -- A duty record that is not refused: its bytes.
-use Prim.Native.Nat.{ℕ, zero, suc, _+_, _*_, _^_, _/_, _%_, _≤_}
+use Prim.Native.Nat.{ℕ, _+_, _*_, _^_, _/_, _%_, _≤_}
 use mathlib.Core.Path.{_≡_, refl, sym, ap, ap₂, _∙_, subst}
-use mathlib.Core.Bool.{Bool, true, false}
 use mathlib.Core.List.{List}
-use mathlib.Core.Option.{Option}
 use native.Mathlib.Omega.{arith}
-use native.Mathlib.Decide.{decLe}
-use lib.ListN.{length, getElem?}
-use lib.Dec.{ltb}
-use Rattle.word.specs.Sets.{choose}
+use lib.ListN.{length}
 use Rattle.storage.specs.declared.Refusal.{Refusal}
-use Rattle.storage.specs.declared.Refusal.the-variants.{WidthOver, IndexOver, NewerKind}
 use Rattle.sheet.specs.declared.Fields.{Fields}
 use Rattle.sheet.specs.declared.Edit.{Edit}
 use Rattle.sheet.specs.Bytes.{bytes}
-use Rattle.sheet.specs.Kinds.{rowOf, sizeIn, kindOf, numbered, bytesBy, payloadOf}
-use Rattle.sheet.specs.Writer.{Checked, bad, good, Entry, edit, checkedOf, duty, makers, madeBy, laid, bytesOf}
+use Rattle.sheet.specs.Kinds.{table, rowOf, sizeIn, kindOf, numbered, bytesBy, payloadOf}
+use Rattle.sheet.specs.Writer.{most, Checked, bad, good, Entry, edit, checkedOf, duty, laid, bytesOf}
+use Rattle.sheet.specs.Plain.{editFor, entryOf}
 use Rattle.sheet.proofs.Payloads.{kind-small, payload-length, payload-short, size-latest}
 use Rattle.sheet.proofs.Rules.{length-bytes}
-use Rattle.sheet.proofs.Tables.{Below, below-at, past-end}
+use Rattle.sheet.proofs.Requests.{Says, checks-say, kind-kept}
 use Rattle.writer.specs.Kernels.{orZero, partsOf}
 use Rattle.writer.specs.declared.Parts.{Parts}
 use Rattle.writer.specs.declared.Parts.the-variants.{Are, Refused}
@@ -29,31 +24,21 @@ data Made (kind : ℕ) : Checked → Type 0 where
   stops : (e : Refusal) → Made kind (bad e)
   makes : (e : Edit) → kindOf e ≡ kind → Made kind (good (edit e))
 
-each-kind : (f : Fields) → Below (λ k. Made (suc k) (madeBy (getElem? makers k) f)) 11
-unfolding kindOf
-each-kind f =
-    (((((((((((tt, makes _ refl), makes _ refl), makes _ refl), unless (ltb 64 (f .width)) WidthOver _ refl), makes _ refl), makes _ refl), unless (ltb 4_294_967_296 (f .size)) IndexOver _ refl), makes _ refl), makes _ refl), makes _ refl), makes _ refl)
-  where
-    unless : {kind : ℕ} (t : Bool) (r : Refusal) (e : Edit) → kindOf e ≡ kind → Made kind (choose t (bad r) (good (edit e)))
-    unless true r e k = stops r
-    unless false r e k = makes e k
-
 made : (kind : ℕ) (f : Fields) → Made kind (checkedOf (duty kind f))
-unfolding checkedOf
-made zero f = stops NewerKind
-made (suc k) f = go (decLe 11 k)
+unfolding entryOf
+made kind f = go (checkedOf (duty kind f)) (checks-say (duty kind f))
   where
-    go : Dec (11 ≤ k) → Made (suc k) (madeBy (getElem? makers k) f)
-    go (yes h) = subst (λ (m : Option (Fields → Checked)). Made (suc k) (madeBy m f)) (sym (past-end makers k h)) (stops NewerKind)
-    go (no h) = below-at (λ k. Made (suc k) (madeBy (getElem? makers k) f)) 11 k (each-kind f) (omega arith)
+    go : (c : Checked) → Says (duty kind f) c → Made kind c
+    go (bad e) h = stops e
+    go (good x) h = subst (λ (y : Entry). Made kind (good y)) (h .1) (makes (editFor kind f) (kind-kept kind f (h .0)))
 
 -- what is asked is a record of this kind, whose payload is the n bytes of two parts
 pub record Duty (kind h l n : ℕ) (c : Checked) : Type 0 where
   pub entry : Entry
   pub asked : c ≡ good entry
   pub laid-out : Laid entry (128 + kind) (bytes n (h * 2 ^ 64 + l)) n
-  pub small : n ≤ 65_535
-  pub kinds : kind ≤ 11
+  pub small : n ≤ most
+  pub kinds : kind ≤ length table
 
 module _ (kind : ℕ) (f : Fields) (r : Parts) (told : r ≡ partsOf (checkedOf (duty kind f))) where
   pub duty-bad : (e : Refusal) → r ≡ Refused e → checkedOf (duty kind f) ≡ bad e

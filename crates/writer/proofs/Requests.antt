@@ -4,6 +4,7 @@ use mathlib.Core.Path.{_≡_, refl, sym, ap, ap₂, _∙_, subst}
 use mathlib.Core.Option.{Option}
 use native.Mathlib.Omega.{arith}
 use native.Mathlib.Decide.{decLe, ℕ-discrete}
+use lib.ListN.{length}
 use borrow.Author.Tests.{lt-ltb, le-ltb}
 use Rattle.word.specs.Sets.{val}
 use Rattle.storage.specs.declared.Refusal.the-variants.{WidthOver, IndexOver, NewerKind}
@@ -107,7 +108,7 @@ module _ (f : Fields) where
   unfolding partsOf checkedOf
   gets-13-zero kind e = gets-at (Refused NewerKind) kind 0 e refl
 
-  pub gets-13-past : (kind : ℕ) → 12 ≤ kind → Gets (Refused NewerKind) kind
+  pub gets-13-past : (kind : ℕ) → length makers < kind → Gets (Refused NewerKind) kind
   unfolding partsOf checkedOf
   gets-13-past zero h = absurd (omega arith)
   gets-13-past (suc k) h = ap (λ (m : Option (Fields → Checked)). partsOf (madeBy m f)) (sym (past-end makers k (omega arith)))
