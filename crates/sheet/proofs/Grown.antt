@@ -11,7 +11,7 @@ use Rattle.sheet.specs.Bytes.{bytes}
 use Rattle.sheet.specs.Kinds.{payloadOf}
 use Rattle.sheet.specs.Reader.{Item, countIn}
 use Rattle.sheet.specs.Meaning.{Stands, Header, total, past, start, Whole, Is}
-use Rattle.sheet.specs.Writer.{most, Request, duty, remark, Entry, edit, note, bytesOf}
+use Rattle.sheet.specs.Writer.{most, Request, duty, remark, Entry, edit, note, bytesOf, raised}
 use Rattle.sheet.specs.Plain.{refusalOf, editFor, entryOf}
 use Rattle.sheet.specs.Promises.{Laid, Wanted, Grows}
 use Rattle.sheet.proofs.Laid.{itemOf, two-bytes}
@@ -84,25 +84,22 @@ module _ (buf : List ℕ) (len : ℕ) (x : Entry) where
   abbrev front : List ℕ
   front = take len buf
 
-  abbrev raised : List ℕ
-  raised = sets buf 2 (bytes 2 (countIn buf + 1))
-
   abbrev after : List ℕ
-  after = take len raised ++ bytesOf x
+  after = take len (raised buf) ++ bytesOf x
 
   module _ (fits : len ≤ length buf) (head : Header front) (whole : (j : ℕ) → j < total front → Whole front j) (ends : start front (total front) ≡ length front)
       (few : total front < most) (framed : Framed x) where
     front-long : length front ≡ len
     front-long = length-take-le len buf fits
 
-    raised-long : length (take len raised) ≡ len
-    raised-long = length-take-le len raised (omega (arith, length-sets buf 2 (bytes 2 (countIn buf + 1))))
+    raised-long : length (take len (raised buf)) ≡ len
+    raised-long = length-take-le len (raised buf) (omega (arith, length-sets buf 2 (bytes 2 (countIn buf + 1))))
 
     counted : total front ≡ countIn buf
     counted = count-front buf len (head .0)
 
-    at-front : (j : ℕ) → j < len → getD after j 0 ≡ getD raised j 0
-    at-front j l = List·getD-append (take len raised) (bytesOf x) 0 j (omega (arith, raised-long)) ∙ getD-take len raised j 0 l
+    at-front : (j : ℕ) → j < len → getD after j 0 ≡ getD (raised buf) j 0
+    at-front j l = List·getD-append (take len (raised buf)) (bytesOf x) 0 j (omega (arith, raised-long)) ∙ getD-take len (raised buf) j 0 l
 
     -- only bytes 2 and 3 are others
     others : (j : ℕ) → (j ≡ 2 → ⊥) → (j ≡ 3 → ⊥) → j < length front → getD front j 0 ≡ getD after j 0
@@ -116,7 +113,7 @@ module _ (buf : List ℕ) (len : ℕ) (x : Entry) where
     agree j a l = others j (λ e. omega arith) (λ e. omega arith) l
 
     after-long : length after ≡ len + length (bytesOf x)
-    after-long = omega (arith, length-append (take len raised) (bytesOf x), raised-long)
+    after-long = omega (arith, length-append (take len (raised buf)) (bytesOf x), raised-long)
 
     more : total after ≡ total front + 1
     unfolding bytes
@@ -137,8 +134,8 @@ module _ (buf : List ℕ) (len : ℕ) (x : Entry) where
 
     stands-last : Stands after len (itemOf x)
     stands-last =
-        subst (λ (l : List ℕ). Stands (take len raised ++ l) len (itemOf x)) (append-nil (bytesOf x))
-        (subst (λ (n : ℕ). Stands (take len raised ++ (bytesOf x ++ [])) n (itemOf x)) raised-long (stands-there (take len raised) [] x framed))
+        subst (λ (l : List ℕ). Stands (take len (raised buf) ++ l) len (itemOf x)) (append-nil (bytesOf x))
+        (subst (λ (n : ℕ). Stands (take len (raised buf) ++ (bytesOf x ++ [])) n (itemOf x)) raised-long (stands-there (take len (raised buf)) [] x framed))
 
     last-start : start after (total front) ≡ len
     last-start = sym (same-start front after whole longer agree (total front) (omega arith)) ∙ ends ∙ front-long

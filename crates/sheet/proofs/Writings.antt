@@ -23,7 +23,7 @@ use Rattle.sheet.specs.Bytes.{bytes}
 use Rattle.sheet.specs.Reader.{Turn, done, countIn, endAt, read}
 use Rattle.sheet.specs.Meaning.{Header, total, start, Whole}
 use Rattle.sheet.specs.Reads.{editionOf, latest, fitting, Course, went, course, readAnswer, readStore, readingNumber, readingRecord, readingCount}
-use Rattle.sheet.specs.Writer.{most, Request, duty, remark, Entry, edit, note, Checked, bad, good, checkedOf, bytesOf, framesFault, sheetFault, Left, refuse, started, placed, placedBy, judged, added, Writes, addedNumber, addedLength, requested, Starts, Adds}
+use Rattle.sheet.specs.Writer.{most, Request, duty, remark, Entry, edit, note, Checked, bad, good, checkedOf, bytesOf, framesFault, sheetFault, Left, refuse, started, raised, placed, placedBy, judged, added, Writes, addedNumber, addedLength, requested, Starts, Adds}
 use Rattle.sheet.specs.Plain.{sheetOf, refusalOf, editFor, entryOf, answers, lastLength, lastBuffer, plainAnswers, lastPlain, asked}
 use Rattle.sheet.specs.Promises.{SheetGets, no-header, cut, remain, nothing, RequestGets, bytesAsked, AddGets, over, fault, wrong, full, fine, Leaves, Grows, AddMeans, AddsMean, Holding, StartGets, short, fresh, StartMeans, StartsMean, WholeLists}
 use Rattle.sheet.specs.declared.Fields.{Fields}
@@ -143,11 +143,8 @@ module _ (buf : List ℕ) (len : ℕ) (q : Request) where
   abbrev new : List ℕ
   new = bytesOf (entryOf q)
 
-  abbrev raised : List ℕ
-  raised = sets buf 2 (bytes 2 (countIn buf + 1))
-
   abbrev put-in : Left
-  put-in = record { answer = Done (len + length new); buffer = sets raised len new }
+  put-in = record { answer = Done (len + length new); buffer = sets (raised buf) len new }
 
   end-is : len + length new ≡ len + 3 + bytesAsked q
   end-is = omega (arith, bytes-asked q)
@@ -268,9 +265,9 @@ module _ (buf : List ℕ) (len : ℕ) (q : Request) where
       let head = good-sheet (sheet buf len q) g .headed in
       record {
         kept = λ p. absurd (omega arith);
-        long = length-sets (raised buf len q) len (new buf len q) ∙ length-sets buf 2 (bytes 2 (countIn buf + 1));
+        long = length-sets (raised buf) len (new buf len q) ∙ length-sets buf 2 (bytes 2 (countIn buf + 1));
         past = λ z.
-            drop-sets (new buf len q) (raised buf len q) len (len + length (new buf len q)) (omega arith)
+            drop-sets (new buf len q) (raised buf) len (len + length (new buf len q)) (omega arith)
             ∙ drop-sets (bytes 2 (countIn buf + 1)) buf 2 (len + length (new buf len q)) (omega (arith, head .0, length-take len buf, length-bytes 2 (countIn buf + 1)));
       }
 
@@ -280,7 +277,7 @@ module _ (buf : List ℕ) (len : ℕ) (q : Request) where
       let its = good-sheet (sheet buf len q) g in
       let good = request-is q 0 w in
       subst (Grows (take len buf) q)
-      (sym (put-last (new buf len q) (raised buf len q) len (omega (arith, length-sets buf 2 (bytes 2 (countIn buf + 1)), end-is buf len q))))
+      (sym (put-last (new buf len q) (raised buf) len (omega (arith, length-sets buf 2 (bytes 2 (countIn buf + 1)), end-is buf len q))))
       (grown buf len (entryOf q) l (its .headed) (its .whole) (its .ends) u (framed-entry q good) q (wanted q good))
 
 -- what holds of what a call came to holds of its answer and of the buffer that it left

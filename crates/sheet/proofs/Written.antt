@@ -16,7 +16,7 @@ use Rattle.storage.specs.declared.Refusal.{Refusal}
 use Rattle.storage.specs.declared.Refusal.the-variants.{NoSpace, NotSheet}
 use Rattle.sheet.specs.Bytes.{bytes}
 use Rattle.sheet.specs.Reader.{countIn}
-use Rattle.sheet.specs.Writer.{most, Request, requested, Entry, Checked, bad, good, checkedOf, bytesOf, sheetFault, Left, refuse, started, placed, placedBy, judged, added, Writes, addedNumber, addedLength}
+use Rattle.sheet.specs.Writer.{most, Request, requested, Entry, Checked, bad, good, checkedOf, bytesOf, sheetFault, Left, refuse, started, raised, placed, placedBy, judged, added, Writes, addedNumber, addedLength}
 use Rattle.sheet.specs.Plain.{asked, Plain, body, sheetOf, noRoom, refusalOf, entryOf, Answered, refusing, accepting, holding, Ask, start, addition, answered, Call, Typed, Went, lengthAfter, InRow, answers, lastLength, lastBuffer, plainAnswers, lastPlain}
 use Rattle.sheet.specs.declared.Fields.{Fields}
 use Rattle.sheet.specs.declared.Added.{Added}
@@ -93,17 +93,14 @@ module _ (buf : List ℕ) (len : ℕ) (es : List Entry) (h : Fronts buf len (som
   unfolding sheetOf
   longer e = omega (arith, h .0, ap length (body-snoc es e), length-append (body es) (bytesOf e))
 
-  stored : (e : Entry) → len + length (bytesOf e) ≤ length buf → take (len + length (bytesOf e)) (sets (sets buf 2 (bytes 2 (countIn buf + 1))) len (bytesOf e)) ≡ sheetOf (es ++ e ∷ [])
+  stored : (e : Entry) → len + length (bytesOf e) ≤ length buf → take (len + length (bytesOf e)) (sets (raised buf) len (bytesOf e)) ≡ sheetOf (es ++ e ∷ [])
   unfolding sheetOf
   stored e l =
-      put-last (bytesOf e) raised len (rw (length-sets buf 2 (bytes 2 (countIn buf + 1))) l)
+      put-last (bytesOf e) (raised buf) len (rw (length-sets buf 2 (bytes 2 (countIn buf + 1))) l)
       ∙ ap (λ (f : List ℕ). f ++ bytesOf e) front
       ∙ last
     where
-      raised : List ℕ
-      raised = sets buf 2 (bytes 2 (countIn buf + 1))
-
-      front : take len raised ≡ put (put (sheetOf es) 2 ((countIn buf + 1) / 256 ^ 1 % 256)) 3 ((countIn buf + 1) / 256 ^ 0 % 256)
+      front : take len (raised buf) ≡ put (put (sheetOf es) 2 ((countIn buf + 1) / 256 ^ 1 % 256)) 3 ((countIn buf + 1) / 256 ^ 0 % 256)
       front =
           take-set-lt len (put buf 2 ((countIn buf + 1) / 256 ^ 1 % 256)) 3 ((countIn buf + 1) / 256 ^ 0 % 256) (omega (arith, four))
           ∙ ap (λ (f : List ℕ). put f 3 ((countIn buf + 1) / 256 ^ 0 % 256)) (take-set-lt len buf 2 ((countIn buf + 1) / 256 ^ 1 % 256) (omega (arith, four)) ∙ ap (λ (f : List ℕ). put f 2 ((countIn buf + 1) / 256 ^ 1 % 256)) (h .1))
@@ -123,7 +120,7 @@ module _ (buf : List ℕ) (len : ℕ) (es : List Entry) (h : Fronts buf len (som
       full = leb most (countIn buf) || ltb (length buf) end
 
       put-in : Left
-      put-in = record { answer = Done end; buffer = sets (sets buf 2 (bytes 2 (countIn buf + 1))) len (bytesOf e) }
+      put-in = record { answer = Done end; buffer = sets (raised buf) len (bytesOf e) }
 
       same : full ≡ noRoom (length buf) es e
       same = ap₂ (λ (a b : ℕ). leb most a || ltb (length buf) b) counted (sym (longer e))
