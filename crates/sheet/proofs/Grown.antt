@@ -5,8 +5,8 @@ use mathlib.Core.List.{List, [], _∷_, _++_, append-nil}
 use mathlib.Core.Logic.{_↔_}
 use native.Mathlib.Omega.{arith}
 use native.Mathlib.Numerals.{add-one}
-use lib.ListN.{set as put, length, getD, take, drop, length-append, length-take, List·getD-append}
-use lib.Seq.{sets, sets-eq, length-sets, take-at, getD-take, length-take-le, getD-set-same, getD-set-other}
+use lib.ListN.{set as put, length, getD, take, drop, length-append, length-take, length-set, List·getD-append}
+use lib.Seq.{sets, sets-eq, length-sets, take-at, getD-take, length-take-le, getD-set-same, getD-set-other, drop-set-lt}
 use Rattle.sheet.specs.Bytes.{bytes}
 use Rattle.sheet.specs.Kinds.{payloadOf}
 use Rattle.sheet.specs.Reader.{Item, countIn}
@@ -24,6 +24,44 @@ pub put-last : (vs l : List ℕ) (n : ℕ) → n + length vs ≤ length l → ta
 put-last vs l n h =
     ap (take (n + length vs)) (sets-eq vs l n h)
     ∙ take-at (take n l ++ vs) (drop (n + length vs) l) (n + length vs) (length-append (take n l) vs ∙ ap (λ (m : ℕ). m + length vs) (length-take-le n l (omega arith)))
+
+pub drop-sets : (vs l : List ℕ) (i n : ℕ) → i + length vs ≤ n → drop n (sets l i vs) ≡ drop n l
+drop-sets [] l i n h = refl
+drop-sets (v ∷ vs) l i n h = drop-sets vs (put l i v) (suc i) n (omega arith) ∙ drop-set-lt n l i v (omega arith)
+
+-- ---- the count
+
+-- x in the two bytes of R
+module _ (buf : List ℕ) (x : ℕ) where
+  two-other : (j : ℕ) → (j ≡ 2 → ⊥) → (j ≡ 3 → ⊥) → getD (sets buf 2 (bytes 2 x)) j 0 ≡ getD buf j 0
+  unfolding bytes
+  two-other j a b = getD-set-other (put buf 2 (x / 256 ^ 1 % 256)) 3 j (x / 256 ^ 0 % 256) 0 b ∙ getD-set-other buf 2 j (x / 256 ^ 1 % 256) 0 a
+
+  two-count : 4 ≤ length buf → x ≤ most → countIn (sets buf 2 (bytes 2 x)) ≡ x
+  unfolding bytes
+  two-count h l =
+      ap₂ (λ (a b : ℕ). a * 256 + b)
+      (getD-set-other (put buf 2 (x / 256 ^ 1 % 256)) 3 2 (x / 256 ^ 0 % 256) 0 (λ e. omega arith) ∙ getD-set-same buf 2 (x / 256 ^ 1 % 256) 0 (omega arith))
+      (getD-set-same (put buf 2 (x / 256 ^ 1 % 256)) 3 (x / 256 ^ 0 % 256) 0 (omega (arith, length-set buf 2 (x / 256 ^ 1 % 256))))
+      ∙ two-bytes x l
+
+  two-past : (n : ℕ) → 4 ≤ n → drop n (sets buf 2 (bytes 2 x)) ≡ drop n buf
+  two-past n h = drop-sets (bytes 2 x) buf 2 n (omega (arith, length-bytes 2 x))
+
+-- R raised: one more, and no other byte changes
+module _ (buf : List ℕ) where
+  pub length-raised : length (raised buf) ≡ length buf
+  unfolding bytes
+  length-raised = simp length-set
+
+  other-raised : (j : ℕ) → (j ≡ 2 → ⊥) → (j ≡ 3 → ⊥) → getD (raised buf) j 0 ≡ getD buf j 0
+  other-raised j a b = two-other buf _ j a b
+
+  count-raised : 4 ≤ length buf → countIn buf < most → countIn (raised buf) ≡ countIn buf + 1
+  count-raised h l = two-count buf (countIn buf + 1) h (omega arith)
+
+  pub past-raised : (n : ℕ) → 4 ≤ n → drop n (raised buf) ≡ drop n buf
+  past-raised n h = two-past buf _ n h
 
 -- the count stands in the first four bytes
 pub count-front : (buf : List ℕ) (len : ℕ) → 4 ≤ length (take len buf) → total (take len buf) ≡ countIn buf
@@ -93,7 +131,7 @@ module _ (buf : List ℕ) (len : ℕ) (x : Entry) where
     front-long = length-take-le len buf fits
 
     raised-long : length (take len (raised buf)) ≡ len
-    raised-long = length-take-le len (raised buf) (omega (arith, length-sets buf 2 (bytes 2 (countIn buf + 1))))
+    raised-long = length-take-le len (raised buf) (omega (arith, length-raised buf))
 
     counted : total front ≡ countIn buf
     counted = count-front buf len (head .0)
@@ -103,11 +141,7 @@ module _ (buf : List ℕ) (len : ℕ) (x : Entry) where
 
     -- only bytes 2 and 3 are others
     others : (j : ℕ) → (j ≡ 2 → ⊥) → (j ≡ 3 → ⊥) → j < length front → getD front j 0 ≡ getD after j 0
-    unfolding bytes
-    others j a b l =
-        getD-take len buf j 0 (omega (arith, front-long))
-        ∙ sym (at-front j (omega (arith, front-long)) ∙ getD-set-other (put buf 2 ((countIn buf + 1) / 256 ^ 1 % 256)) 3 j ((countIn buf + 1) / 256 ^ 0 % 256) 0 b
-        ∙ getD-set-other buf 2 j ((countIn buf + 1) / 256 ^ 1 % 256) 0 a)
+    others j a b l = getD-take len buf j 0 (omega (arith, front-long)) ∙ sym (at-front j (omega (arith, front-long)) ∙ other-raised buf j a b)
 
     agree : (j : ℕ) → 4 ≤ j → j < length front → getD front j 0 ≡ getD after j 0
     agree j a l = others j (λ e. omega arith) (λ e. omega arith) l
@@ -116,18 +150,9 @@ module _ (buf : List ℕ) (len : ℕ) (x : Entry) where
     after-long = omega (arith, length-append (take len (raised buf)) (bytesOf x), raised-long)
 
     more : total after ≡ total front + 1
-    unfolding bytes
     more =
-        ap₂ (λ (a b : ℕ). a * 256 + b)
-        (at-front 2 (omega (arith, front-long, head .0)) ∙ getD-set-other (put buf 2 high) 3 2 low 0 (λ e. omega arith) ∙ getD-set-same buf 2 high 0 (omega (arith, front-long, head .0)))
-        (at-front 3 (omega (arith, front-long, head .0)) ∙ getD-set-same (put buf 2 high) 3 low 0 (omega (arith, front-long, head .0, length-sets buf 2 (high ∷ []))))
-        ∙ two-bytes (countIn buf + 1) (omega (arith, counted)) ∙ ap (λ (n : ℕ). n + 1) (sym counted)
-      where
-        high : ℕ
-        high = (countIn buf + 1) / 256 ^ 1 % 256
-
-        low : ℕ
-        low = (countIn buf + 1) / 256 ^ 0 % 256
+        ap₂ (λ (a b : ℕ). a * 256 + b) (at-front 2 (omega (arith, front-long, head .0))) (at-front 3 (omega (arith, front-long, head .0)))
+        ∙ count-raised buf (omega (arith, front-long, head .0)) (omega (arith, counted)) ∙ ap (λ (n : ℕ). n + 1) (sym counted)
 
     longer : length front ≤ length after
     longer = omega (arith, after-long, front-long)

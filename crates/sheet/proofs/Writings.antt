@@ -8,8 +8,8 @@ use mathlib.Core.Option.{Option, none, some}
 use native.Mathlib.Omega.{arith}
 use native.Mathlib.Decide.{decLe}
 use native.Mathlib.Nat.{add-zero, add-suc, suc-add, zero-add}
-use lib.ListN.{set as put, length, take, drop, length-take}
-use lib.Seq.{sets, drop-set-lt, length-sets}
+use lib.ListN.{length, take, drop, length-take}
+use lib.Seq.{sets, length-sets}
 use lib.Dec.{leb, ltb}
 use borrow.Author.Tests.{ltb-true, ltb-false, lt-ltb, le-ltb, le-leb, lt-leb}
 use Rattle.word.specs.Sets.{choose}
@@ -19,8 +19,8 @@ use Rattle.storage.specs.Refusals.{numberOf}
 use Rattle.storage.proofs.Promises.{each-number-once}
 use Rattle.storage.specs.declared.Refusal.{Refusal}
 use Rattle.storage.specs.declared.Refusal.the-variants.{CountOverStore, NoSpace}
-use Rattle.sheet.specs.Bytes.{bytes}
 use Rattle.sheet.specs.Reader.{Turn, done, countIn, endAt, read}
+use Rattle.sheet.specs.Bytes.{bytes}
 use Rattle.sheet.specs.Meaning.{Header, total, start, Whole}
 use Rattle.sheet.specs.Reads.{editionOf, latest, fitting, Course, went, course, readAnswer, readStore, readingNumber, readingRecord, readingCount}
 use Rattle.sheet.specs.Writer.{most, Request, duty, remark, Entry, edit, note, Checked, bad, good, checkedOf, bytesOf, framesFault, sheetFault, Left, refuse, started, raised, placed, placedBy, judged, added, Writes, addedNumber, addedLength, requested, Starts, Adds}
@@ -30,12 +30,11 @@ use Rattle.sheet.specs.declared.Fields.{Fields}
 use Rattle.sheet.specs.declared.Added.{Added}
 use Rattle.sheet.specs.declared.Added.the-variants.{Done, Refused}
 use Rattle.sheet.proofs.Turns.{take-true, take-false, header?, headed-true, headed-false}
-use Rattle.sheet.proofs.Rules.{length-bytes}
 use Rattle.sheet.proofs.Laid.{read-sheet, in-latest}
 use Rattle.sheet.proofs.Readings.{course-passes, fits-old}
 use Rattle.sheet.proofs.Papers.{table-agrees}
 use Rattle.sheet.proofs.Requests.{Says, checks-say, checks-good, request-gets, request-is}
-use Rattle.sheet.proofs.Grown.{put-last, count-front, bytes-long, grown, framed-entry, wanted}
+use Rattle.sheet.proofs.Grown.{put-last, drop-sets, length-raised, past-raised, count-front, bytes-long, grown, framed-entry, wanted}
 use Rattle.sheet.proofs.Written.{begun, Fronts, along}
 use Rattle.sheet.proofs.Sheets.{sheet-is}
 
@@ -251,10 +250,6 @@ module _ (buf : List ℕ) (len : ℕ) (q : Request) where
 
 -- ---- what is left in the buffer
 
-drop-sets : (vs l : List ℕ) (i n : ℕ) → i + length vs ≤ n → drop n (sets l i vs) ≡ drop n l
-drop-sets [] l i n h = refl
-drop-sets (v ∷ vs) l i n h = drop-sets vs (put l i v) (suc i) n (omega arith) ∙ drop-set-lt n l i v (omega arith)
-
 refuse-leaves : (e : Refusal) (buf : List ℕ) → Leaves buf (Refused e) buf
 refuse-leaves e buf = record { kept = λ p. refl; long = refl; past = λ z. refl }
 
@@ -265,10 +260,10 @@ module _ (buf : List ℕ) (len : ℕ) (q : Request) where
       let head = good-sheet (sheet buf len q) g .headed in
       record {
         kept = λ p. absurd (omega arith);
-        long = length-sets (raised buf) len (new buf len q) ∙ length-sets buf 2 (bytes 2 (countIn buf + 1));
+        long = length-sets (raised buf) len (new buf len q) ∙ length-raised buf;
         past = λ z.
             drop-sets (new buf len q) (raised buf) len (len + length (new buf len q)) (omega arith)
-            ∙ drop-sets (bytes 2 (countIn buf + 1)) buf 2 (len + length (new buf len q)) (omega (arith, head .0, length-take len buf, length-bytes 2 (countIn buf + 1)));
+            ∙ past-raised buf (len + length (new buf len q)) (omega (arith, head .0, length-take len buf));
       }
 
   grows : (a : Left) → Came buf len q a → addedNumber (a .answer) ≡ 0 → Grows (take len buf) q (take (addedLength (a .answer)) (a .buffer))
@@ -277,7 +272,7 @@ module _ (buf : List ℕ) (len : ℕ) (q : Request) where
       let its = good-sheet (sheet buf len q) g in
       let good = request-is q 0 w in
       subst (Grows (take len buf) q)
-      (sym (put-last (new buf len q) (raised buf) len (omega (arith, length-sets buf 2 (bytes 2 (countIn buf + 1)), end-is buf len q))))
+      (sym (put-last (new buf len q) (raised buf) len (omega (arith, length-raised buf, end-is buf len q))))
       (grown buf len (entryOf q) l (its .headed) (its .whole) (its .ends) u (framed-entry q good) q (wanted q good))
 
 -- what holds of what a call came to holds of its answer and of the buffer that it left

@@ -6,7 +6,7 @@ use mathlib.Core.List.{List, [], _∷_, _++_, append-assoc, append-nil}
 use mathlib.Core.Option.{Option, none, some}
 use native.Mathlib.Omega.{arith}
 use lib.ListN.{set as put, length, getD, take, drop, length-append, length-take}
-use lib.Seq.{sets, take-set-lt, getD-take, length-sets}
+use lib.Seq.{sets, take-set-lt, getD-take}
 use lib.Dec.{leb, ltb}
 use borrow.Author.Tests.{ltb-false, leb-false, le-ltb}
 use Rattle.word.specs.Sets.{choose}
@@ -23,7 +23,7 @@ use Rattle.sheet.specs.declared.Added.{Added}
 use Rattle.sheet.specs.declared.Added.the-variants.{Done}
 use Rattle.sheet.proofs.Turns.{take-false}
 use Rattle.sheet.proofs.Laid.{Proper, AllProper, two-bytes, no-fault}
-use Rattle.sheet.proofs.Grown.{put-last}
+use Rattle.sheet.proofs.Grown.{put-last, length-raised}
 use Rattle.sheet.proofs.Requests.{Says, Passing, checks-say, TypedQ, checks-pass, neither}
 
 -- the buffer's front is the plain sheet
@@ -96,7 +96,7 @@ module _ (buf : List ℕ) (len : ℕ) (es : List Entry) (h : Fronts buf len (som
   stored : (e : Entry) → len + length (bytesOf e) ≤ length buf → take (len + length (bytesOf e)) (sets (raised buf) len (bytesOf e)) ≡ sheetOf (es ++ e ∷ [])
   unfolding sheetOf
   stored e l =
-      put-last (bytesOf e) (raised buf) len (rw (length-sets buf 2 (bytes 2 (countIn buf + 1))) l)
+      put-last (bytesOf e) (raised buf) len (omega (arith, length-raised buf))
       ∙ ap (λ (f : List ℕ). f ++ bytesOf e) front
       ∙ last
     where
