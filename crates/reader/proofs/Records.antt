@@ -20,7 +20,7 @@ use Rattle.storage.specs.declared.Change.the-variants.{Done, Refused}
 use Rattle.storage.proofs.Views.{view-count, bounded-view}
 use Rattle.storage.proofs.Stores.{view-written, length-written}
 use Rattle.sheet.specs.Reader.{Edition, Item, Turn, stop, next, Answer, refused, done, act, known, edit, edited, then, records, endAt, itemAt}
-use Rattle.sheet.specs.Reads.{step, made, editionOf, went, readAnswer}
+use Rattle.sheet.specs.Reads.{editionOf, went, readAnswer}
 use Rattle.sheet.specs.declared.Edit.{Edit}
 use Rattle.sheet.specs.declared.Reading.the-variants as reading
 use Rattle.reader.specs.Kernels.{Padded, outcomeOf, turned, Came}

@@ -11,7 +11,7 @@ use native.Mathlib.Nat.{add-suc, suc-add, zero-add}
 use lib.ListN.{length}
 use lib.Dec.{eqb, eqb→eq}
 use Rattle.word.specs.Sets.{choose}
-use Rattle.storage.specs.declared.Refusal.the-variants.{NotSheet, NewerKind}
+use Rattle.storage.specs.declared.Refusal.the-variants.{NewerKind}
 use Rattle.sheet.specs.Reader.{Edition, Item, Answer, refused, done, answerNumber, answerRecord, Turn, stop, next, endAt, edit, edited, known, act, then, records, copied, read}
 use Rattle.sheet.specs.Meaning.{Header, total, start, Whole, effect, begin, AtRecord, Newer, newer, Holds}
 use Rattle.sheet.specs.Promises.{AnyTwo}

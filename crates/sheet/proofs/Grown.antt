@@ -6,7 +6,7 @@ use mathlib.Core.Logic.{_↔_}
 use native.Mathlib.Omega.{arith}
 use native.Mathlib.Numerals.{add-one}
 use lib.ListN.{set as put, length, getD, take, drop, length-append, length-take, length-set, List·getD-append}
-use lib.Seq.{sets, sets-eq, length-sets, take-at, getD-take, length-take-le, getD-set-same, getD-set-other, drop-set-lt}
+use lib.Seq.{sets, sets-eq, take-at, getD-take, length-take-le, getD-set-same, getD-set-other, drop-set-lt}
 use Rattle.sheet.specs.Bytes.{bytes}
 use Rattle.sheet.specs.Kinds.{payloadOf}
 use Rattle.sheet.specs.Reader.{Item, countIn}

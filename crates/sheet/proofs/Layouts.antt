@@ -1,10 +1,10 @@
 -- Fields packed into a number are unpacked as they were, and back. Assumes nothing.
-use Prim.Native.Nat.{ℕ, _+_, _*_, _^_, _/_, _%_, _≤_, _<_}
+use Prim.Native.Nat.{ℕ, _+_, _*_, _^_, _/_, _%_, _<_}
 use mathlib.Core.Path.{_≡_, refl, sym, ap, ap₂, _∙_, subst}
 use mathlib.Core.Bool.{Bool, true, _&&_}
 use mathlib.Core.List.{List, [], _∷_}
 use native.Mathlib.Omega.{arith}
-use native.Mathlib.Nat.{mod-eq-of-lt, mod-lt, mul-assoc, add-comm, add-mul-div-right, add-mul-mod-self-right}
+use native.Mathlib.Nat.{mod-eq-of-lt, mul-assoc, add-comm, add-mul-div-right, add-mul-mod-self-right}
 use lib.Arith.{digits-lt}
 use lib.Pow.{pow-pos, pow-add, high, mod-pow-add}
 use lib.Dec.{leb, ltb}

@@ -1,9 +1,8 @@
 -- The table of kinds is the paper's: each line is computed, and the digits follow for any fields. Assumes nothing.
-use Prim.Native.Nat.{ℕ, zero, suc, _+_, _*_, _^_, _/_, _%_, _≤_, _<_}
+use Prim.Native.Nat.{ℕ, zero, suc, _+_, _*_, _^_, _/_, _%_, _<_}
 use mathlib.Core.Path.{_≡_, refl, sym, ap, ap₂, _∙_, subst}
 use mathlib.Core.Bool.{Bool}
 use mathlib.Core.List.{List, [], _∷_, _++_}
-use mathlib.Core.Logic.{_↔_}
 use mathlib.Core.Option.{Option, none, some}
 use native.Mathlib.Omega.{arith}
 use native.Mathlib.Nat.{mod-eq-of-lt, pow-suc, mul-comm, add-zero, suc-add, zero-add, add-comm, mul-assoc, add-mul-div-right, add-mul-mod-self-right}
@@ -20,7 +19,7 @@ use Rattle.sheet.specs.Promises.{AsPrinted, TableAgrees, Laid, PayloadsE
 use Rattle.sheet.specs.declared.Edit.{Edit}
 use Rattle.sheet.specs.declared.Edit.the-variants.{Set, Unset, SetRegion, SetField, Shift, Rotate, Resize, Reverse, ToggleRegion, Open, Close}
 use Rattle.sheet.proofs.Layouts.{Sized, range-sized, packed-small}
-use Rattle.sheet.proofs.Payloads.{GoodRow, octets, fits, good-row, row-for, good, numbered-is, payload-length, ranged, held, Lays, asks-lays}
+use Rattle.sheet.proofs.Payloads.{octets, fits, good-row, row-for, good, numbered-is, payload-length, ranged, held, Lays, asks-lays}
 use Rattle.sheet.proofs.Rules.{AllBytes, byte-bits, bytes-small}
 
 -- ---- each line, computed

@@ -6,7 +6,7 @@ use mathlib.Core.List.{List, [], _∷_}
 use mathlib.Core.Logic.{_↔_}
 use mathlib.Core.Option.{Option, none, some}
 use native.Mathlib.Omega.{arith}
-use native.Mathlib.Nat.{mod-eq-of-lt, add-zero, add-suc, suc-add, zero-add}
+use native.Mathlib.Nat.{mod-eq-of-lt, add-zero, add-suc, suc-add}
 use lib.ListN.{length, getElem?}
 use lib.Pow.{high, low, pow-pos, recompose, shl-lt}
 use lib.Dec.{leb, eqb}

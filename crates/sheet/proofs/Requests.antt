@@ -18,7 +18,7 @@ use Rattle.storage.specs.declared.Refusal.{Refusal}
 use Rattle.storage.specs.declared.Refusal.the-variants.{WidthOver, IndexOver, BadPayload, NewerKind}
 use Rattle.sheet.specs.Layout.{InRange}
 use Rattle.sheet.specs.Kinds.{place, kindOf, Ranged}
-use Rattle.sheet.specs.Writer.{most, Request, duty, remark, Entry, note, Checked, bad, good, makers, makerOf, madeBy, checkedOf}
+use Rattle.sheet.specs.Writer.{most, Request, duty, remark, note, Checked, bad, good, makers, makerOf, madeBy, checkedOf}
 use Rattle.sheet.specs.Plain.{wrongKind, wrongWidth, wrongSize, wrongPayload, refusalOf, editFor, entryOf, Typed}
 use Rattle.sheet.specs.Promises.{DutyGets, no-kind, wide, large, good-duty, RemarkGets, high, over-long, good-remark, RequestGets}
 use Rattle.sheet.specs.declared.Fields.{Fields}

@@ -2,14 +2,14 @@
 use Prim.Native.Nat.{ℕ, zero, suc, _+_, _*_, _≤_, _<_}
 use mathlib.Core.Path.{_≡_, refl, sym, ap, ap₂, _∙_, subst}
 use mathlib.Core.List.{List, [], _∷_, _++_, append-assoc, append-nil}
-use mathlib.Core.Option.{Option, none, some}
+use mathlib.Core.Option.{some}
 use native.Mathlib.Omega.{arith}
 use native.Mathlib.Nat.{add-zero, add-suc, suc-add, zero-add}
 use lib.ListN.{length, getD, getElem?, length-append, List·getD-append}
 use lib.Seq.{getD-append-seam, getD-append-add}
 use lib.Dec.{leb}
 use Rattle.sheet.specs.Bytes.{bytes}
-use Rattle.sheet.specs.Reader.{Item, endAt}
+use Rattle.sheet.specs.Reader.{endAt}
 use Rattle.sheet.specs.Meaning.{Stands, start, Is}
 use Rattle.sheet.specs.Writer.{most, Entry, edit, note, laid, bytesOf}
 use Rattle.sheet.specs.Plain.{body, sheetOf}

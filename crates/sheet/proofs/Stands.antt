@@ -1,6 +1,6 @@
 -- The reader's decoding of a record is the one that stands in the sheet, and no other. Assumes nothing.
-use Prim.Native.Nat.{ℕ, suc, _+_, _*_, _-_, _/_, _%_, _≤_, _<_}
-use mathlib.Core.Path.{_≡_, refl, sym, ap, ap₂, _∙_, subst}
+use Prim.Native.Nat.{ℕ, suc, _+_, _/_, _%_, _≤_, _<_}
+use mathlib.Core.Path.{_≡_, refl, sym, ap, _∙_, subst}
 use mathlib.Core.Bool.{Bool, true, false, false≢true}
 use mathlib.Core.List.{List, _++_, append-nil}
 use mathlib.Core.Option.{Option, none, some}
@@ -11,8 +11,8 @@ use lib.Dec.{leb, eqb}
 use borrow.Author.Tests.{le-leb, lt-leb, eq-eqb, eqb-true}
 use Rattle.word.specs.Sets.{choose}
 use Rattle.word.proofs.Cases.{by-lt}
-use Rattle.sheet.specs.Reader.{Edition, Item, sizeAt, endAt, itemAt, edit}
-use Rattle.sheet.specs.Meaning.{Stands, start, Whole, Asks, Sound, begin, remark, duty}
+use Rattle.sheet.specs.Reader.{Edition, Item, sizeAt, endAt, itemAt}
+use Rattle.sheet.specs.Meaning.{Stands, start, Whole, Asks, Sound, remark, duty}
 use Rattle.sheet.proofs.Turns.{none-some, take-true, take-false, listed, sized, editOf}
 
 module _ (sheet : List ℕ) (at : ℕ) where

@@ -4,7 +4,7 @@ use mathlib.Core.Path.{_≡_}
 use mathlib.Core.Bool.{true, false}
 use mathlib.Core.List.{List, [], _++_}
 use mathlib.Core.Logic.{_↔_, _⊎_}
-use mathlib.Core.Option.{Option, none, some}
+use mathlib.Core.Option.{none, some}
 use lib.ListN.{length, getD, getElem?, take, drop}
 use lib.Dec.{leb}
 use Rattle.word.specs.Sets.{choose}
@@ -12,7 +12,6 @@ use Rattle.word.specs.Bits.{member}
 use Rattle.storage.specs.Refusals.{numberOf}
 use Rattle.storage.specs.Stores.{Bits, Bounded, Outcome, limit, view, written}
 use Rattle.storage.specs.declared.Refusal.{Refusal}
-use Rattle.storage.specs.declared.Refusal.the-variants.{StoreTooLong, CountOverStore, NoSpace, NewerKind, NoEdition}
 use Rattle.bits.specs.Promises.{Reversed}
 use Rattle.shift.specs.Promises.{RotatedLeft, RotatedRight}
 use Rattle.bitmap.specs.Promises.{WithBit, WithoutBit, WithRegion, WithField}
@@ -23,8 +22,8 @@ use Rattle.sheet.specs.Paper.{IsEdition, printed, Allowed, digits, cellD
 use Rattle.sheet.specs.Reader.{Edition, Turn, stop, next, Item, Answer, done, answerNumber, answerRecord, read, refused}
 use Rattle.sheet.specs.Meaning.{Header, total, start, Whole, Is, Asks, effect, AtRecord, Newer, Applies, Accepted, Means as SheetMeans}
 use Rattle.sheet.specs.Reads.{step, editionOf, latest, fitting, Reads, readingNumber, readingRecord, readingCount}
-use Rattle.sheet.specs.Writer.{Request, duty, remark, Entry, edit, note, Starts, Adds, addedNumber, addedLength, bytesOf}
-use Rattle.sheet.specs.Plain.{sheetOf, editsIn, editFor, Typed, Call, InRow, answers, lastLength, lastBuffer, plainAnswers, lastPlain, refusalOf, entryOf}
+use Rattle.sheet.specs.Writer.{Request, duty, remark, Entry, edit, note, Starts, Adds, addedNumber, addedLength}
+use Rattle.sheet.specs.Plain.{sheetOf, editsIn, editFor, Typed, Call, InRow, answers, lastLength, lastBuffer, plainAnswers, lastPlain}
 use Rattle.sheet.specs.declared.Edit.{Edit}
 use Rattle.sheet.specs.declared.Edit.the-variants.{Set, Unset, SetRegion, SetField, Shift, Rotate, Resize, Reverse, ToggleRegion, Open, Close}
 use Rattle.sheet.specs.declared.Fields.{Fields}
