@@ -1,4 +1,4 @@
--- The reader gives exactly the answer that the sheet's meaning names, for any edition, state and step.
+-- The reader gives exactly the answer that is due, for any edition, state and step.
 use Prim.Native.Nat.{ℕ, zero, suc, _+_, _-_, _≤_, _<_}
 use mathlib.Core.Path.{_≡_, refl, sym, ap, _∙_, subst}
 use mathlib.Core.List.{List, [], _++_}
@@ -12,7 +12,7 @@ use Rattle.storage.specs.declared.Refusal.{Refusal}
 use Rattle.storage.specs.declared.Refusal.the-variants.{NotSheet, CutRecord, BytesRemain, BadPayload, NewerKind}
 use Rattle.storage.proofs.Promises.{each-number-once}
 use Rattle.sheet.specs.Reader.{Edition, Item, Answer, refused, done, Turn, stop, next, endAt, edit, act, then, records, copied, read}
-use Rattle.sheet.specs.Meaning.{Header, total, start, Whole, onward, effect, Sound, begin, Reached, AtRecord, Newer, Bad, Fails, Applies, not-sheet, unfit, cut, newer, bad, fails, remain, Means}
+use Rattle.sheet.specs.Meaning.{Header, total, start, Whole, onward, effect, Sound, begin, Reached, AtRecord, Newer, Bad, Fails, Applies, not-sheet, unfit, cut, newer, bad, fails, remain, Due}
 use Rattle.sheet.specs.Promises.{ReadExact}
 use Rattle.sheet.proofs.Stands.{stands, stands-whole, stands-is, asks, asked, item, Fine, sound-more, Less, sound-less}
 use Rattle.sheet.proofs.Turns.{none-some, stop-next, next-inj, take-true, take-false, header?, headed-true, headed-false, listed, editOf, edit-known, does, effect-append, Did, went, lacked, spoilt, failed, did, act-did, record-whole, record-cut, all-read, bytes-left}
@@ -80,16 +80,16 @@ module _ {A S : Type 0} (E : Edition A S) (sheet : List ℕ) where
     abbrev reached : (i : ℕ) (s : S) → Reaches s₀ i s → Reached E sheet old i
     reached i s h = record { headed = good; from = s₀; fits = fits; edits = h .0; sound = h .1; state = s; applied = h .2 }
 
-    at-end : (i : ℕ) (s : S) → i ≡ total sheet → Reaches s₀ i s → Dec (start sheet i < length sheet) → Means E sheet old (records E sheet 0 i (start sheet i) s)
+    at-end : (i : ℕ) (s : S) → i ≡ total sheet → Reaches s₀ i s → Dec (start sheet i < length sheet) → Due E sheet old (records E sheet 0 i (start sheet i) s)
     at-end i s c h (yes l) =
-        subst (Means E sheet old) (sym (bytes-left E sheet i (start sheet i) s l))
+        subst (Due E sheet old) (sym (bytes-left E sheet i (start sheet i) s l))
         (remain (reached (total sheet) s (subst (λ (m : ℕ). Reaches s₀ m s) c h)) (subst (λ (m : ℕ). start sheet m < length sheet) c l) refl c)
     at-end i s c h (no l) =
         let e : start sheet i ≡ length sheet = omega (arith, reach-bound i (h .0) (good .0) (h .1)) in
-        subst (Means E sheet old) (sym (all-read E sheet i (start sheet i) s e))
+        subst (Due E sheet old) (sym (all-read E sheet i (start sheet i) s e))
         (record { numbered = c; reached = reached (total sheet) s (subst (λ (m : ℕ). Reaches s₀ m s) c h); ends = subst (λ (m : ℕ). start sheet m ≡ length sheet) c e; makes = refl })
 
-    forward : (n i : ℕ) (s : S) → i + n ≡ total sheet → Reaches s₀ i s → Means E sheet old (records E sheet n i (start sheet i) s)
+    forward : (n i : ℕ) (s : S) → i + n ≡ total sheet → Reaches s₀ i s → Due E sheet old (records E sheet n i (start sheet i) s)
     forward zero i s c h = at-end i s (sym (add-zero i) ∙ c) h (decLe (suc (start sheet i)) (length sheet))
     forward (suc n) i s c h =
         go (decLe (endAt sheet (start sheet i)) (length sheet)) (λ t r. forward n (suc i) t (suc-add i n ∙ sym (add-suc i n) ∙ c) r)
@@ -98,9 +98,9 @@ module _ {A S : Type 0} (E : Edition A S) (sheet : List ℕ) where
         here P p = record { index = i; numbered = refl; within = omega arith; reached = reached i s h; here = p }
 
         after : Turn S → Type 0
-        after o = Means E sheet old (then E (records E sheet n (suc i) (start sheet (suc i))) (suc i) o)
+        after o = Due E sheet old (then E (records E sheet n (suc i) (start sheet (suc i))) (suc i) o)
 
-        on : Whole sheet i → ((t : S) → Reaches s₀ (suc i) t → Means E sheet old (records E sheet n (suc i) (start sheet (suc i)) t)) → (o : Turn S) → Did E (suc i) s (item E sheet i) o → Means E sheet old (then E (records E sheet n (suc i) (start sheet (suc i))) (suc i) o)
+        on : Whole sheet i → ((t : S) → Reaches s₀ (suc i) t → Due E sheet old (records E sheet n (suc i) (start sheet (suc i)) t)) → (o : Turn S) → Did E (suc i) s (item E sheet i) o → Due E sheet old (then E (records E sheet n (suc i) (start sheet (suc i))) (suc i) o)
         on w k o (went t g d q) = subst after (sym q) (k t (reaches-suc s₀ i s t h w g d))
         on w k o (lacked d p q) = subst after (sym q) (newer (here (Newer E sheet) (item E sheet i, stands sheet (start sheet i) w, d, p)) refl)
         on w k o (spoilt d m p x q) =
@@ -109,10 +109,10 @@ module _ {A S : Type 0} (E : Edition A S) (sheet : List ℕ) where
         on w k o (failed e p why x q) =
             subst after (sym q) (fails why (here (Fails E sheet why) (item E sheet i, stands sheet (start sheet i) w, e, asks E (item E sheet i) e p, x)) refl)
 
-        go : Dec (Whole sheet i) → ((t : S) → Reaches s₀ (suc i) t → Means E sheet old (records E sheet n (suc i) (start sheet (suc i)) t)) → Means E sheet old (records E sheet (suc n) i (start sheet i) s)
+        go : Dec (Whole sheet i) → ((t : S) → Reaches s₀ (suc i) t → Due E sheet old (records E sheet n (suc i) (start sheet (suc i)) t)) → Due E sheet old (records E sheet (suc n) i (start sheet i) s)
         go (yes w) k =
-            subst (Means E sheet old) (sym (turned n i s w (act E (suc i) (item E sheet i) s) (did E (suc i) (item E sheet i) s))) (on w k (act E (suc i) (item E sheet i) s) (did E (suc i) (item E sheet i) s))
-        go (no w) k = subst (Means E sheet old) (sym (record-cut E sheet n i (start sheet i) s w)) (cut (here (λ s i. ¬ Whole sheet i) w) refl)
+            subst (Due E sheet old) (sym (turned n i s w (act E (suc i) (item E sheet i) s) (did E (suc i) (item E sheet i) s))) (on w k (act E (suc i) (item E sheet i) s) (did E (suc i) (item E sheet i) s))
+        go (no w) k = subst (Due E sheet old) (sym (record-cut E sheet n i (start sheet i) s w)) (cut (here (λ s i. ¬ Whole sheet i) w) refl)
 
   -- ---- and back
 
@@ -174,7 +174,7 @@ module _ {A S : Type 0} (E : Edition A S) (sheet : List ℕ) where
     numbered : (d e : Refusal) (k : ℕ) → numberOf e ≡ numberOf d → read E sheet old ≡ refused d k → read E sheet old ≡ refused e k
     numbered d e k q p = p ∙ ap (λ (x : Refusal). refused x k) (sym (each-number-once .once e d q))
 
-    -- a reading gives the answer that the sheet means
+    -- a reading gives the answer that is due
     backward-refused : (e : Refusal) (k : ℕ) → Applies E sheet old (numberOf e) k → read E sheet old ≡ refused e k
     unfolding read
     backward-refused e k (not-sheet h q z) = numbered NotSheet e k q (take-false _ _ (headed-false sheet h) ∙ ap (refused NotSheet) (sym z))
@@ -196,23 +196,23 @@ module _ {A S : Type 0} (E : Edition A S) (sheet : List ℕ) where
     refusal-of x k (fails why a q) = (why, sym q)
     refusal-of x k (remain h l q z) = (BytesRemain, sym q)
 
-    backward : (a : Answer S) → Means E sheet old a → read E sheet old ≡ a
+    backward : (a : Answer S) → Due E sheet old a → read E sheet old ≡ a
     backward (refused e k) h = backward-refused e k h
     backward (done k s) h =
         finish (h .reached) ∙ all-read E sheet (total sheet) (start sheet (total sheet)) (h .reached .state) (h .ends)
         ∙ ap (done (total sheet)) (h .makes) ∙ ap (λ (m : ℕ). done m s) (sym (h .numbered))
 
-    means : Means E sheet old (read E sheet old)
+    due : Due E sheet old (read E sheet old)
     unfolding read start effect
-    means = go (header? sheet) old refl
+    due = go (header? sheet) old refl
       where
-        go : Dec (Header sheet) → (o : Turn S) → old ≡ o → Means E sheet old (read E sheet old)
-        go (no h) o e = subst (Means E sheet old) (sym (take-false _ _ (headed-false sheet h))) (not-sheet h refl refl)
-        go (yes h) (stop why) e = subst (Means E sheet old) (sym (take-true _ _ (headed-true sheet h) ∙ ap (copied E sheet) e)) (unfit h why e refl refl)
+        go : Dec (Header sheet) → (o : Turn S) → old ≡ o → Due E sheet old (read E sheet old)
+        go (no h) o e = subst (Due E sheet old) (sym (take-false _ _ (headed-false sheet h))) (not-sheet h refl refl)
+        go (yes h) (stop why) e = subst (Due E sheet old) (sym (take-true _ _ (headed-true sheet h) ∙ ap (copied E sheet) e)) (unfit h why e refl refl)
         go (yes h) (next s₀) e =
-            subst (Means E sheet old) (sym (take-true _ _ (headed-true sheet h) ∙ ap (copied E sheet) e))
+            subst (Due E sheet old) (sym (take-true _ _ (headed-true sheet h) ∙ ap (copied E sheet) e))
             (forward old h s₀ e (total sheet) 0 s₀ (zero-add (total sheet)) ([], begin, refl))
 
-    -- the reader's answer is the one that the sheet means, and no other
+    -- the reader's answer is the one that is due, and no other
     pub exact : ReadExact E sheet old
-    exact a = ((λ e. subst (Means E sheet old) e means), backward a)
+    exact a = ((λ e. subst (Due E sheet old) e due), backward a)

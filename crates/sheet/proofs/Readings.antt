@@ -25,7 +25,7 @@ use Rattle.storage.proofs.Views.{bounded-view, view-count}
 use Rattle.storage.proofs.Promises.{each-number-once, space-rules}
 use Rattle.sheet.specs.Kinds.{Row, rowOf, sizeBy, sizeIn}
 use Rattle.sheet.specs.Reader.{Turn, stop, next, Answer, refused, done, answerNumber, answerRecord, read}
-use Rattle.sheet.specs.Meaning.{AtRecord, Newer, Fails, Applies, not-sheet, unfit, cut, newer, bad, fails, remain, Accepted, Means as SheetMeans, Holds}
+use Rattle.sheet.specs.Meaning.{AtRecord, Newer, Fails, Applies, not-sheet, unfit, cut, newer, bad, fails, remain, Accepted, Due, Holds}
 use Rattle.sheet.specs.Paper.{IsEdition}
 use Rattle.sheet.specs.Reads.{editionOf, latest, isEdition, fitting, Course, stopped, went, course, readAnswer, readStore, Reads, readingNumber, readingRecord, readingCount}
 use Rattle.sheet.specs.Promises.{Passes, Stops, no-edition, long, over, result-long, Gets, stops, applies, accepted, NamesNewer, Made, ReadingMeans, Alike, KeepsMeaning}
@@ -173,7 +173,7 @@ module _ (n : ℕ) (sheet ws : List ℕ) (m : ℕ) (res : List ℕ) (r : Reading
   due : Gets n sheet ws m c (readingNumber r) (readingRecord r) (readingCount r)
   due = go (which-way n ws m c)
     where
-      is-answer : (x : Answer Bits) → answer ≡ x → SheetMeans (editionOf c n) sheet (fitting c (view ws m)) x
+      is-answer : (x : Answer Bits) → answer ≡ x → Due (editionOf c n) sheet (fitting c (view ws m)) x
       is-answer x a = exact (editionOf c n) sheet (fitting c (view ws m)) x .0 a
 
       on : Passes n ws m c → (x : Answer Bits) → answer ≡ x → Gets n sheet ws m c (readingNumber r) (readingRecord r) (readingCount r)

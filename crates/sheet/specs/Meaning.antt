@@ -118,10 +118,10 @@ module _ {A S : Type 0} (E : Edition A S) where
       pub ends : start sheet (total sheet) ≡ length sheet
       pub makes : reached .state ≡ s
 
-    -- what an answer says of the sheet
-    abbrev pub Means : Turn S → Answer S → Type 0
-    Means old (refused e k) = Applies old (numberOf e) k
-    Means old (done k s) = Accepted old k s
+    -- where an answer is due
+    abbrev pub Due : Turn S → Answer S → Type 0
+    Due old (refused e k) = Applies old (numberOf e) k
+    Due old (done k s) = Accepted old k s
 
 -- the later edition F has each kind of E, with its length, its payload rule and its meaning
 pub record Holds {A S : Type 0} (E F : Edition A S) : Type 0 where

@@ -1,4 +1,5 @@
--- What the sheet promises (demand 3), of the contracts of its calls and at real bitmaps. Proved in proofs/Readings and proofs/Writings.
+-- What the sheet promises (demand 3), of the contracts of its calls and at real bitmaps. Proved in proofs/: Steps, Papers, Exact, Editions, Readings and
+-- Writings.
 use Prim.Native.Nat.{ℕ, _+_, _*_, _≤_, _<_}
 use mathlib.Core.Path.{_≡_}
 use mathlib.Core.Bool.{true, false}
@@ -20,7 +21,7 @@ use Rattle.gap.specs.Promises.{Opens, Closes}
 use Rattle.sheet.specs.Kinds.{sizeIn, kindOf, payloadOf, Ranged}
 use Rattle.sheet.specs.Paper.{IsEdition, printed, Allowed, digits, cellDigits, byteDigits}
 use Rattle.sheet.specs.Reader.{Edition, Turn, stop, next, Item, Answer, done, answerNumber, answerRecord, read, refused}
-use Rattle.sheet.specs.Meaning.{Header, total, start, Whole, Is, Asks, effect, AtRecord, Newer, Applies, Accepted, Means as SheetMeans}
+use Rattle.sheet.specs.Meaning.{Header, total, start, Whole, Is, Asks, effect, AtRecord, Newer, Applies, Accepted, Due}
 use Rattle.sheet.specs.Reads.{step, editionOf, latest, fitting, Reads, readingNumber, readingRecord, readingCount}
 use Rattle.sheet.specs.Writer.{Request, duty, remark, Entry, edit, note, Starts, Adds, addedNumber, addedLength}
 use Rattle.sheet.specs.Plain.{sheetOf, editsIn, editFor, Typed, Call, InRow, answers, lastLength, lastBuffer, plainAnswers, lastPlain}
@@ -152,9 +153,9 @@ KeepsMeaning =
     → Reads e sheet ws m res₁ r₁ res₁' → Reads f sheet ws m res₂ r₂ res₂'
     → (Alike r₁ r₂ × (res₁' ≡ res₂')) ⊎ ((readingNumber r₁ ≡ 13) × NamesNewer e sheet ws m (length res₁) (readingRecord r₁))
 
--- of any edition, whatever its edits and states: a reading gives the answer that the sheet means, and no other
+-- of any edition, whatever its edits and states: a reading gives the answer that is due, and no other
 abbrev pub ReadExact : {A S : Type 0} → Edition A S → List ℕ → Turn S → Type 0
-ReadExact {S = S} E sheet old = (a : Answer S) → (read E sheet old ≡ a) ↔ SheetMeans E sheet old a
+ReadExact {S = S} E sheet old = (a : Answer S) → (read E sheet old ≡ a) ↔ Due E sheet old a
 
 -- (b) of any two editions of which the later holds the earlier, whatever their edits and states; what the earlier accepts keeps its meaning
 pub record AnyTwo {A S : Type 0} (E F : Edition A S) (sheet : List ℕ) (old : Turn S) : Type 0 where
