@@ -9,6 +9,7 @@ use Rattle.sheet.specs.declared.Fields.{Fields}
 use Rattle.sheet.specs.declared.Edit.{Edit}
 use Rattle.sheet.specs.Bytes.{bytes}
 use Rattle.sheet.specs.Kinds.{table, rowOf, sizeIn, kindOf, numbered, bytesBy, payloadOf}
+use Rattle.sheet.specs.Reads.{latest}
 use Rattle.sheet.specs.Writer.{most, Checked, bad, good, Entry, edit, checkedOf, duty, laid, bytesOf}
 use Rattle.sheet.specs.Plain.{editFor, entryOf}
 use Rattle.sheet.proofs.Payloads.{kind-small, payload-length, payload-short, size-latest}
@@ -49,7 +50,7 @@ module _ (kind : ℕ) (f : Fields) (r : Parts) (told : r ≡ partsOf (checkedOf 
       go c (stops d) q = cc
       go c (makes x k) q = absurd (let v : _≡_ {A = ℕ} 0 1 = cc in omega arith)
 
-  pub duty-good : (h l n : ℕ) → r ≡ Are h l → n ≡ orZero (sizeIn 2 kind) → Duty kind h l n (checkedOf (duty kind f))
+  pub duty-good : (h l n : ℕ) → r ≡ Are h l → n ≡ orZero (sizeIn latest kind) → Duty kind h l n (checkedOf (duty kind f))
   unfolding partsOf bytesOf payloadOf
   duty-good h l n p s = go (checkedOf (duty kind f)) (made kind f) (sym told ∙ p)
     where
@@ -59,7 +60,7 @@ module _ (kind : ℕ) (f : Fields) (r : Parts) (told : r ≡ partsOf (checkedOf 
           let a : numbered e / 2 ^ 64 ≡ h = cc in
           let b : numbered e % 2 ^ 64 ≡ l = cc in
           let x : numbered e ≡ h * 2 ^ 64 + l = omega arith in
-          let s' : length (payloadOf e) ≡ n = ap orZero (sym (size-latest e)) ∙ ap (λ (k : ℕ). orZero (sizeIn 2 k)) k ∙ sym s in
+          let s' : length (payloadOf e) ≡ n = ap orZero (sym (size-latest e)) ∙ ap (λ (k : ℕ). orZero (sizeIn latest k)) k ∙ sym s in
           let m : bytesBy (rowOf (kindOf e)) ≡ n = sym (payload-length e) ∙ s' in
           let i = payload-short e in
           let j = kind-small e in

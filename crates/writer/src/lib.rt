@@ -13,6 +13,7 @@ ghost use Rattle.word.specs.Sets.{val};
 ghost use Rattle.sheet.specs.Bytes.{bytes};
 ghost use Rattle.sheet.specs.Kinds.{sizeIn};
 ghost use Rattle.sheet.specs.Reader.{countIn};
+ghost use Rattle.sheet.specs.Reads.{latest};
 ghost use Rattle.sheet.specs.Writer.{framesFault, sheetFault, checkedOf, placedBy, duty, remark, Writes, Starts, Adds};
 ghost use Rattle.writer.specs.Kernels.{Given, endIn, guardBy, orZero, partsOf, roomlessIn};
 
@@ -197,7 +198,7 @@ fn payload_parts(kind: usize, f: Fields) -> Parts
 
 // The bytes of a kind's payload.
 fn payload_size(kind: usize) -> usize
-    ensures { λ r. ⌜ r ≡ orZero (sizeIn 2 kind) ⌝ }
+    ensures { λ r. ⌜ r ≡ orZero (sizeIn latest kind) ⌝ }
 {
     match sheet::payload_bytes(sheet::LATEST, kind) {
         Known::Bytes(n) => n,
