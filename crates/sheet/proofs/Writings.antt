@@ -23,9 +23,11 @@ use Rattle.sheet.specs.Reader.{Turn, done, countIn, endAt, read}
 use Rattle.sheet.specs.Bytes.{bytes}
 use Rattle.sheet.specs.Meaning.{Header, total, start, Whole}
 use Rattle.sheet.specs.Reads.{editionOf, latest, fitting, Course, went, course, readAnswer, readStore, readingNumber, readingRecord, readingCount}
-use Rattle.sheet.specs.Writer.{most, Request, duty, remark, Entry, edit, note, Checked, bad, good, checkedOf, bytesOf, framesFault, sheetFault, Left, refuse, started, raised, placed, placedBy, judged, added, Writes, addedNumber, addedLength}
-use Rattle.sheet.specs.Plain.{sheetOf, refusalOf, editFor, entryOf, answers, lastLength, lastBuffer, plainAnswers, lastPlain, asked}
-use Rattle.sheet.specs.Promises.{SheetGets, no-header, cut, remain, nothing, RequestGets, bytesAsked, AddGets, over, fault, wrong, full, fine, Leaves, Grows, AddMeans, AddsMean, Holding, StartGets, short, fresh, StartMeans, StartsMean, WholeLists}
+use Rattle.sheet.specs.Writer.{most, Request, duty, remark, Entry, edit, note, Checked, bad, good, checkedOf, bytesOf, framesFault, sheetFault, addedNumber, addedLength}
+use Rattle.sheet.specs.Writer.{Left, refuse, started, raised, placed, placedBy, judged, added, Writes}
+use Rattle.sheet.specs.Plain.{sheetOf, refusalOf, editFor, entryOf, answers, lastLength, lastBuffer, plainAnswers, lastPlain}
+use Rattle.sheet.specs.Promises.{SheetGets, no-header, cut, remain, nothing, RequestGets, bytesAsked, AddGets, over, fault, wrong, full, fine, Leaves, Grows, AddMeans, AddsMean}
+use Rattle.sheet.specs.Promises.{Holding, StartGets, short, fresh, StartMeans, StartsMean, WholeLists}
 use Rattle.sheet.specs.declared.Added.{Added}
 use Rattle.sheet.specs.declared.Added.the-variants.{Done, Refused}
 use Rattle.sheet.proofs.Turns.{take-true, take-false, header?, headed-true, headed-false}

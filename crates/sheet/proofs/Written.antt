@@ -8,15 +8,17 @@ use native.Mathlib.Omega.{arith}
 use lib.ListN.{set as put, length, getD, take, length-append, length-take}
 use lib.Seq.{sets, take-set-lt, getD-take}
 use lib.Dec.{leb, ltb}
-use borrow.Author.Tests.{ltb-false, leb-false, le-ltb}
+use borrow.Author.Tests.{ltb-false, leb-false, le-ltb, ne-eqb}
 use Rattle.word.specs.Sets.{choose}
 use Rattle.storage.specs.Refusals.{numberOf}
 use Rattle.storage.proofs.Promises.{each-number-once}
 use Rattle.storage.specs.declared.Refusal.{Refusal}
 use Rattle.storage.specs.declared.Refusal.the-variants.{NoSpace, NotSheet}
 use Rattle.sheet.specs.Reader.{countIn}
-use Rattle.sheet.specs.Writer.{most, Request, requested, Entry, Checked, bad, good, checkedOf, bytesOf, sheetFault, Left, refuse, started, raised, placed, placedBy, judged, added, Writes, addedNumber, addedLength}
-use Rattle.sheet.specs.Plain.{asked, Plain, body, sheetOf, noRoom, refusalOf, entryOf, Answered, refusing, accepting, holding, Ask, start, addition, answered, Call, Typed, Went, lengthAfter, InRow, answers, lastLength, lastBuffer, plainAnswers, lastPlain}
+use Rattle.sheet.specs.Writer.{most, Request, requested, Entry, Checked, bad, good, checkedOf, bytesOf, sheetFault, addedNumber, addedLength}
+use Rattle.sheet.specs.Writer.{Left, refuse, started, raised, placed, placedBy, judged, added, Writes}
+use Rattle.sheet.specs.Plain.{asked, Plain, body, sheetOf, noRoom, refusalOf, entryOf, Answered, refusing, accepting, holding, Ask, start, addition, answered, Typed}
+use Rattle.sheet.specs.Plain.{Call, Went, lengthAfter, InRow, answers, lastLength, lastBuffer, plainAnswers, lastPlain}
 use Rattle.sheet.specs.declared.Fields.{Fields}
 use Rattle.sheet.specs.declared.Added.{Added}
 use Rattle.sheet.specs.declared.Added.the-variants.{Done}
@@ -37,7 +39,11 @@ record Agrees (len : ℕ) (l : Left) (a : Answered) : Type 0 where
   fronts : Fronts (l .buffer) (lengthAfter len (l .answer)) (a .plain)
 
 agree-refused : (buf : List ℕ) (len : ℕ) (p : Plain) (e : Refusal) → Fronts buf len p → Agrees len (refuse e buf) (refusing (numberOf e) p)
-agree-refused buf len p e h = record { number = refl; long = refl; fronts = h }
+agree-refused buf len p e h = record {
+  number = refl;
+  long = refl;
+  fronts = subst (λ (n : ℕ). Fronts buf n p) (sym (take-false 0 len (ne-eqb (numberOf e) 0 (λ z. omega (arith, each-number-once .range e .0))))) h;
+}
 
 -- ---- a start
 
@@ -99,12 +105,18 @@ module _ (buf : List ℕ) (len : ℕ) (es : List Entry) (h : Fronts buf len (som
       ∙ ap (λ (f : List ℕ). f ++ bytesOf e) front
       ∙ last
     where
-      front : take len (raised buf) ≡ put (put (sheetOf es) 2 ((countIn buf + 1) / 256 ^ 1 % 256)) 3 ((countIn buf + 1) / 256 ^ 0 % 256)
-      front =
-          take-set-lt len (put buf 2 ((countIn buf + 1) / 256 ^ 1 % 256)) 3 ((countIn buf + 1) / 256 ^ 0 % 256) (omega (arith, four))
-          ∙ ap (λ (f : List ℕ). put f 3 ((countIn buf + 1) / 256 ^ 0 % 256)) (take-set-lt len buf 2 ((countIn buf + 1) / 256 ^ 1 % 256) (omega (arith, four)) ∙ ap (λ (f : List ℕ). put f 2 ((countIn buf + 1) / 256 ^ 1 % 256)) (h .1))
+      high : ℕ
+      high = (countIn buf + 1) / 256 ^ 1 % 256
 
-      last : (78 ∷ 83 ∷ (countIn buf + 1) / 256 ^ 1 % 256 ∷ (countIn buf + 1) / 256 ^ 0 % 256 ∷ body es) ++ bytesOf e ≡ sheetOf (es ++ e ∷ [])
+      low : ℕ
+      low = (countIn buf + 1) / 256 ^ 0 % 256
+
+      front : take len (raised buf) ≡ put (put (sheetOf es) 2 high) 3 low
+      front =
+          take-set-lt len (put buf 2 high) 3 low (omega (arith, four))
+          ∙ ap (λ (f : List ℕ). put f 3 low) (take-set-lt len buf 2 high (omega (arith, four)) ∙ ap (λ (f : List ℕ). put f 2 high) (h .1))
+
+      last : (78 ∷ 83 ∷ high ∷ low ∷ body es) ++ bytesOf e ≡ sheetOf (es ++ e ∷ [])
       last = rw (counted, ← (length-snoc es e), body-snoc es e)
 
   -- a record that is refused by nothing but want of room

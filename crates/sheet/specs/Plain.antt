@@ -13,7 +13,6 @@ use Rattle.sheet.specs.declared.Edit.{Edit}
 use Rattle.sheet.specs.declared.Edit.the-variants.{Set, Unset, SetRegion, SetField, Shift, Rotate, Resize, Reverse, ToggleRegion, Open, Close}
 use Rattle.sheet.specs.declared.Fields.{Fields}
 use Rattle.sheet.specs.declared.Added.{Added}
-use Rattle.sheet.specs.declared.Added.the-variants.{Done, Refused}
 
 -- an addition as the plain sheet reads it: duty or a remark; fields that a record does not have are ignored
 abbrev pub asked : Bool → ℕ → Fields → List ℕ → Request
@@ -139,8 +138,7 @@ Went len buf (addition d kind f payload) r buf' = Adds buf len d kind f payload 
 
 -- the last accepted length after an answer
 abbrev pub lengthAfter : ℕ → Added → ℕ
-lengthAfter len (Done n) = n
-lengthAfter len (Refused e) = len
+lengthAfter len r = choose (eqb (addedNumber r) 0) (addedLength r) len
 
 -- each call got the buffer as the last one left it, or another with the same bytes up to the last accepted length
 unfoldable pub InRow : List ℕ → ℕ → List Call → Type 0
