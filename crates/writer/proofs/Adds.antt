@@ -15,7 +15,7 @@ use Rattle.sheet.specs.declared.Added.{Added}
 use Rattle.sheet.specs.declared.Added.the-variants.{Refused}
 use Rattle.sheet.specs.Reader.{countIn}
 use Rattle.sheet.specs.declared.Fields.{Fields}
-use Rattle.sheet.specs.Writer.{Request, duty, remark, requested, Checked, bad, good, Entry, note, checkedOf, bytesOf, framesFault, sheetFault, Left, refuse, placed, placedBy, judged, added, Writes, Adds}
+use Rattle.sheet.specs.Writer.{most, Request, duty, remark, requested, Checked, bad, good, Entry, note, checkedOf, bytesOf, framesFault, sheetFault, Left, refuse, placed, placedBy, judged, added, Writes, Adds}
 use Rattle.sheet.specs.Meaning.{Header}
 use Rattle.sheet.proofs.Turns.{none-some, take-true, take-false, header?, headed-false}
 use Rattle.writer.specs.Kernels.{Given, guardBy}
@@ -36,13 +36,13 @@ module _ (kind : ℕ) (p : List ℕ) where
   remark-13 h = take-true _ _ (lt-ltb 127 kind h)
 
   module _ (k : kind ≤ 127) where
-    pub remark-12 : 65_535 < length p → checkedOf (remark kind p) ≡ bad BadPayload
+    pub remark-12 : most < length p → checkedOf (remark kind p) ≡ bad BadPayload
     unfolding checkedOf
-    remark-12 h = take-false _ _ (le-ltb 127 kind k) ∙ take-true _ _ (lt-ltb 65_535 (length p) h)
+    remark-12 h = take-false _ _ (le-ltb 127 kind k) ∙ take-true _ _ (lt-ltb most (length p) h)
 
-    pub remark-good : length p ≤ 65_535 → checkedOf (remark kind p) ≡ good (note kind p)
+    pub remark-good : length p ≤ most → checkedOf (remark kind p) ≡ good (note kind p)
     unfolding checkedOf
-    remark-good h = take-false _ _ (le-ltb 127 kind k) ∙ take-false _ _ (le-ltb 65_535 (length p) h)
+    remark-good h = take-false _ _ (le-ltb 127 kind k) ∙ take-false _ _ (le-ltb most (length p) h)
 
   pub remark-laid : Laid (note kind p) kind p (length p)
   unfolding bytesOf

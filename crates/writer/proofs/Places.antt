@@ -14,7 +14,7 @@ use Rattle.storage.specs.declared.Refusal.the-variants.{NoSpace}
 use Rattle.sheet.specs.declared.Added.the-variants.{Done, Refused}
 use Rattle.sheet.specs.Bytes.{bytes}
 use Rattle.sheet.specs.Reader.{countIn}
-use Rattle.sheet.specs.Writer.{Entry, bytesOf, laid, Left, refuse, placed, Writes}
+use Rattle.sheet.specs.Writer.{most, Entry, bytesOf, laid, Left, refuse, placed, Writes}
 use Rattle.sheet.proofs.Rules.{length-bytes}
 use Rattle.sheet.proofs.Turns.{take-true, take-false}
 use Rattle.writer.specs.Kernels.{roomlessIn}
@@ -22,14 +22,14 @@ use Rattle.writer.proofs.Answers.{writes}
 use Rattle.writer.proofs.Puts.{sets-append}
 
 module _ (buf : List ℕ) (len n : ℕ) where
-  pub one-too-many : (r : ℕ) → r ≡ countIn buf → 65_535 ≤ r → true ≡ roomlessIn buf len n
+  pub one-too-many : (r : ℕ) → r ≡ countIn buf → most ≤ r → true ≡ roomlessIn buf len n
   unfolding roomlessIn
-  one-too-many r e h = ap (λ (t : Bool). t || ltb (length buf) (len + 3 + n)) (sym (le-leb 65_535 (countIn buf) (omega arith)))
+  one-too-many r e h = ap (λ (t : Bool). t || ltb (length buf) (len + 3 + n)) (sym (le-leb most (countIn buf) (omega arith)))
 
-  pub room-left : (r : ℕ) → r ≡ countIn buf → r < 65_535 → len ≤ length buf → ltb (length buf - len) (3 + n) ≡ roomlessIn buf len n
+  pub room-left : (r : ℕ) → r ≡ countIn buf → r < most → len ≤ length buf → ltb (length buf - len) (3 + n) ≡ roomlessIn buf len n
   unfolding roomlessIn
   room-left r e h l =
-      same (decLe (3 + n) (length buf - len)) ∙ ap (λ (t : Bool). t || ltb (length buf) (len + 3 + n)) (sym (lt-leb 65_535 (countIn buf) (omega arith)))
+      same (decLe (3 + n) (length buf - len)) ∙ ap (λ (t : Bool). t || ltb (length buf) (len + 3 + n)) (sym (lt-leb most (countIn buf) (omega arith)))
     where
       same : Dec (3 + n ≤ length buf - len) → ltb (length buf - len) (3 + n) ≡ ltb (length buf) (len + 3 + n)
       same (yes h) = le-ltb (length buf - len) (3 + n) h ∙ sym (le-ltb (length buf) (len + 3 + n) (omega arith))
@@ -37,14 +37,14 @@ module _ (buf : List ℕ) (len n : ℕ) where
 
   -- neither test of `roomlessIn` holds
   pub record Room : Type 0 where
-    pub few : leb 65_535 (countIn buf) ≡ false
+    pub few : leb most (countIn buf) ≡ false
     pub fits : len + 3 + n ≤ length buf
 
   pub room : (t : Bool) → t ≡ roomlessIn buf len n → t ≡ false → Room
   unfolding roomlessIn
-  room t e f = go (leb 65_535 (countIn buf)) refl (ltb (length buf) (len + 3 + n)) refl (sym e ∙ f)
+  room t e f = go (leb most (countIn buf)) refl (ltb (length buf) (len + 3 + n)) refl (sym e ∙ f)
     where
-      go : (x : Bool) → leb 65_535 (countIn buf) ≡ x → (y : Bool) → ltb (length buf) (len + 3 + n) ≡ y → (x || y) ≡ false → Room
+      go : (x : Bool) → leb most (countIn buf) ≡ x → (y : Bool) → ltb (length buf) (len + 3 + n) ≡ y → (x || y) ≡ false → Room
       go true p y q z = absurd (let v : _≡_ {A = ℕ} 0 1 = cc in omega arith)
       go false p true q z = absurd (let v : _≡_ {A = ℕ} 0 1 = cc in omega arith)
       go false p false q z = record { few = p; fits = ltb-false (length buf) (len + 3 + n) q }
@@ -70,7 +70,7 @@ module _ (buf : List ℕ) (len : ℕ) (e : Entry) (first : ℕ) (body : List ℕ
   unfolding placed roomlessIn
   refused t p q =
       let end : len + 3 + n ≡ len + length (bytesOf e) = omega (arith, long) in
-      writes _ (refuse NoSpace buf) (take-true _ _ (ap (λ (k : ℕ). leb 65_535 (countIn buf) || ltb (length buf) k) (sym end) ∙ sym p ∙ q))
+      writes _ (refuse NoSpace buf) (take-true _ _ (ap (λ (k : ℕ). leb most (countIn buf) || ltb (length buf) k) (sym end) ∙ sym p ∙ q))
 
   pub done : (b₁ b₂ : List ℕ) → Room buf len n → b₁ ≡ sets (sets buf 2 (bytes 2 (countIn buf + 1))) len (first ∷ bytes 2 n) → b₂ ≡ sets b₁ (len + 3) body
       → Writes (placed buf len e) (Done (len + 3 + n)) b₂
@@ -79,7 +79,7 @@ module _ (buf : List ℕ) (len : ℕ) (e : Entry) (first : ℕ) (body : List ℕ
       let few = r .few in
       let room = r .fits in
       let end : len + length (bytesOf e) ≡ len + 3 + n = omega (arith, long) in
-      let none : leb 65_535 (countIn buf) || ltb (length buf) (len + length (bytesOf e)) ≡ false = rw few (le-ltb (length buf) (len + length (bytesOf e)) (omega arith)) in
+      let none : leb most (countIn buf) || ltb (length buf) (len + length (bytesOf e)) ≡ false = rw few (le-ltb (length buf) (len + length (bytesOf e)) (omega arith)) in
       let l : placed buf len e ≡ record { answer = Done (len + length (bytesOf e)); buffer = sets base len (bytesOf e) } = take-false _ _ none in
       record { answers = ap Done (sym end) ∙ ap (λ (x : Left). x .answer) (sym l); leaves = stored ∙ ap (λ (x : Left). x .buffer) (sym l) }
     where
