@@ -62,25 +62,32 @@ module _ {A S : Type 0} (E F : Edition A S) (h : Holds E F) where
           r : Item
           r = item E sheet i
 
-          whole-E : endAt sheet at ≤ length sheet → records E sheet (suc n) i at s ≡ then E (records E sheet n (suc i) (endAt sheet at)) (suc i) (act E (suc i) r s)
-          whole-E w = record-whole E sheet n i at s w
+          rest-E : S → Answer S
+          rest-E = records E sheet n (suc i) (endAt sheet at)
 
-          whole-F : endAt sheet at ≤ length sheet → records F sheet (suc n) i at s ≡ then F (records F sheet n (suc i) (endAt sheet at)) (suc i) (act F (suc i) r s)
-          whole-F w = record-whole F sheet n i at s w
+          rest-F : S → Answer S
+          rest-F = records F sheet n (suc i) (endAt sheet at)
 
-          on : ((t : S) → Reaches E sheet s₀ (suc i) t → SameOr (records E sheet n (suc i) (endAt sheet at) t) (records F sheet n (suc i) (endAt sheet at) t))
-              → Whole sheet i → act E (suc i) r s ≡ act F (suc i) r s → (o : Turn S) → act E (suc i) r s ≡ o → SameOr (records E sheet (suc n) i at s) (records F sheet (suc n) i at s)
-          on ih w e (stop x) q =
-              inl (whole-E w ∙ ap (then E (records E sheet n (suc i) (endAt sheet at)) (suc i)) q ∙ sym (whole-F w ∙ ap (then F (records F sheet n (suc i) (endAt sheet at)) (suc i)) (sym e ∙ q)))
+          Here : Type 0
+          Here = SameOr (records E sheet (suc n) i at s) (records F sheet (suc n) i at s)
+
+          Later : Type 0
+          Later = (t : S) → Reaches E sheet s₀ (suc i) t → SameOr (rest-E t) (rest-F t)
+
+          -- both make the turn o
+          same-turn : Whole sheet i → (o : Turn S) → act E (suc i) r s ≡ o → act F (suc i) r s ≡ o → then E rest-E (suc i) o ≡ then F rest-F (suc i) o → Here
+          same-turn w o p q e =
+              inl (record-whole E sheet n i at s w ∙ ap (then E rest-E (suc i)) p ∙ e ∙ sym (record-whole F sheet n i at s w ∙ ap (then F rest-F (suc i)) q))
+
+          on : Later → Whole sheet i → act E (suc i) r s ≡ act F (suc i) r s → (o : Turn S) → act E (suc i) r s ≡ o → Here
+          on ih w e (stop x) q = same-turn w (stop x) q (sym e ∙ q) refl
           on ih w e (next t) q = further (ih t (reaches-next E sheet s₀ i s t g w q))
             where
-              further : SameOr (records E sheet n (suc i) (endAt sheet at) t) (records F sheet n (suc i) (endAt sheet at) t) → SameOr (records E sheet (suc n) i at s) (records F sheet (suc n) i at s)
-              further (inl p) =
-                  inl (whole-E w ∙ ap (then E (records E sheet n (suc i) (endAt sheet at)) (suc i)) q ∙ p ∙ sym (whole-F w ∙ ap (then F (records F sheet n (suc i) (endAt sheet at)) (suc i)) (sym e ∙ q)))
+              further : SameOr (rest-E t) (rest-F t) → Here
+              further (inl p) = same-turn w (next t) q (sym e ∙ q) p
               further (inr k) = inr k
 
-          turn : ((t : S) → Reaches E sheet s₀ (suc i) t → SameOr (records E sheet n (suc i) (endAt sheet at) t) (records F sheet n (suc i) (endAt sheet at) t))
-              → Whole sheet i → (act E (suc i) r s ≡ act F (suc i) r s) ⊎ ((r .duty ≡ true) × (E .size (r .kind) ≡ none)) → SameOr (records E sheet (suc n) i at s) (records F sheet (suc n) i at s)
+          turn : Later → Whole sheet i → (act E (suc i) r s ≡ act F (suc i) r s) ⊎ ((r .duty ≡ true) × (E .size (r .kind) ≡ none)) → Here
           turn ih w (inl e) = on ih w e (act E (suc i) r s) refl
           turn ih w (inr (d, p)) =
               inr (
@@ -94,8 +101,7 @@ module _ {A S : Type 0} (E F : Edition A S) (h : Holds E F) where
                 },
               )
 
-          go : ((t : S) → Reaches E sheet s₀ (suc i) t → SameOr (records E sheet n (suc i) (endAt sheet at) t) (records F sheet n (suc i) (endAt sheet at) t))
-              → Dec (endAt sheet at ≤ length sheet) → SameOr (records E sheet (suc n) i at s) (records F sheet (suc n) i at s)
+          go : Later → Dec (endAt sheet at ≤ length sheet) → Here
           go ih (yes w) = turn ih w (act-kept (suc i) r s)
           go ih (no w) = inl (record-cut E sheet n i at s w ∙ sym (record-cut F sheet n i at s w))
 

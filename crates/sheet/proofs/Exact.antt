@@ -12,7 +12,7 @@ use Rattle.storage.specs.declared.Refusal.{Refusal}
 use Rattle.storage.specs.declared.Refusal.the-variants.{NotSheet, CutRecord, BytesRemain, BadPayload, NewerKind}
 use Rattle.storage.proofs.Promises.{each-number-once}
 use Rattle.sheet.specs.Reader.{Edition, Item, Answer, refused, done, Turn, stop, next, endAt, edit, act, then, records, copied, read}
-use Rattle.sheet.specs.Meaning.{Header, total, start, Whole, onward, effect, Sound, begin, Reached, AtRecord, Newer, Bad, Fails, Applies, not-sheet, unfit, cut, newer, bad, fails, remain, Due}
+use Rattle.sheet.specs.Meaning.{Header, total, start, Whole, onward, Asks, effect, Sound, begin, Reached, AtRecord, Newer, Bad, Fails, Applies, not-sheet, unfit, cut, newer, bad, fails, remain, Due}
 use Rattle.sheet.specs.Promises.{ReadExact}
 use Rattle.sheet.proofs.Stands.{stands, stands-whole, stands-is, asks, asked, item, Fine, sound-more, Less, sound-less}
 use Rattle.sheet.proofs.Turns.{none-some, stop-next, next-inj, take-true, take-false, header?, headed-true, headed-false, listed, editOf, edit-known, does, effect-append, Did, went, lacked, spoilt, failed, did, act-did, record-whole, record-cut, all-read, bytes-left}
@@ -97,21 +97,28 @@ module _ {A S : Type 0} (E : Edition A S) (sheet : List ℕ) where
         here : (P : S → ℕ → Type 0) → P s i → AtRecord E sheet old (suc i) P
         here P p = record { index = i; numbered = refl; within = omega arith; reached = reached i s h; here = p }
 
-        after : Turn S → Type 0
-        after o = Due E sheet old (then E (records E sheet n (suc i) (start sheet (suc i))) (suc i) o)
+        rest : S → Answer S
+        rest = records E sheet n (suc i) (start sheet (suc i))
 
-        on : Whole sheet i → ((t : S) → Reaches s₀ (suc i) t → Due E sheet old (records E sheet n (suc i) (start sheet (suc i)) t)) → (o : Turn S) → Did E (suc i) s (item E sheet i) o → Due E sheet old (then E (records E sheet n (suc i) (start sheet (suc i))) (suc i) o)
+        after : Turn S → Type 0
+        after o = Due E sheet old (then E rest (suc i) o)
+
+        Later : Type 0
+        Later = (t : S) → Reaches s₀ (suc i) t → Due E sheet old (rest t)
+
+        on : Whole sheet i → Later → (o : Turn S) → Did E (suc i) s (item E sheet i) o → after o
         on w k o (went t g d q) = subst after (sym q) (k t (reaches-suc s₀ i s t h w g d))
         on w k o (lacked d p q) = subst after (sym q) (newer (here (Newer E sheet) (item E sheet i, stands sheet (start sheet i) w, d, p)) refl)
         on w k o (spoilt d m p x q) =
-            subst after (sym q)
-            (bad (here (Bad E sheet) (item E sheet i, stands sheet (start sheet i) w, d, m, p, (λ e a. none-some (sym (edit-known E (item E sheet i) d m p ∙ x) ∙ asked E (item E sheet i) e a)))) refl)
+            let none-asked : (e : A) → ¬ Asks E (item E sheet i) e = λ e a. none-some (sym (edit-known E (item E sheet i) d m p ∙ x) ∙ asked E (item E sheet i) e a) in
+            subst after (sym q) (bad (here (Bad E sheet) (item E sheet i, stands sheet (start sheet i) w, d, m, p, none-asked)) refl)
         on w k o (failed e p why x q) =
             subst after (sym q) (fails why (here (Fails E sheet why) (item E sheet i, stands sheet (start sheet i) w, e, asks E (item E sheet i) e p, x)) refl)
 
-        go : Dec (Whole sheet i) → ((t : S) → Reaches s₀ (suc i) t → Due E sheet old (records E sheet n (suc i) (start sheet (suc i)) t)) → Due E sheet old (records E sheet (suc n) i (start sheet i) s)
+        go : Dec (Whole sheet i) → Later → Due E sheet old (records E sheet (suc n) i (start sheet i) s)
         go (yes w) k =
-            subst (Due E sheet old) (sym (turned n i s w (act E (suc i) (item E sheet i) s) (did E (suc i) (item E sheet i) s))) (on w k (act E (suc i) (item E sheet i) s) (did E (suc i) (item E sheet i) s))
+            let turn = did E (suc i) (item E sheet i) s in
+            subst (Due E sheet old) (sym (turned n i s w (act E (suc i) (item E sheet i) s) turn)) (on w k (act E (suc i) (item E sheet i) s) turn)
         go (no w) k = subst (Due E sheet old) (sym (record-cut E sheet n i (start sheet i) s w)) (cut (here (λ s i. ¬ Whole sheet i) w) refl)
 
   -- ---- and back
