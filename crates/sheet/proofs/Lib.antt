@@ -16,4 +16,5 @@ pub mod Sheets
 pub mod Requests
 pub mod Grown
 pub mod Written
+pub mod Begun
 pub mod Writings

@@ -37,6 +37,7 @@ use Rattle.sheet.proofs.Papers.{table-agrees}
 use Rattle.sheet.proofs.Requests.{Says, checks-say, checks-good, request-gets, request-is}
 use Rattle.sheet.proofs.Grown.{put-last, drop-sets, length-raised, past-raised, count-front, bytes-long, grown, framed-entry, wanted}
 use Rattle.sheet.proofs.Written.{begun, Fronts, along}
+use Rattle.sheet.proofs.Begun.{begun-held}
 use Rattle.sheet.proofs.Sheets.{sheet-is}
 
 -- the number of a fault, 0 for none
@@ -354,6 +355,7 @@ starting-means buf r buf' w = by-writes (StartMeans buf) (started buf) r buf' w 
 pub whole-lists : WholeLists
 whole-lists buf cs row = record {
   same = r .0;
+  begun = begun-held cs (r .0);
   length-is = λ es e. (front es e) .0;
   bytes-are = λ es e. (front es e) .1;
   laid = λ es e. sheet-is es (front es e .2) (front es e .3);

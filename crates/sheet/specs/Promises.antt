@@ -3,7 +3,7 @@
 use Prim.Native.Nat.{ℕ, _+_, _*_, _≤_, _<_}
 use mathlib.Core.Path.{_≡_}
 use mathlib.Core.Bool.{true, false}
-use mathlib.Core.List.{List, [], _++_}
+use mathlib.Core.List.{List, [], _∷_, _++_}
 use mathlib.Core.Logic.{_↔_, _⊎_}
 use mathlib.Core.Option.{none, some}
 use lib.ListN.{length, getD, getElem?, take, drop}
@@ -24,7 +24,7 @@ use Rattle.sheet.specs.Reader.{Edition, Turn, stop, next, Item, Answer, 
 use Rattle.sheet.specs.Meaning.{Header, total, start, Whole, Is, Asks, effect, AtRecord, Newer, Applies, Accepted, Due}
 use Rattle.sheet.specs.Reads.{step, editionOf, latest, fitting, Reads, readingNumber, readingRecord, readingCount}
 use Rattle.sheet.specs.Writer.{Request, duty, remark, Entry, edit, note, Starts, Adds, addedNumber, addedLength}
-use Rattle.sheet.specs.Plain.{sheetOf, editsIn, editFor, Typed, Call, InRow, answers, lastLength, lastBuffer, plainAnswers, lastPlain}
+use Rattle.sheet.specs.Plain.{sheetOf, editsIn, editFor, Ask, Typed, Call, InRow, answers, lastLength, lastBuffer, plainAnswers, lastPlain}
 use Rattle.sheet.specs.declared.Edit.{Edit}
 use Rattle.sheet.specs.declared.Edit.the-variants.{Set, Unset, SetRegion, SetField, Shift, Rotate, Resize, Reverse, ToggleRegion, Open, Close}
 use Rattle.sheet.specs.declared.Fields.{Fields}
@@ -261,11 +261,18 @@ pub record StartMeans (buf : List ℕ) (r : Added) (buf' : List ℕ) : Type 0 wh
 abbrev pub StartsMean : Type 0
 StartsMean = (buf : List ℕ) (r : Added) (buf' : List ℕ) → Starts buf r buf' → StartMeans buf r buf'
 
+-- a start among the calls was accepted
+pub data Begun : List Call → Type 0 where
+  here : {c : Call} {cs : List Call} → c .ask ≡ Ask.start → addedNumber (c .answer) ≡ 0 → Begun (c ∷ cs)
+  later : {c : Call} {cs : List Call} → Begun cs → Begun (c ∷ cs)
+
 -- (e): after a list of calls from a buffer of any bytes at length 0 on
 pub record ListMeans (buf : List ℕ) (cs : List Call) : Type 0 where
   -- each call answered the plain sheet's number and length
   pub same : answers cs ≡ plainAnswers none cs
-  -- if a start was accepted, the bytes up to the last accepted length are the plain sheet's
+  -- it holds records exactly where a start was accepted
+  pub begun : Begun cs ↔ ((es : List Entry) × (lastPlain none cs ≡ some es))
+  -- then the bytes up to the last accepted length are the plain sheet's
   pub length-is : (es : List Entry) → lastPlain none cs ≡ some es → lastLength 0 cs ≡ length (sheetOf es)
   pub bytes-are : (es : List Entry) → lastPlain none cs ≡ some es → take (lastLength 0 cs) (lastBuffer buf cs) ≡ sheetOf es
   -- which hold exactly its records
