@@ -16,14 +16,16 @@ use Rattle.storage.specs.Refusals.{numberOf}
 use Rattle.storage.proofs.Promises.{each-number-once}
 use Rattle.storage.specs.declared.Refusal.{Refusal}
 use Rattle.storage.specs.declared.Refusal.the-variants.{WidthOver, IndexOver, BadPayload, NewerKind}
+use Rattle.sheet.specs.Paper.{printed, values, given}
 use Rattle.sheet.specs.Layout.{InRange}
 use Rattle.sheet.specs.Kinds.{place, kindOf, Ranged}
 use Rattle.sheet.specs.Writer.{most, Request, duty, remark, note, Checked, bad, good, makers, makerOf, madeBy, checkedOf}
 use Rattle.sheet.specs.Plain.{wrongKind, wrongWidth, wrongSize, wrongPayload, refusalOf, editFor, entryOf, Typed}
-use Rattle.sheet.specs.Promises.{DutyGets, no-kind, wide, large, good-duty, RemarkGets, high, over-long, good-remark, RequestGets}
+use Rattle.sheet.specs.Promises.{FieldsAgree, DutyGets, no-kind, wide, large, good-duty, RemarkGets, high, over-long, good-remark, RequestGets}
 use Rattle.sheet.specs.declared.Fields.{Fields}
 use Rattle.sheet.proofs.Tables.{past-end}
 use Rattle.sheet.proofs.Turns.{take-true, take-false}
+use Rattle.sheet.proofs.Papers.{each-line}
 use Rattle.sheet.proofs.Laid.{Proper}
 
 -- ---- the writer's checks
@@ -42,13 +44,14 @@ Passing (good e) = Proper e
 record GoodMaker (k : ℕ) (m : Fields → Checked) : Type 0 where
   says : (f : Fields) → Says (duty k f) (m f)
   passing : (f : Fields) → Typed f → Passing (m f)
-  kind : (f : Fields) → kindOf (editFor k f) ≡ k
+  line : (f : Fields) → (printed (editFor k f) .kind ≡ k) × (values (printed (editFor k f) .fields) ≡ given k f)
 
 -- one that refuses by a test, and one that refuses nothing
 tested : (k : ℕ) (t : Fields → Bool) (e : Refusal) → ((f : Fields) → refusalOf (duty k f) ≡ choose (t f) (numberOf e) 0)
-    → ((f : Fields) → t f ≡ false → Typed f → Proper (entryOf (duty k f))) → ((f : Fields) → kindOf (editFor k f) ≡ k)
+    → ((f : Fields) → t f ≡ false → Typed f → Proper (entryOf (duty k f)))
+    → ((f : Fields) → (printed (editFor k f) .kind ≡ k) × (values (printed (editFor k f) .fields) ≡ given k f))
     → GoodMaker k (λ f. choose (t f) (bad e) (good (entryOf (duty k f))))
-tested k t e r p c = record { says = λ f. says f (t f) (r f); passing = λ f y. passing f y (t f) refl; kind = c }
+tested k t e r p c = record { says = λ f. says f (t f) (r f); passing = λ f y. passing f y (t f) refl; line = c }
   where
     says : (f : Fields) (s : Bool) → refusalOf (duty k f) ≡ choose s (numberOf e) 0 → Says (duty k f) (choose s (bad e) (good (entryOf (duty k f))))
     says f true a = a
@@ -58,7 +61,8 @@ tested k t e r p c = record { says = λ f. says f (t f) (r f); passing = λ f y.
     passing f y true a = tt
     passing f y false a = p f a y
 
-free : (k : ℕ) → ((f : Fields) → refusalOf (duty k f) ≡ 0) → ((f : Fields) → Typed f → Proper (entryOf (duty k f))) → ((f : Fields) → kindOf (editFor k f) ≡ k)
+free : (k : ℕ) → ((f : Fields) → refusalOf (duty k f) ≡ 0) → ((f : Fields) → Typed f → Proper (entryOf (duty k f)))
+    → ((f : Fields) → (printed (editFor k f) .kind ≡ k) × (values (printed (editFor k f) .fields) ≡ given k f))
     → GoodMaker k (λ f. good (entryOf (duty k f)))
 free k r p c = tested k (λ f. false) NewerKind r (λ f a y. p f y) c
 
@@ -80,20 +84,20 @@ bit true = omega arith
 bit false = omega arith
 
 good-makers : GoodMakers 1 makers
-unfolding refusalOf entryOf kindOf Ranged
+unfolding refusalOf entryOf kindOf Ranged printed given
 good-makers =
-    free 1 (λ f. refl) (λ f t. one (f .p) (t .0)) (λ f. refl)
-    ▸ free 2 (λ f. refl) (λ f t. one (f .p) (t .0)) (λ f. refl)
-    ▸ free 3 (λ f. refl) (λ f t. (omega arith, bit (f .flag), two (f .p) (f .k) (t .0) (t .1))) (λ f. refl)
+    free 1 (λ f. refl) (λ f t. one (f .p) (t .0)) (λ f. (refl, refl))
+    ▸ free 2 (λ f. refl) (λ f t. one (f .p) (t .0)) (λ f. (refl, refl))
+    ▸ free 3 (λ f. refl) (λ f t. (omega arith, bit (f .flag), two (f .p) (f .k) (t .0) (t .1))) (λ f. (refl, refl))
     ▸ tested 4 (λ f. ltb 64 (f .width)) WidthOver (λ f. refl)
-    (λ f q t. (omega arith, omega arith, (omega arith, ltb-false 64 (f .width) q, (omega arith, omega arith, tt)))) (λ f. refl)
-    ▸ free 5 (λ f. refl) (λ f t. (omega arith, bit (f .flag), one (f .k) (t .1))) (λ f. refl)
-    ▸ free 6 (λ f. refl) (λ f t. (omega arith, bit (f .flag), one (f .k) (t .1))) (λ f. refl)
-    ▸ tested 7 (λ f. ltb 4_294_967_296 (f .size)) IndexOver (λ f. refl) (λ f q t. (omega arith, ltb-false 4_294_967_296 (f .size) q, tt)) (λ f. refl)
-    ▸ free 8 (λ f. refl) (λ f t. tt) (λ f. refl)
-    ▸ free 9 (λ f. refl) (λ f t. two (f .p) (f .k) (t .0) (t .1)) (λ f. refl)
-    ▸ free 10 (λ f. refl) (λ f t. two (f .p) (f .k) (t .0) (t .1)) (λ f. refl)
-    ▸ free 11 (λ f. refl) (λ f t. two (f .p) (f .k) (t .0) (t .1)) (λ f. refl)
+    (λ f q t. (omega arith, omega arith, (omega arith, ltb-false 64 (f .width) q, (omega arith, omega arith, tt)))) (λ f. (refl, refl))
+    ▸ free 5 (λ f. refl) (λ f t. (omega arith, bit (f .flag), one (f .k) (t .1))) (λ f. (refl, refl))
+    ▸ free 6 (λ f. refl) (λ f t. (omega arith, bit (f .flag), one (f .k) (t .1))) (λ f. (refl, refl))
+    ▸ tested 7 (λ f. ltb 4_294_967_296 (f .size)) IndexOver (λ f. refl) (λ f q t. (omega arith, ltb-false 4_294_967_296 (f .size) q, tt)) (λ f. (refl, refl))
+    ▸ free 8 (λ f. refl) (λ f t. tt) (λ f. (refl, refl))
+    ▸ free 9 (λ f. refl) (λ f t. two (f .p) (f .k) (t .0) (t .1)) (λ f. (refl, refl))
+    ▸ free 10 (λ f. refl) (λ f t. two (f .p) (f .k) (t .0) (t .1)) (λ f. (refl, refl))
+    ▸ free 11 (λ f. refl) (λ f t. two (f .p) (f .k) (t .0) (t .1)) (λ f. (refl, refl))
     ▸ none-left
 
 -- the maker of a kind
@@ -231,4 +235,8 @@ proper-entry q t z = subst Passing (checks-good q (checkedOf q) (checks-say q) z
 
 -- and of the kind asked for
 pub kind-kept : (k : ℕ) (f : Fields) → refusalOf (duty k f) ≡ 0 → kindOf (editFor k f) ≡ k
-kind-kept k f z = by-kind k (λ h. absurd (omega (arith, wrong-kind k f h))) (λ a b. maker-for k a b .is-good .kind f)
+kind-kept k f z =
+    by-kind k (λ h. absurd (omega (arith, wrong-kind k f h))) (λ a b. each-line (editFor k f) .kind ∙ maker-for k a b .is-good .line f .0)
+
+pub fields-agree : FieldsAgree
+fields-agree k f a b = maker-for k a b .is-good .line f

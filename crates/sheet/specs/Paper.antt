@@ -5,8 +5,10 @@ use mathlib.Core.Path.{_≡_}
 use mathlib.Core.Bool.{Bool}
 use mathlib.Core.List.{List, [], _∷_, _++_}
 use mathlib.Core.Logic.{_⊎_}
+use lib.ListN.{getD}
 use Rattle.word.specs.Sets.{val}
 use Rattle.word.specs.Bits.{isOne}
+use Rattle.sheet.specs.declared.Fields.{Fields}
 use Rattle.sheet.specs.declared.Edit.{Edit}
 use Rattle.sheet.specs.declared.Edit.the-variants.{Set, Unset, SetRegion, SetField, Shift, Rotate, Resize, Reverse, ToggleRegion, Open, Close}
 
@@ -53,6 +55,30 @@ printed Reverse = line 8 [] 0 1
 printed (ToggleRegion p k) = line 9 (of32 p ∷ of32 k ∷ []) 8 2
 printed (Open p k) = line 10 (of32 p ∷ of32 k ∷ []) 8 2
 printed (Close p k) = line 11 (of32 p ∷ of32 k ∷ []) 8 2
+
+abbrev pub values : List Cell → List ℕ
+values [] = []
+values (c ∷ cs) = c .value ∷ values cs
+
+-- what an addition is given for the fields of a kind, from kind 1 on; the flag is a region's value or a direction
+abbrev pub columns : List (Fields → List ℕ)
+columns =
+    (λ f. f .p ∷ [])
+    ∷ (λ f. f .p ∷ [])
+    ∷ (λ f. val (f .flag) ∷ f .p ∷ f .k ∷ [])
+    ∷ (λ f. f .p ∷ f .width ∷ f .value ∷ [])
+    ∷ (λ f. val (f .flag) ∷ f .k ∷ [])
+    ∷ (λ f. val (f .flag) ∷ f .k ∷ [])
+    ∷ (λ f. f .size ∷ [])
+    ∷ (λ f. [])
+    ∷ (λ f. f .p ∷ f .k ∷ [])
+    ∷ (λ f. f .p ∷ f .k ∷ [])
+    ∷ (λ f. f .p ∷ f .k ∷ [])
+    ∷ []
+
+unfoldable pub given : ℕ → Fields → List ℕ
+given zero f = []
+given (suc k) f = getD columns k (λ f. []) f
 
 -- every value is one that its field may have
 abbrev pub Allowed : List Cell → Type 0

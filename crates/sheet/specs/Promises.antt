@@ -19,7 +19,7 @@ use Rattle.bitmap.specs.Promises.{WithBit, WithoutBit, WithRegion, WithField}
 use Rattle.shape.specs.Promises.{FlippedFrom, RaisedBy, LoweredBy, ResizedTo}
 use Rattle.gap.specs.Promises.{Opens, Closes}
 use Rattle.sheet.specs.Kinds.{sizeIn, kindOf, payloadOf, Ranged}
-use Rattle.sheet.specs.Paper.{IsEdition, printed, Allowed, digits, cellDigits, byteDigits}
+use Rattle.sheet.specs.Paper.{IsEdition, printed, values, given, Allowed, digits, cellDigits, byteDigits}
 use Rattle.sheet.specs.Reader.{Edition, Turn, stop, next, Item, Answer, done, answerNumber, answerRecord, read, refused}
 use Rattle.sheet.specs.Meaning.{Header, total, start, Whole, Is, Asks, effect, AtRecord, Newer, Applies, Accepted, Due}
 use Rattle.sheet.specs.Reads.{step, editionOf, latest, fitting, Reads, readingNumber, readingRecord, readingCount}
@@ -72,6 +72,10 @@ pub record AsPrinted (e : Edit) : Type 0 where
 pub record TableAgrees : Type 0 where
   pub lines : (e : Edit) → AsPrinted e
   pub others : (n k m : ℕ) → sizeIn n k ≡ some m → (e : Edit) × (printed e .kind ≡ k)
+
+-- the plain sheet's edit of a kind has its fields where 01's table has them
+abbrev pub FieldsAgree : Type 0
+FieldsAgree = (k : ℕ) (f : Fields) → 1 ≤ k → k ≤ 11 → (printed (editFor k f) .kind ≡ k) × (values (printed (editFor k f) .fields) ≡ given k f)
 
 -- kind and payload are the edit's line in 01's table: values that its fields may have, its bytes, and the fields' digits in order, then zeros
 pub record Laid (kind : ℕ) (p : List ℕ) (e : Edit) : Type 0 where
