@@ -1,25 +1,17 @@
 -- Whatever a sheet's edits make of a bitmap in a store has space there and holds no member past its words, and a refused step gets 6.
 use Prim.Native.Nat.{ℕ, _≤_}
-use mathlib.Core.Path.{_≡_, refl, ap, subst}
+use mathlib.Core.Path.{_≡_, refl, subst}
 use mathlib.Core.List.{List, [], _∷_}
 use Rattle.storage.specs.Refusals.{numberOf}
-use Rattle.storage.specs.Stores.{Bits, Bounded, Outcome, refused, done, limit}
+use Rattle.storage.specs.Stores.{Bits, Bounded, limit}
 use Rattle.storage.specs.declared.Refusal.{Refusal}
 use Rattle.sheet.specs.Kinds.{Ranged}
 use Rattle.sheet.specs.Reader.{Turn, stop, next}
 use Rattle.sheet.specs.Meaning.{onward, effect}
-use Rattle.sheet.specs.Reads.{step, made, editionOf}
+use Rattle.sheet.specs.Reads.{step, editionOf}
 use Rattle.sheet.specs.declared.Edit.{Edit}
 use Rattle.sheet.proofs.Turns.{stop-next, next-inj}
-use Rattle.sheet.proofs.Steps.{step-sound, step-six}
-
-made-next : (o : Outcome) (s : Bits) → made o ≡ next s → o ≡ done s
-made-next (refused e) s q = absurd (stop-next q)
-made-next (done b) s q = ap done (next-inj q)
-
-made-stop : (o : Outcome) (e : Refusal) → made o ≡ stop e → o ≡ refused e
-made-stop (refused d) e q = let z : d ≡ e = cc in ap refused z
-made-stop (done b) e q = absurd (let z : stop e ≡ next b = cc in stop-next z)
+use Rattle.sheet.proofs.Steps.{step-sound, made-next, steps-exact}
 
 pub record Kept (c : ℕ) (b : Bits) : Type 0 where
   pub bounded : Bounded b
@@ -29,7 +21,7 @@ module _ (c n : ℕ) where
   pub step-kept : (k : ℕ) (e : Edit) (b s : Bits) → Kept c b → editionOf c n .step k e b ≡ next s → Kept c s
   unfolding editionOf
   step-kept k e b s h q =
-      let p = made-next (step e c b) s q in
+      let p = made-next (step e c b) s .0 q in
       record { bounded = step-sound e .bound c b s (h .bounded) (h .space) p; space = step-sound e .space c b s (h .bounded) (h .space) p }
 
   pub effect-kept : (es : List (ℕ × Edit)) (b s : Bits) → Kept c b → effect (editionOf c n) es b ≡ next s → Kept c s
@@ -43,5 +35,4 @@ module _ (c n : ℕ) where
 
   -- a step's own number
   pub step-stops : (k : ℕ) (e : Edit) (b : Bits) (x : Refusal) → c ≤ limit → Kept c b → Ranged e → editionOf c n .step k e b ≡ stop x → numberOf x ≡ 6
-  unfolding editionOf
-  step-stops k e b x l h r q = step-six c e b x l (h .bounded) (h .space) r (made-stop (step e c b) x q)
+  step-stops k e b x l h r q = steps-exact n c e b l (h .bounded) (h .space) r .refused-is k x .0 q .0

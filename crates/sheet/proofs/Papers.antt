@@ -14,6 +14,7 @@ use Rattle.word.specs.Bits.{isOne}
 use Rattle.sheet.specs.Bytes.{bytes}
 use Rattle.sheet.specs.Layout.{Field, widths, packed, InRange}
 use Rattle.sheet.specs.Kinds.{Row, bytesIn, numberIn, rowOf, sizeIn, kindOf, fieldsOf, numbered, bytesBy, fieldsBy, payloadOf, Ranged}
+use Rattle.sheet.specs.Reads.{editionOf}
 use Rattle.sheet.specs.Paper.{Cell, printed, Allowed, digits, cellDigits, byteDigits}
 use Rattle.sheet.specs.Promises.{AsPrinted, TableAgrees, Laid, PayloadsExact}
 use Rattle.sheet.specs.declared.Edit.{Edit}
@@ -112,10 +113,10 @@ in-ranges (f ∷ fs) (v ∷ vs) l h = (h .0, h .1, in-ranges fs vs (omega arith)
 -- ---- the whole table
 
 as-printed : (e : Edit) → AsPrinted e
-unfolding Ranged payloadOf numbered numberIn
+unfolding Ranged payloadOf numbered numberIn editionOf
 as-printed e = record {
   kind = its .kind;
-  size = its .size;
+  size = λ n c. ap (sizeIn n) (sym (its .kind)) ∙ its .size n;
   ranges = ((λ h. subst Allowed (its .fields) (allowed fs (fieldsOf e) h)), (λ h. in-ranges fs (fieldsOf e) (its .many) (subst Allowed (sym (its .fields)) h)));
   bytes = (payload-length e ∙ its .bytes, bytes-small (bytesBy (rowOf (kindOf e))) (numbered e));
   unused = r .spare;
@@ -148,10 +149,11 @@ as-printed e = record {
         ∙ ap cellDigits (ap (λ (o : Option Row). cells (fieldsBy o) vs) (sym (row-for e .at)) ∙ its .fields))
 
 pub table-agrees : TableAgrees
+unfolding editionOf
 table-agrees = record { lines = as-printed; others = others }
   where
-    others : (n k m : ℕ) → sizeIn n k ≡ some m → (e : Edit) × (printed e .kind ≡ k)
-    others n k m s =
+    others : (n c k m : ℕ) → editionOf c n .size k ≡ some m → (e : Edit) × (printed e .kind ≡ k)
+    others n c k m s =
         let a = held n k m s in
         let e : Edit = a .row .make [] in
         (e, sym (each-line e .kind) ∙ good-row k (a .row) (a .at) .kind [])
@@ -200,6 +202,7 @@ byte-digits-length (b ∷ p) = omega (arith, byte-digits-length p)
 
 -- (c) of 12
 pub payloads-exact : PayloadsExact
+unfolding editionOf
 payloads-exact n c m r e d s h = ((λ a. to (asks-lays n c m r e d s h .0 a)), (λ g. asks-lays n c m r e d s h .1 (back g)))
   where
     its : AsPrinted e

@@ -3,15 +3,15 @@
 use Prim.Native.Nat.{ℕ, _+_, _-_, _*_, _/_, _^_, _≤_, _<_, max}
 use mathlib.Core.Path.{_≡_, refl, sym, ap, _∙_, subst}
 use mathlib.Core.Bool.{Bool, true, false, false≢true}
-use mathlib.Core.Logic.{inl, inr}
+use mathlib.Core.Logic.{_↔_, inl, inr}
 use native.Mathlib.Omega.{arith}
 use Rattle.word.specs.Sets.{choose}
 use Rattle.word.proofs.Cases.{by-lt, by-eq}
 use Rattle.storage.specs.Refusals.{numberOf}
-use Rattle.storage.specs.Stores.{Bits, Bounded, refused, done, limit}
+use Rattle.storage.specs.Stores.{Bits, Bounded, Outcome, refused, done, limit}
 use Rattle.storage.specs.Promises.{Sound, Meets}
 use Rattle.storage.specs.declared.Refusal.{Refusal}
-use Rattle.storage.proofs.Outcomes.{same, never, by-outcome, sound-done}
+use Rattle.storage.proofs.Outcomes.{same, never, which, by-outcome, sound-done}
 use Rattle.storage.proofs.Promises.{each-number-once}
 use Rattle.bits.proofs.Promises.{reverses}
 use Rattle.shift.proofs.Promises.{rotates-left, rotates-right}
@@ -21,10 +21,12 @@ use Rattle.shape.specs.Shapes.{togglingRegion}
 use Rattle.shape.proofs.Promises.{toggles-region, region-nothing as toggles-nothing, raises, lowers, resizes}
 use Rattle.gap.proofs.Promises.{opens, closes}
 use Rattle.sheet.specs.Kinds.{Ranged}
-use Rattle.sheet.specs.Reads.{step}
+use Rattle.sheet.specs.Reader.{stop, next}
+use Rattle.sheet.specs.Reads.{step, made, editionOf}
 use Rattle.sheet.specs.Promises.{Means, StepsExact}
 use Rattle.sheet.specs.declared.Edit.{Edit}
 use Rattle.sheet.specs.declared.Edit.the-variants.{Set, Unset, SetRegion, SetField, Shift, Rotate, Resize, Reverse, ToggleRegion, Open, Close}
+use Rattle.sheet.proofs.Turns.{stop-next, stop-inj, next-inj}
 use Rattle.sheet.proofs.Meant.{means-one}
 
 -- ---- one law over edits: each is as the promise of its operation says
@@ -168,19 +170,33 @@ step-result e b h l r =
     let o = step-meets e .why roomy b x q (record { bounded = h; space = omega arith; short = l; ranged = r }) .low in
     absurd (omega arith))
 
+-- what a step of an edition comes to is what its operation comes to
+pub made-next : (o : Outcome) (s : Bits) → (made o ≡ next s) ↔ (o ≡ done s)
+made-next (refused e) s = ((λ q. absurd (stop-next q)), (λ q. absurd (never (sym q))))
+made-next (done b) s = ((λ q. ap done (next-inj q)), (λ q. ap next (same q)))
+
+made-stop : (o : Outcome) (x : Refusal) → (made o ≡ stop x) ↔ (o ≡ refused x)
+made-stop (refused e) x = ((λ q. ap refused (stop-inj q)), (λ q. ap stop (which q)))
+made-stop (done b) x = ((λ q. absurd (stop-next (sym q))), (λ q. absurd (never q)))
+
 pub steps-exact : StepsExact
-steps-exact e c b l h k r = record {
-  done-is = λ s. (
-    (λ q. (step-meets e .made c b s q h, step-sound e .space c b s h k q)),
-    (λ m. by-outcome (step e c b)
+unfolding editionOf
+steps-exact n c e b l h k r = record {
+  done-is = λ i s. (
+    (λ q.
+        let p = made-next (step e c b) s .0 q in
+        (step-meets e .made c b s p h, step-sound e .space c b s h k p)),
+    (λ m. made-next (step e c b) s .1 (by-outcome (step e c b)
         (λ t q. q ∙ ap done (means-one e b t s h (step-meets e .made c b t q h) (m .0)))
-        (λ x q. absurd (omega (arith, m .1, lack x q .over s (m .0))))),
+        (λ x q. absurd (omega (arith, m .1, lack x q .over s (m .0)))))),
   );
-  refused-is = λ x. (
-    (λ q. (lack x q .six, result .0, result .1, lack x q .over (result .0) (result .1))),
-    (λ m. by-outcome (step e c b)
+  refused-is = λ i x. (
+    (λ q.
+        let l = lack x (made-stop (step e c b) x .0 q) in
+        (l .six, result .0, result .1, l .over (result .0) (result .1))),
+    (λ m. made-stop (step e c b) x .1 (by-outcome (step e c b)
         (λ t q. absurd (omega (arith, m .3, step-sound e .space c b t h k q, ap count (means-one e b t (m .1) h (step-meets e .made c b t q h) (m .2)))))
-        (λ y q. q ∙ ap refused (each-number-once .once y x (lack y q .six ∙ sym (m .0))))),
+        (λ y q. q ∙ ap refused (each-number-once .once y x (lack y q .six ∙ sym (m .0)))))),
   );
   one = λ s t m n. means-one e b s t h m n;
   bounded = λ s m. subst Bounded (means-one e b (result .0) s h (result .1) m) (result .2);
@@ -194,6 +210,3 @@ steps-exact e c b l h k r = record {
 
     lack : (x : Refusal) → step e c b ≡ refused x → Lacking e c b (numberOf x)
     lack x q = step-meets e .why c b x q (record { bounded = h; space = k; short = omega arith; ranged = r })
-
-pub step-six : (c : ℕ) (e : Edit) (b : Bits) (x : Refusal) → c ≤ limit → Bounded b → b .count ≤ c → Ranged e → step e c b ≡ refused x → numberOf x ≡ 6
-step-six c e b x l h k r q = steps-exact e c b l h k r .refused-is x .0 q .0

@@ -11,18 +11,18 @@ use lib.Dec.{leb}
 use Rattle.word.specs.Sets.{choose}
 use Rattle.word.specs.Bits.{member}
 use Rattle.storage.specs.Refusals.{numberOf}
-use Rattle.storage.specs.Stores.{Bits, Bounded, Outcome, limit, view, written}
+use Rattle.storage.specs.Stores.{Bits, Bounded, limit, view, written}
 use Rattle.storage.specs.declared.Refusal.{Refusal}
 use Rattle.bits.specs.Promises.{Reversed}
 use Rattle.shift.specs.Promises.{RotatedLeft, RotatedRight}
 use Rattle.bitmap.specs.Promises.{WithBit, WithoutBit, WithRegion, WithField}
 use Rattle.shape.specs.Promises.{FlippedFrom, RaisedBy, LoweredBy, ResizedTo}
 use Rattle.gap.specs.Promises.{Opens, Closes}
-use Rattle.sheet.specs.Kinds.{sizeIn, kindOf, payloadOf, Ranged}
+use Rattle.sheet.specs.Kinds.{kindOf, payloadOf, Ranged}
 use Rattle.sheet.specs.Paper.{IsEdition, printed, values, given, Allowed, digits, cellDigits, byteDigits}
-use Rattle.sheet.specs.Reader.{Edition, Turn, stop, next, Item, Answer, done, answerNumber, answerRecord, read, refused}
+use Rattle.sheet.specs.Reader.{Edition, Turn, stop, next, Item, Answer, done, answerNumber, answerRecord, read}
 use Rattle.sheet.specs.Meaning.{Header, total, start, Whole, Is, Asks, effect, AtRecord, Newer, Applies, Accepted, Due}
-use Rattle.sheet.specs.Reads.{step, editionOf, latest, fitting, Reads, readingNumber, readingRecord, readingCount}
+use Rattle.sheet.specs.Reads.{editionOf, latest, fitting, Reads, readingNumber, readingRecord, readingCount}
 use Rattle.sheet.specs.Writer.{Request, duty, remark, Entry, edit, note, Starts, Adds, addedNumber, addedLength}
 use Rattle.sheet.specs.Plain.{sheetOf, editsIn, editFor, Ask, Typed, Call, InRow, answers, lastLength, lastBuffer, plainAnswers, lastPlain}
 use Rattle.sheet.specs.declared.Edit.{Edit}
@@ -47,22 +47,23 @@ Means (ToggleRegion p k) b s = (k ≡ 0 → s ≡ b) × ((k ≡ 0 → ⊥) → F
 Means (Open p k) b s = Opens p k b s
 Means (Close p k) b s = Closes p k b s
 
--- 6, exactly: a step in c words is done where the result that the edit means has space, and makes that one; where it has none, it is refused with 6
-pub record StepExact (e : Edit) (c : ℕ) (b : Bits) : Type 0 where
-  pub done-is : (s : Bits) → (step e c b ≡ Outcome.done s) ↔ (Means e b s × (s .count ≤ c))
-  pub refused-is : (x : Refusal) → (step e c b ≡ Outcome.refused x) ↔ ((numberOf x ≡ 6) × (s : Bits) × Means e b s × (c < s .count))
+-- 6, exactly: a step in c words, whichever record asks for it, is done where the result that the edit means has space, and makes that one; where it has
+-- none, it is refused with 6
+pub record StepExact (n c : ℕ) (e : Edit) (b : Bits) : Type 0 where
+  pub done-is : (k : ℕ) (s : Bits) → (editionOf c n .step k e b ≡ next s) ↔ (Means e b s × (s .count ≤ c))
+  pub refused-is : (k : ℕ) (x : Refusal) → (editionOf c n .step k e b ≡ stop x) ↔ ((numberOf x ≡ 6) × (s : Bits) × Means e b s × (c < s .count))
   -- an edit means one result, with no member past its words
   pub one : (s t : Bits) → Means e b s → Means e b t → s ≡ t
   pub bounded : (s : Bits) → Means e b s → Bounded s
 
--- in a store that 1 lets pass, of every edit whose fields are in their ranges
+-- in every edition and in a store that 1 lets pass, of every edit whose fields are in their ranges
 abbrev pub StepsExact : Type 0
-StepsExact = (e : Edit) (c : ℕ) (b : Bits) → c ≤ limit → Bounded b → b .count ≤ c → Ranged e → StepExact e c b
+StepsExact = (n c : ℕ) (e : Edit) (b : Bits) → c ≤ limit → Bounded b → b .count ≤ c → Ranged e → StepExact n c e b
 
 -- the line of an edit in 01's table: its kind, its bytes from its edition on, and the digits of its payload, the fields first and zeros for the unused bits
 pub record AsPrinted (e : Edit) : Type 0 where
   pub kind : kindOf e ≡ printed e .kind
-  pub size : (n : ℕ) → sizeIn n (kindOf e) ≡ choose (leb (printed e .edition) n) (some (printed e .bytes)) none
+  pub size : (n c : ℕ) → editionOf c n .size (printed e .kind) ≡ choose (leb (printed e .edition) n) (some (printed e .bytes)) none
   pub ranges : Ranged e ↔ Allowed (printed e .fields)
   pub bytes : (length (payloadOf e) ≡ printed e .bytes) × ((i : ℕ) → getD (payloadOf e) i 0 < 256)
   pub unused : ℕ
@@ -71,7 +72,7 @@ pub record AsPrinted (e : Edit) : Type 0 where
 -- the table of kinds is 01's, in every edition, and has no other kinds
 pub record TableAgrees : Type 0 where
   pub lines : (e : Edit) → AsPrinted e
-  pub others : (n k m : ℕ) → sizeIn n k ≡ some m → (e : Edit) × (printed e .kind ≡ k)
+  pub others : (n c k m : ℕ) → editionOf c n .size k ≡ some m → (e : Edit) × (printed e .kind ≡ k)
 
 -- the plain sheet's edit of a kind has its fields where 01's table has them
 abbrev pub FieldsAgree : Type 0
@@ -89,7 +90,7 @@ pub record Laid (kind : ℕ) (p : List ℕ) (e : Edit) : Type 0 where
 -- another length, with an unused bit set or with a value out of its range asks for none
 abbrev pub PayloadsExact : Type 0
 PayloadsExact =
-    (n c m : ℕ) (r : Item) (e : Edit) → r .duty ≡ true → sizeIn n (r .kind) ≡ some m → ((i : ℕ) → getD (r .payload) i 0 < 256)
+    (n c m : ℕ) (r : Item) (e : Edit) → r .duty ≡ true → editionOf c n .size (r .kind) ≡ some m → ((i : ℕ) → getD (r .payload) i 0 < 256)
     → Asks (editionOf c n) r e ↔ Laid (r .kind) (r .payload) e
 
 -- a reading in edition n, from the first m words of the store ws, into a store of c words: none of 14, 1 and 2 applies
