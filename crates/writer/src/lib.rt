@@ -14,6 +14,7 @@ ghost use Rattle.sheet.specs.Bytes.{bytes};
 ghost use Rattle.sheet.specs.Kinds.{sizeIn};
 ghost use Rattle.sheet.specs.Reader.{countIn};
 ghost use Rattle.sheet.specs.Reads.{latest};
+ghost use Rattle.sheet.specs.Plain.{Typed};
 ghost use Rattle.sheet.specs.Writer.{framesFault, sheetFault, checkedOf, placedBy, duty, remark, Writes, Starts, Adds};
 ghost use Rattle.writer.specs.Kernels.{Given, endIn, guardBy, orZero, partsOf, roomlessIn};
 
@@ -278,6 +279,7 @@ pub fn add(
     payload: &[u8],
 ) -> Added
     ensures { λ r. ⌜ Adds (now (buffer .entry)) length duty kind fields (now (payload .entry)) r (now (buffer .exit)) ⌝ }
+    ensures { λ r. ⌜ Typed fields ⌝ }
 {
     if length > buffer.len() {
         return Added::Refused(Refusal::CountOverStore);

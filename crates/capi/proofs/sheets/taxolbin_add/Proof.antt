@@ -13,7 +13,7 @@ same-length : tie.Need-same-length
 same-length c = search needs
 
 returns : tie.Need-returns
-returns c = written (c .before .before .before .before .add .ensures) (c .added .ensures)
+returns c = written (c .before .before .before .before .add .ensures .0) (c .added .ensures)
 
 pub taxolbin-add-spec : {M : Type 1} → statement M
 taxolbin-add-spec = tie.close (tie.spec add-requires added-requires same-length returns)
