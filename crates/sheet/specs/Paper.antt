@@ -1,5 +1,5 @@
--- 01's editions and table of kinds, typed from the paper and by themselves, and what the table says of a payload, digit by digit. Nothing is defined by
--- this: Promises states that the editions and the table of kinds agree with it.
+-- 01's limit of a store, its editions and its table of kinds, typed from the paper and by themselves, and what the table says of a payload, digit by
+-- digit. Nothing is defined by this: Promises says what agrees with it.
 use Prim.Native.Nat.{ℕ, zero, suc, _-_, _^_, _/_, _%_, _≤_}
 use mathlib.Core.Path.{_≡_}
 use mathlib.Core.Bool.{Bool}
@@ -11,6 +11,10 @@ use Rattle.word.specs.Bits.{isOne}
 use Rattle.sheet.specs.declared.Fields.{Fields}
 use Rattle.sheet.specs.declared.Edit.{Edit}
 use Rattle.sheet.specs.declared.Edit.the-variants.{Set, Unset, SetRegion, SetField, Shift, Rotate, Resize, Reverse, ToggleRegion, Open, Close}
+
+-- the most words of a store
+abbrev pub mostWords : ℕ
+mostWords = 67_108_864
 
 -- the editions: 14 is any other
 abbrev pub IsEdition : ℕ → Type 0

@@ -11,7 +11,7 @@ use lib.Dec.{leb}
 use Rattle.word.specs.Sets.{choose}
 use Rattle.word.specs.Bits.{member}
 use Rattle.storage.specs.Refusals.{numberOf}
-use Rattle.storage.specs.Stores.{Bits, Bounded, limit, view, written}
+use Rattle.storage.specs.Stores.{Bits, Bounded, view, written}
 use Rattle.storage.specs.declared.Refusal.{Refusal}
 use Rattle.bits.specs.Promises.{Reversed}
 use Rattle.shift.specs.Promises.{RotatedLeft, RotatedRight}
@@ -19,7 +19,7 @@ use Rattle.bitmap.specs.Promises.{WithBit, WithoutBit, WithRegion, WithField}
 use Rattle.shape.specs.Promises.{FlippedFrom, RaisedBy, LoweredBy, ResizedTo}
 use Rattle.gap.specs.Promises.{Opens, Closes}
 use Rattle.sheet.specs.Kinds.{kindOf, payloadOf, Ranged}
-use Rattle.sheet.specs.Paper.{IsEdition, printed, values, given, Allowed, digits, cellDigits, byteDigits}
+use Rattle.sheet.specs.Paper.{mostWords, IsEdition, printed, values, given, Allowed, digits, cellDigits, byteDigits}
 use Rattle.sheet.specs.Reader.{Edition, Turn, stop, next, Item, Answer, done, answerNumber, answerRecord, read}
 use Rattle.sheet.specs.Meaning.{Header, total, start, Whole, Is, Asks, effect, AtRecord, Newer, Applies, Accepted, Due}
 use Rattle.sheet.specs.Reads.{editionOf, latest, fitting, Reads, readingNumber, readingRecord, readingCount}
@@ -58,7 +58,7 @@ pub record StepExact (n c : ℕ) (e : Edit) (b : Bits) : Type 0 where
 
 -- in every edition and in a store that 1 lets pass, of every edit whose fields are in their ranges
 abbrev pub StepsExact : Type 0
-StepsExact = (n c : ℕ) (e : Edit) (b : Bits) → c ≤ limit → Bounded b → b .count ≤ c → Ranged e → StepExact n c e b
+StepsExact = (n c : ℕ) (e : Edit) (b : Bits) → c ≤ mostWords → Bounded b → b .count ≤ c → Ranged e → StepExact n c e b
 
 -- the line of an edit in 01's table: its kind, its bytes from its edition on, and the digits of its payload, the fields first and zeros for the unused bits
 pub record AsPrinted (e : Edit) : Type 0 where
@@ -96,16 +96,16 @@ PayloadsExact =
 -- a reading in edition n, from the first m words of the store ws, into a store of c words: none of 14, 1 and 2 applies
 pub record Passes (n : ℕ) (ws : List ℕ) (m c : ℕ) : Type 0 where
   pub edition : IsEdition n
-  pub short : length ws ≤ limit
+  pub short : length ws ≤ mostWords
   pub inside : m ≤ length ws
-  pub result : c ≤ limit
+  pub result : c ≤ mostWords
 
 -- 14, then 1 and 2 for each store in order
 pub data Stops (n : ℕ) (ws : List ℕ) (m c x : ℕ) : Type 0 where
   no-edition : ¬ IsEdition n → x ≡ 14 → Stops n ws m c x
-  long : IsEdition n → limit < length ws → x ≡ 1 → Stops n ws m c x
-  over : IsEdition n → length ws ≤ limit → length ws < m → x ≡ 2 → Stops n ws m c x
-  result-long : IsEdition n → length ws ≤ limit → m ≤ length ws → limit < c → x ≡ 1 → Stops n ws m c x
+  long : IsEdition n → mostWords < length ws → x ≡ 1 → Stops n ws m c x
+  over : IsEdition n → length ws ≤ mostWords → length ws < m → x ≡ 2 → Stops n ws m c x
+  result-long : IsEdition n → length ws ≤ mostWords → m ≤ length ws → mostWords < c → x ≡ 1 → Stops n ws m c x
 
 -- the number x, the record k and the word count t that a reading answers
 pub data Gets (n : ℕ) (sheet ws : List ℕ) (m c x k t : ℕ) : Type 0 where
