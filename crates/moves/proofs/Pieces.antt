@@ -8,7 +8,8 @@ use lib.ListN.{length, getD, set, take, drop, length-set, length-append, length-
 use lib.Seq.{getD-set-other, getD-append-add, getD-take, getD-drop, ext-getD, length-take-le}
 use Rattle.word.proofs.Cases.{by-lt, by-eq}
 use Rattle.word.proofs.Sweep.{Swept, getD-set}
-use Rattle.moves.specs.Moves.{Moved, Swapped}
+use Rattle.moves.specs.Kernels.{Moved, Swapped}
+use Rattle.moves.specs.Promises.{GoesUp, GoesDown}
 
 -- every word copied
 pub copied-all : (old from ws : List ℕ) (i : ℕ) → Swept old (λ k. getD from k 0) 0 i ws → length old ≡ length from → length from ≤ i → ws ≡ from
@@ -121,9 +122,6 @@ piece-moved from to m ws xs ys zs hf ht f g = record {
 pub move-none : (a b m : ℕ) (ws : List ℕ) → m ≡ 0 → Moved a b m ws ws
 move-none a b m ws e = record { long = refl; moved = λ i l. absurd (omega arith); below = λ i l. refl; above = λ i l. refl }
 
-pub moved-to : (a b m a' b' m' : ℕ) (old ws : List ℕ) → Moved a b m old ws → a ≡ a' → b ≡ b' → m ≡ m' → Moved a' b' m' old ws
-moved-to a b m a' b' m' old ws s p q r = rw (← p, ← q, ← r) s
-
 -- a piece below those that have moved up
 pub moved-up-more : (left q m n : ℕ) (old w1 w2 : List ℕ) → m ≤ left → left + q ≤ n → Moved left (left + q) (n - q - left) old w1
     → Moved (left - m) (left - m + q) m w1 w2 → Moved (left - m) (left - m + q) (n - q - (left - m)) old w2
@@ -151,4 +149,20 @@ moved-down-more q i m old w1 w2 s t = record {
       ∙ s .above (i + q + (k - i)) (omega arith) ∙ ap (λ (x : ℕ). getD old x 0) (omega arith));
   below = λ k l. absurd (omega arith);
   above = λ k l. t .above k (omega arith) ∙ s .above k (omega arith);
+}
+
+-- all pieces moved
+pub moved-up-all : (whole left : ℕ) (old new : List ℕ) → Moved left (left + whole) (length old - whole - left) old new → left ≡ 0 → GoesUp whole old new
+moved-up-all whole left old new s e = record {
+  long = s .long;
+  goes = λ i l.
+      ap (λ (x : ℕ). getD new x 0) {y = left + whole + i} (omega arith) ∙ s .moved i (omega arith) ∙ ap (λ (x : ℕ). getD old x 0) (omega arith);
+  stays = λ i l. s .below i (omega arith);
+}
+
+pub moved-down-all : (whole i : ℕ) (old new : List ℕ) → Moved whole 0 i old new → i ≡ length old - whole → GoesDown whole old new
+moved-down-all whole i old new s e = record {
+  long = s .long;
+  goes = λ k l. ap (λ (x : ℕ). getD new x 0) {y = 0 + k} (omega arith) ∙ s .moved k (omega arith) ∙ ap (λ (x : ℕ). getD old x 0) (omega arith);
+  stays = λ k l. s .above k (omega arith);
 }

@@ -1,6 +1,6 @@
 -- The last words before the others: through a buffer, and by swaps. Assumes nothing.
 use mathlib.Core.Path.{_≡_, refl, sym, ap, _∙_}
-use mathlib.Core.List.{List, _++_, append-nil}
+use mathlib.Core.List.{List, _++_}
 use Prim.Native.Nat.{ℕ, _+_, _-_, _≤_, _<_, min}
 use native.Mathlib.Omega.{arith}
 use borrow.Rule.Slice.PartMut.{midOf, putMid}
@@ -8,26 +8,24 @@ use lib.ListN.{length, getD, take, drop, length-append, length-drop, List·getD-
 use lib.Seq.{getD-take, getD-drop, ext-getD, length-take-le}
 use Rattle.word.proofs.Cases.{by-lt}
 use Rattle.word.proofs.Lists.{past}
-use Rattle.moves.specs.Moves.{Moved, Swapped, turnedWords}
+use Rattle.moves.specs.Moves.{turnedWords}
+use Rattle.moves.specs.Kernels.{Swapped}
+use Rattle.moves.specs.Promises.{GoesUp, GoesDown}
 use Rattle.moves.proofs.Pieces.{getD-after, put-long, put-in, put-below, held-long, held-at}
+use Rattle.moves.proofs.Promises.{turned}
 
 -- ---- the last words before the others
 
+-- what is promised of them, by index: the first m, and those behind
 module _ (ws : List ℕ) (m : ℕ) (h : m ≤ length ws) where
-  long-last : length (drop (length ws - m) ws) ≡ m
-  long-last = length-drop (length ws - m) ws ∙ omega arith
-
   pub turned-long : length (turnedWords m ws) ≡ length ws
-  turned-long =
-      length-append (drop (length ws - m) ws) (take (length ws - m) ws) ∙ omega (arith, long-last, length-take-le (length ws - m) ws (omega arith))
+  turned-long = turned m ws .long
 
   pub turned-low : (i : ℕ) → i < m → getD (turnedWords m ws) i 0 ≡ getD ws (length ws - m + i) 0
-  turned-low i l =
-      List·getD-append (drop (length ws - m) ws) (take (length ws - m) ws) 0 i (omega (arith, long-last)) ∙ getD-drop (length ws - m) ws i 0
+  turned-low i l = turned m ws .wraps (length ws - m + i) i h (omega arith) (omega arith)
 
   pub turned-high : (i : ℕ) → i < length ws - m → getD (turnedWords m ws) (m + i) 0 ≡ getD ws i 0
-  turned-high i l =
-      getD-after (drop (length ws - m) ws) (take (length ws - m) ws) m i long-last ∙ getD-take (length ws - m) ws i 0 l
+  turned-high i l = ap (λ (x : ℕ). getD (turnedWords m ws) x 0) {y = i + m} (omega arith) ∙ turned m ws .goes i (omega arith)
 
   pub turned-is : (ws' : List ℕ) → length ws' ≡ length ws → ((i : ℕ) → i < m → getD ws' i 0 ≡ getD ws (length ws - m + i) 0)
       → ((i : ℕ) → i < length ws - m → getD ws' (m + i) 0 ≡ getD ws i 0) → ws' ≡ turnedWords m ws
@@ -45,28 +43,26 @@ turned-none ws m h e =
     turned-is ws m h ws refl (λ i l. ap (λ (x : ℕ). getD ws x 0) (omega arith)) (λ i l. ap (λ (x : ℕ). getD ws x 0) (omega arith))
 
 pub turned-past : (ws : List ℕ) (m : ℕ) → length ws ≤ m → ws ≡ turnedWords m ws
-turned-past ws m h =
-    let e : length ws - m ≡ 0 = omega arith in
-    sym (append-nil ws) ∙ ap (λ (k : ℕ). drop k ws ++ take k ws) (sym e)
+turned-past ws m h = sym (turned m ws .stays h)
 
 -- the last m words held while the others move up
 pub turned-up : (ws w1 xs ys zs : List ℕ) (m : ℕ) → m ≤ length ws → xs ≡ midOf (length ws - m) (length ws - (length ws - m)) ws → ys ≡ take m (xs ++ zs)
-    → Moved 0 m (length ws - m) ws w1 → ys ++ drop m w1 ≡ turnedWords m ws
+    → GoesUp m ws w1 → ys ++ drop m w1 ≡ turnedWords m ws
 turned-up ws w1 xs ys zs m h f g s =
     turned-is ws m h (ys ++ drop m w1) (length-append ys (drop m w1) ∙ omega (arith, long, length-drop m w1, s .long))
     (λ i l. List·getD-append ys (drop m w1) 0 i (omega (arith, long)) ∙ ap (λ (y : List ℕ). getD y i 0) g ∙ held-at ws xs zs (length ws - m) (length ws) m f (omega arith) (omega arith) i l)
-    (λ i l. getD-after ys (drop m w1) m i long ∙ getD-drop m w1 i 0 ∙ s .moved i l ∙ ap (λ (x : ℕ). getD ws x 0) (omega arith))
+    (λ i l. getD-after ys (drop m w1) m i long ∙ getD-drop m w1 i 0 ∙ ap (λ (x : ℕ). getD w1 x 0) {y = i + m} (omega arith) ∙ s .goes i (omega arith))
   where
     long : length ys ≡ m
     long = ap length g ∙ length-take-le m (xs ++ zs) (held-long ws xs zs (length ws - m) (length ws) m f (omega arith) (omega arith))
 
 -- the others held while the last m words move down
 pub turned-down : (ws w1 xs ys zs : List ℕ) (m : ℕ) → m ≤ length ws → xs ≡ take (length ws - m) ws → ys ≡ take (length ws - m) (xs ++ zs)
-    → Moved (length ws - m) 0 (length ws - (length ws - m)) ws w1 → putMid m (length ws - m) w1 ys ≡ turnedWords m ws
+    → GoesDown (length ws - m) ws w1 → putMid m (length ws - m) w1 ys ≡ turnedWords m ws
 turned-down ws w1 xs ys zs m h f g s =
     turned-is ws m h (putMid m (length ws - m) w1 ys) (put-long w1 ys m (length ws) long (omega (arith, s .long)) ∙ s .long)
     (λ i l.
-    put-below w1 ys m (length ws) long (omega (arith, s .long)) i l ∙ ap (λ (x : ℕ). getD w1 x 0) {y = 0 + i} (omega arith) ∙ s .moved i (omega arith))
+    put-below w1 ys m (length ws) long (omega (arith, s .long)) i l ∙ s .goes i (omega arith) ∙ ap (λ (x : ℕ). getD ws x 0) (omega arith))
     (λ i l.
     put-in w1 ys m (length ws) long (omega (arith, s .long)) i (omega arith) ∙ ap (λ (y : List ℕ). getD y i 0) g
     ∙ held-at ws xs zs 0 (length ws - m) (length ws - m) whole (omega arith) (omega arith) i l ∙ ap (λ (x : ℕ). getD ws x 0) {y = i} (omega arith))

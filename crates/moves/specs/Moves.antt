@@ -1,25 +1,16 @@
 -- What the moves of whole words make of a list.
-use Prim.Native.Nat.{ℕ, _+_, _-_, _≤_, _<_}
-use mathlib.Core.Path.{_≡_}
+use Prim.Native.Nat.{ℕ, _-_}
 use mathlib.Core.List.{List, _++_}
-use lib.ListN.{length, getD, take, drop}
+use lib.ListN.{length, take, drop}
 
--- the m words from index a on stand from index b on, the others are as they were
-pub record Moved (a b m : ℕ) (old new : List ℕ) : Type 0 where
-  pub long : length new ≡ length old
-  pub moved : (i : ℕ) → i < m → getD new (b + i) 0 ≡ getD old (a + i) 0
-  pub below : (i : ℕ) → i < b → getD new i 0 ≡ getD old i 0
-  pub above : (i : ℕ) → b + m ≤ i → getD new i 0 ≡ getD old i 0
+-- each word `whole` words up, as far as there is room; the lowest stay as they were
+unfoldable pub upWords : ℕ → List ℕ → List ℕ
+upWords whole ws = take whole ws ++ take (length ws - whole) ws
 
--- the m words from index a on and the m from index b on have changed places
-pub record Swapped (a b m : ℕ) (old new : List ℕ) : Type 0 where
-  pub long : length new ≡ length old
-  pub first : (i : ℕ) → i < m → getD new (a + i) 0 ≡ getD old (b + i) 0
-  pub second : (i : ℕ) → i < m → getD new (b + i) 0 ≡ getD old (a + i) 0
-  pub below : (i : ℕ) → i < a → getD new i 0 ≡ getD old i 0
-  pub between : (i : ℕ) → a + m ≤ i → i < b → getD new i 0 ≡ getD old i 0
-  pub above : (i : ℕ) → b + m ≤ i → getD new i 0 ≡ getD old i 0
+-- each word `whole` words down, as far as there is room; the highest stay as they were
+unfoldable pub downWords : ℕ → List ℕ → List ℕ
+downWords whole ws = drop whole ws ++ drop (length ws - whole) ws
 
 -- the last m words before the others
-abbrev pub turnedWords : ℕ → List ℕ → List ℕ
+unfoldable pub turnedWords : ℕ → List ℕ → List ℕ
 turnedWords m ws = drop (length ws - m) ws ++ take (length ws - m) ws

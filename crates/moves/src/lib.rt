@@ -2,7 +2,8 @@
 ghost use mathlib.Core.Path.{_≡_};
 ghost use Prim.Native.Nat.{_+_, _-_, _≤_, min};
 ghost use lib.ListN.{length};
-ghost use Rattle.moves.specs.Moves.{Moved, Swapped, turnedWords};
+ghost use Rattle.moves.specs.Moves.{upWords, downWords, turnedWords};
+ghost use Rattle.moves.specs.Kernels.{Moved, Swapped};
 
 // The most words that move as one piece.
 const PIECE: usize = 1024;
@@ -40,7 +41,7 @@ fn move_piece(words: &mut [u64], from: usize, to: usize, m: usize)
 
 // Each word goes `whole` words up, as far as there is room; the lowest stay as they were.
 pub fn move_up(words: &mut [u64], whole: usize)
-    ensures { λ r. ⌜ Moved 0 whole (length (now (words .entry)) - whole) (now (words .entry)) (now (words .exit)) ⌝ }
+    ensures { λ r. ⌜ now (words .exit) ≡ upWords whole (now (words .entry)) ⌝ }
 {
     let n = words.len();
     if whole >= n {
@@ -57,7 +58,7 @@ pub fn move_up(words: &mut [u64], whole: usize)
 
 // Each word goes `whole` words down, as far as there is room; the highest stay as they were.
 pub fn move_down(words: &mut [u64], whole: usize)
-    ensures { λ r. ⌜ Moved whole 0 (length (now (words .entry)) - whole) (now (words .entry)) (now (words .exit)) ⌝ }
+    ensures { λ r. ⌜ now (words .exit) ≡ downWords whole (now (words .entry)) ⌝ }
 {
     let n = words.len();
     if whole >= n {

@@ -17,7 +17,8 @@ use Rattle.word.proofs.Sweep.{Swept, sweep-none, sweep-to, sweep-down, sweep-up
 use Rattle.arch.specs.Scans.{filledWords}
 use Rattle.arch.proofs.Regions.{length-filled-words, filled-in, filled-below, filled-above}
 use Rattle.shift.specs.Shifts.{movedUp, movedDown}
-use Rattle.moves.specs.Moves.{Moved}
+use Rattle.moves.specs.Promises.{GoesUp, GoesDown}
+use Rattle.moves.proofs.Promises.{came-up}
 
 -- ---- one word
 
@@ -122,18 +123,17 @@ module _ (ws : List ℕ) (fit : Fit ws) (k : ℕ) where
       f (λ m a b. left-none m b) (λ m a. ((λ b. absurd (omega arith)), (λ b. (b, a))))
 
   -- by whole words alone
-  pub left-moved : (w1 w2 : List ℕ) → Moved 0 (k / 64) (length ws - k / 64) ws w1 → k % 64 ≡ 0 → k / 64 < length ws → w2 ≡ filledWords 0 (k / 64) 0 w1
+  pub left-moved : (w1 w2 : List ℕ) → GoesUp (k / 64) ws w1 → k % 64 ≡ 0 → k / 64 < length ws → w2 ≡ filledWords 0 (k / 64) 0 w1
       → w2 ≡ wordsOf left (length ws)
   unfolding wordOf
   left-moved w1 w2 s e h f =
       fill-is ws w1 w2 left (k / 64) (length ws) 0 (k / 64)
-      (record { long = s .long; fresh = word; below = s .below; above = λ i l. s .above i (omega arith) })
+      (record { long = s .long; fresh = word; below = s .stays; above = λ i l. past w1 i (omega (arith, s .long)) ∙ sym (past ws i l) })
       f (λ m a b. left-none m b) (λ m a. ((λ b. absurd (omega arith)), (λ b. (b, a))))
     where
       word : (i : ℕ) → k / 64 ≤ i → i < length ws → getD w1 i 0 ≡ wordOf left i
       word i a b =
-          ap (λ (x : ℕ). getD w1 x 0) {y = k / 64 + (i - k / 64)} (omega arith) ∙ s .moved (i - k / 64) (omega arith)
-          ∙ ap (λ (x : ℕ). getD ws x 0) {y = i - k / 64} (omega arith)
+          came-up (k / 64) ws w1 s i a b
           ∙ pack-is 64 (getD ws (i - k / 64) 0) (λ j. left (64 * i + j)) (fit (i - k / 64)) (λ j l. from-left i j (i - k / 64) j l (omega arith))
 
   -- every bit passes the end
@@ -185,17 +185,17 @@ module _ (ws : List ℕ) (fit : Fit ws) (k : ℕ) where
       f (λ m a b. right-none m (omega arith)) (λ m a. ((λ b. (omega arith, b)), (λ b. absurd (omega arith))))
 
   -- by whole words alone
-  pub right-moved : (w1 w2 : List ℕ) → Moved (k / 64) 0 (length ws - k / 64) ws w1 → k % 64 ≡ 0 → k / 64 < length ws
+  pub right-moved : (w1 w2 : List ℕ) → GoesDown (k / 64) ws w1 → k % 64 ≡ 0 → k / 64 < length ws
       → w2 ≡ filledWords (length ws - k / 64) (length ws) 0 w1 → w2 ≡ wordsOf right (length ws)
   unfolding wordOf
   right-moved w1 w2 s e h f =
       fill-is ws w1 w2 right 0 (length ws - k / 64) (length ws - k / 64) (length ws)
-      (record { long = s .long; fresh = word; below = s .below; above = λ i l. s .above i (omega arith) })
+      (record { long = s .long; fresh = word; below = λ i l. absurd (omega arith); above = λ i l. s .stays i (omega arith) })
       f (λ m a b. right-none m (omega arith)) (λ m a. ((λ b. (omega arith, b)), (λ b. absurd (omega arith))))
     where
       word : (i : ℕ) → 0 ≤ i → i < length ws - k / 64 → getD w1 i 0 ≡ wordOf right i
       word i a b =
-          ap (λ (x : ℕ). getD w1 x 0) {y = 0 + i} (omega arith) ∙ s .moved i b ∙ ap (λ (x : ℕ). getD ws x 0) {y = i + k / 64} (omega arith)
+          s .goes i (omega arith)
           ∙ pack-is 64 (getD ws (i + k / 64) 0) (λ j. right (64 * i + j)) (fit (i + k / 64)) (λ j l. from-right i j (i + k / 64) j l (omega arith))
 
   -- every bit is below k

@@ -2,8 +2,9 @@ use mathlib.Core.Path.{refl}
 use Prim.Native.Nat.{_-_, _≤_}
 use native.Mathlib.Omega.{arith}
 use borrow.Author.Needs.{needs}
-use Rattle.moves.specs.Moves.{Moved}
-use Rattle.moves.proofs.Pieces.{move-none, moved-to, moved-down-more}
+use Rattle.moves.specs.Kernels.{Moved}
+use Rattle.moves.proofs.Pieces.{move-none, moved-down-more, moved-down-all}
+use Rattle.moves.proofs.Promises.{down-is}
 use Rattle.moves.proofs.move_down.Statement.{statement}
 use Rattle.moves.proofs.move_down.Tie as tie
 
@@ -14,7 +15,7 @@ abbrev μ-loop : tie.MeasureT-loop
 μ-loop words₀ whole n end i₀ words i = end - i
 
 returns : tie.Need-returns Inv-loop μ-loop
-returns c = move-none _ _ _ _ (omega arith)
+returns c = down-is _ _ _ (moved-down-all _ 0 _ _ (move-none _ _ _ _ refl) (omega arith))
 
 sub-end : tie.Need-sub-end Inv-loop μ-loop
 sub-end c = omega arith
@@ -47,7 +48,7 @@ same-length : tie.Need-same-length Inv-loop μ-loop
 same-length c = search needs
 
 returns-2 : tie.Need-returns-2 Inv-loop μ-loop
-returns-2 c = moved-to _ _ _ _ _ _ _ _ (c .before .loop .inv .1) refl refl (omega arith)
+returns-2 c = down-is _ _ _ (moved-down-all _ _ _ _ (c .before .loop .inv .1) (omega arith))
 
 pub move-down-spec : {M : Type 1} → statement M
 move-down-spec =

@@ -1,9 +1,11 @@
+use mathlib.Core.Path.{refl}
 use Prim.Native.Nat.{_+_, _-_, _≤_}
 use native.Mathlib.Omega.{arith}
 use borrow.Author.Needs.{needs}
 use lib.ListN.{length}
-use Rattle.moves.specs.Moves.{Moved}
-use Rattle.moves.proofs.Pieces.{move-none, moved-to, moved-up-more}
+use Rattle.moves.specs.Kernels.{Moved}
+use Rattle.moves.proofs.Pieces.{move-none, moved-up-more, moved-up-all}
+use Rattle.moves.proofs.Promises.{up-is}
 use Rattle.moves.proofs.move_up.Statement.{statement}
 use Rattle.moves.proofs.move_up.Tie as tie
 
@@ -14,7 +16,7 @@ abbrev μ-loop : tie.MeasureT-loop
 μ-loop words₀ whole n left₀ words left = left
 
 returns : tie.Need-returns Inv-loop μ-loop
-returns c = move-none _ _ _ _ (omega arith)
+returns c = up-is _ _ _ (moved-up-all _ 0 _ _ (move-none _ _ _ _ (omega arith)) refl)
 
 sub-left : tie.Need-sub-left Inv-loop μ-loop
 sub-left c = omega arith
@@ -44,7 +46,7 @@ same-length : tie.Need-same-length Inv-loop μ-loop
 same-length c = search needs
 
 returns-2 : tie.Need-returns-2 Inv-loop μ-loop
-returns-2 c = moved-to _ _ _ _ _ _ _ _ (c .before .loop .inv .1) (omega arith) (omega arith) (omega arith)
+returns-2 c = up-is _ _ _ (moved-up-all _ _ _ _ (c .before .loop .inv .1) (omega arith))
 
 pub move-up-spec : {M : Type 1} → statement M
 move-up-spec =

@@ -2,7 +2,7 @@ use Prim.Native.Nat.{_-_, _≤_}
 use native.Mathlib.Omega.{arith}
 use borrow.Author.Needs.{needs}
 use lib.ListN.{length-set}
-use Rattle.moves.specs.Moves.{Swapped}
+use Rattle.moves.specs.Kernels.{Swapped}
 use Rattle.moves.proofs.Pieces.{swap-none, swap-more, swapped-to}
 use Rattle.moves.proofs.swap_words.Statement.{statement}
 use Rattle.moves.proofs.swap_words.Tie as tie

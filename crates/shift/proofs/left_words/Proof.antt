@@ -6,6 +6,7 @@ use lib.ListN.{length}
 use Rattle.word.specs.Bits.{member, wordOf}
 use Rattle.word.proofs.Sweep.{Swept, sweep-none, sweep-to}
 use Rattle.arch.proofs.Regions.{length-filled-words}
+use Rattle.moves.proofs.Promises.{gone-up}
 use Rattle.shift.specs.Shifts.{movedUp}
 use Rattle.shift.proofs.Moves.{length-after, left-step, left-last, left-out, left-moved}
 use Rattle.shift.proofs.left_words.Statement.{statement}
@@ -36,10 +37,10 @@ fill-words-requires-2 : tie.Need-fill-words-requires-2 Inv-loop μ-loop
 fill-words-requires-2 c κs = search needs
 
 same-length-2 : tie.Need-same-length-2 Inv-loop μ-loop
-same-length-2 c = ap length (c .before .before .fill-words2 .ensures) ∙ length-filled-words _ _ _ _ ∙ c .before .before .before .before .before .before .move-up .ensures .long
+same-length-2 c = ap length (c .before .before .fill-words2 .ensures) ∙ length-filled-words _ _ _ _ ∙ gone-up _ _ _ (c .before .before .before .before .before .before .move-up .ensures) .long
 
 returns-2 : tie.Need-returns-2 Inv-loop μ-loop
-returns-2 c = left-moved (c .before .before .before .before .before .before .before .before .before .before .before .args .words .now) (λ m. omega (arith, c .before .before .before .before .before .before .before .before .before .before .slice-known .given m)) _ (c .before .before .before .before .before .before .move-up .last .0) _ (c .before .before .before .before .before .before .move-up .ensures) (omega arith) (omega arith) (c .before .before .fill-words2 .ensures)
+returns-2 c = left-moved (c .before .before .before .before .before .before .before .before .before .before .before .args .words .now) (λ m. omega (arith, c .before .before .before .before .before .before .before .before .before .before .slice-known .given m)) _ (c .before .before .before .before .before .before .move-up .last .0) _ (gone-up _ _ _ (c .before .before .before .before .before .before .move-up .ensures)) (omega arith) (omega arith) (c .before .before .fill-words2 .ensures)
 
 sub-i : tie.Need-sub-i Inv-loop μ-loop
 sub-i c = omega arith

@@ -6,6 +6,7 @@ use lib.ListN.{length}
 use Rattle.word.specs.Bits.{member, wordOf}
 use Rattle.word.proofs.Sweep.{Swept, sweep-none}
 use Rattle.arch.proofs.Regions.{length-filled-words}
+use Rattle.moves.proofs.Promises.{gone-down}
 use Rattle.shift.specs.Shifts.{movedDown}
 use Rattle.shift.proofs.Moves.{length-after, right-step, right-last, right-out, right-moved}
 use Rattle.shift.proofs.right_words.Statement.{statement}
@@ -39,10 +40,10 @@ fill-words-requires-2 : tie.Need-fill-words-requires-2 Inv-loop μ-loop
 fill-words-requires-2 c κs = search needs
 
 same-length-2 : tie.Need-same-length-2 Inv-loop μ-loop
-same-length-2 c = ap length (c .before .before .fill-words2 .ensures) ∙ length-filled-words _ _ _ _ ∙ c .before .before .before .before .before .before .move-down .ensures .long
+same-length-2 c = ap length (c .before .before .fill-words2 .ensures) ∙ length-filled-words _ _ _ _ ∙ gone-down _ _ _ (c .before .before .before .before .before .before .move-down .ensures) .long
 
 returns-2 : tie.Need-returns-2 Inv-loop μ-loop
-returns-2 c = right-moved (c .before .before .before .before .before .before .before .before .before .before .before .args .words .now) (λ m. omega (arith, c .before .before .before .before .before .before .before .before .before .before .slice-known .given m)) _ (c .before .before .before .before .before .before .move-down .last .0) _ (c .before .before .before .before .before .before .move-down .ensures) (omega arith) (omega arith) (c .before .before .fill-words2 .ensures)
+returns-2 c = right-moved (c .before .before .before .before .before .before .before .before .before .before .before .args .words .now) (λ m. omega (arith, c .before .before .before .before .before .before .before .before .before .before .slice-known .given m)) _ (c .before .before .before .before .before .before .move-down .last .0) _ (gone-down _ _ _ (c .before .before .before .before .before .before .move-down .ensures)) (omega arith) (omega arith) (c .before .before .fill-words2 .ensures)
 
 sub-last : tie.Need-sub-last Inv-loop μ-loop
 sub-last c = omega arith
