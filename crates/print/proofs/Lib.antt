@@ -1,4 +1,5 @@
 pub mod Decimals
+pub mod Printed
 pub mod Buffer
 pub mod Runs
 pub mod Pieces

@@ -1,17 +1,15 @@
 -- A run and what stands before it: lengths, and bytes put. Assumes nothing.
 use mathlib.Core.Path.{_≡_, refl, sym, ap, _∙_, subst}
-use mathlib.Core.Bool.{Bool}
 use mathlib.Core.List.{List, [], _∷_, _++_}
 use Prim.Native.Nat.{ℕ, zero, suc, _+_, _≤_, _<_}
 use native.Mathlib.Omega.{arith}
 use lib.ListN.{length, set, length-append, length-set}
-use borrow.Author.Tests.{eq-eqb, ne-eqb}
-use Rattle.word.specs.Sets.{choose}
 use Rattle.word.proofs.Cases.{by-eq}
 use Rattle.text.specs.Lists.{comma, joiner, space, limit, range}
 use Rattle.print.specs.Texts.{decimal, printed}
 use Rattle.print.specs.Kernels.{gap, Puts}
 use Rattle.print.proofs.Decimals.{digits-most, digits-some}
+use Rattle.print.proofs.Printed.{printed-one, printed-two}
 use Rattle.print.proofs.Buffer.{puts-none, puts-one, puts-then, puts-is, puts-long}
 
 -- ---- the lengths
@@ -44,14 +42,6 @@ puts-gap-two at out e h =
     (puts-one at comma out (omega arith))
     (subst (λ (r : ℕ). Puts (at + 1) (space ∷ []) r (set out at comma) (set (set out at comma) (at + 1) space)) (omega arith)
     (puts-one (at + 1) space (set out at comma) (omega (arith, length-set out at comma)))))
-
-pub printed-one : (a b : ℕ) → a ≡ b → printed (range a b) ≡ decimal a
-unfolding printed
-printed-one a b e = ap (λ (t : Bool). choose t (decimal a) (decimal a ++ joiner ∷ decimal b)) (eq-eqb a b e)
-
-pub printed-two : (a b : ℕ) → (a ≡ b → ⊥) → printed (range a b) ≡ decimal a ++ joiner ∷ decimal b
-unfolding printed
-printed-two a b e = ap (λ (t : Bool). choose t (decimal a) (decimal a ++ joiner ∷ decimal b)) (ne-eqb a b e)
 
 pub two-length : (a b : ℕ) → (a ≡ b → ⊥) → length (printed (range a b)) ≡ length (decimal a) + 1 + length (decimal b)
 two-length a b e = ap length (printed-two a b e) ∙ length-append (decimal a) (joiner ∷ decimal b) ∙ omega arith

@@ -24,10 +24,11 @@ use Rattle.storage.proofs.Trims.{bounded-trimmed}
 use Rattle.text.specs.Lists as g
 use Rattle.text.specs.Lists.{plain, Range, covers}
 use Rattle.text.specs.Readings.{empty, token, reads, notList, parsed, parse, readingList}
-use Rattle.print.specs.Texts.{runs, decimal, textOf, fitted, replaced, Prints}
-use Rattle.print.specs.Promises.{Shortest, Runs, none, more, PrintsRuns, PrintsText, TextOf, ReadsBack}
+use Rattle.print.specs.Texts.{runs, decimal, text, textOf, fitted, replaced, Prints}
+use Rattle.print.specs.Promises.{Shortest, Runs, none, more, PrintsRuns, PrintedRuns, PrintsOne, PrintsText, TextOf, ReadsBack}
 use Rattle.text.proofs.Accepts.{digit-low}
 use Rattle.print.proofs.Decimals.{decimal-digits, digits-most}
+use Rattle.print.proofs.Printed.{runs-printed, printed-only}
 use Rattle.print.proofs.Runs.{runs-are, runs-cover}
 use Rattle.print.proofs.ReadBack.{prints-nothing, text-is-list, reads-back}
 use Rattle.text.proofs.Taken.{list-is}
@@ -80,6 +81,13 @@ prints-runs b h = record {
 }
 
 -- ---- the text of a bitmap
+
+pub prints-one : (b : Bits) → Bounded b → PrintsOne b
+prints-one b h t =
+    let has = runs-are b h in (
+      λ x. printed-only (x .2) ∙ ap text (runs-only (b .members) 0 (x .0) (runs b) (x .1) has),
+      λ e. (runs b, has, subst (λ (u : List ℕ). PrintedRuns u (runs b)) (sym e) (runs-printed (b .members) 0 (runs b) has)),
+    )
 
 none-plain : plain [] ≡ true
 unfolding plain

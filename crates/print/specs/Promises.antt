@@ -1,8 +1,8 @@
 -- What printed list text promises, in words of its own. Each is proved in proofs/Promises.
-use Prim.Native.Nat.{ℕ, _+_, _/_, _≤_, _<_}
+use Prim.Native.Nat.{ℕ, _+_, _*_, _/_, _≤_, _<_}
 use mathlib.Core.Path.{_≡_}
 use mathlib.Core.Bool.{Bool, true, false}
-use mathlib.Core.List.{List, [], _∷_}
+use mathlib.Core.List.{List, [], _∷_, _++_}
 use mathlib.Core.Logic.{_↔_}
 use lib.ListN.{length, take, drop}
 use Rattle.storage.specs.Refusals.{numberOf, numberNumber, numberValue}
@@ -13,7 +13,7 @@ use Rattle.storage.specs.declared.Change.{Change}
 use Rattle.storage.specs.declared.Change.the-variants.{Done}
 use Rattle.storage.specs.declared.Number.{Number}
 use Rattle.storage.specs.declared.Number.the-variants.{Is}
-use Rattle.text.specs.Lists.{Range, Digits, Listed}
+use Rattle.text.specs.Lists.{Range, range, Digits, Listed}
 use Rattle.text.specs.Readings.{readingList}
 use Rattle.text.specs.Promises.{Within}
 use Rattle.print.specs.Texts.{runs, textOf, Prints}
@@ -34,6 +34,32 @@ pub record PrintsRuns (b : Bits) : Type 0 where
   pub maximal : Runs (b .members) 0 (runs b)
   pub cover : (i : ℕ) → Within (runs b) i ↔ (b .members i ≡ true)
   pub only : (rs : List Range) → Runs (b .members) 0 rs → rs ≡ runs b
+
+-- The printed form (01, "List text"), its bytes typed from the paper.
+
+-- a number's digits, 48 to 57: no 0 stands before another
+pub data Figures : List ℕ → ℕ → Type 0 where
+  figure : {d : ℕ} → d < 10 → Figures ((48 + d) ∷ []) d
+  figures : {t : List ℕ} {v d : ℕ} → 0 < v → d < 10 → Figures t v → Figures (t ++ (48 + d) ∷ []) (10 * v + d)
+
+-- a run: one number by itself; two with a hyphen between
+pub data PrintedRun : List ℕ → Range → Type 0 where
+  alone : {t : List ℕ} {a : ℕ} → Figures t a → PrintedRun t (range a a)
+  ends : {t u : List ℕ} {a b : ℕ} → a < b → Figures t a → Figures u b → PrintedRun (t ++ 45 ∷ u) (range a b)
+
+-- runs: a comma and one blank between two
+pub data PrintedRuns : List ℕ → List Range → Type 0 where
+  nothing : PrintedRuns [] []
+  last : {t : List ℕ} {r : Range} → PrintedRun t r → PrintedRuns t (r ∷ [])
+  next : {t u : List ℕ} {r q : Range} {rs : List Range} → PrintedRun t r → PrintedRuns u (q ∷ rs) → PrintedRuns (t ++ 44 ∷ 32 ∷ u) (r ∷ q ∷ rs)
+
+-- t is the printed form of the maximal runs of s
+abbrev pub IsText : (ℕ → Bool) → List ℕ → Type 0
+IsText s t = (rs : List Range) × Runs s 0 rs × PrintedRuns t rs
+
+-- the text of a bitmap is of that form, and no other text is
+abbrev pub PrintsOne : Bits → Type 0
+PrintsOne b = (t : List ℕ) → IsText (b .members) t ↔ (t ≡ textOf b)
 
 -- the call: 1, then 2, then 6, each leaving the buffer; else the text, its length, and the bytes past it as they were
 pub record PrintsText (ws : List ℕ) (n : ℕ) (out : List ℕ) (r : Number) (out' : List ℕ) : Type 0 where

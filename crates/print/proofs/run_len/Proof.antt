@@ -2,7 +2,8 @@ use mathlib.Core.Path.{sym, ap, _∙_}
 use native.Mathlib.Omega.{arith}
 use lib.ListN.{length}
 use borrow.Author.Needs.{needs}
-use Rattle.print.proofs.Pieces.{printed-one, two-length, ten-digits}
+use Rattle.print.proofs.Printed.{printed-one}
+use Rattle.print.proofs.Pieces.{two-length, ten-digits}
 use Rattle.print.proofs.run_len.Statement.{statement}
 use Rattle.print.proofs.run_len.Tie as tie
 
