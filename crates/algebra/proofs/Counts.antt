@@ -10,7 +10,7 @@ use lib.Seq.{getD-drop, take-all}
 use Rattle.word.specs.Sets.{choose, countBelow}
 use Rattle.word.specs.Bits.{bit, member}
 use Rattle.word.proofs.Cases.{by-lt}
-use Rattle.word.proofs.Sets.{count-le, count-ext, count-add, count-none}
+use Rattle.word.proofs.Sets.{count-le, count-ext, count-add, count-flat}
 use Rattle.word.proofs.Lists.{member-past}
 use Rattle.arch.specs.Scans.{countSet}
 use Rattle.arch.proofs.Promises.{count-is-whole}
@@ -59,12 +59,6 @@ unfolding member
 member-drop ws k i =
     ap (λ (x : ℕ). bit x (i % 64)) (getD-drop k ws (i / 64) 0)
     ∙ ap₂ (λ (x y : ℕ). bit (getD ws x 0) y) (omega arith) (omega arith)
-
--- a set with no member from a on has no more below e
-pub count-flat : (s : ℕ → Bool) (a e : ℕ) → a ≤ e → ((i : ℕ) → a ≤ i → s i ≡ false) → countBelow s e ≡ countBelow s a
-count-flat s a e h z =
-    ap (countBelow s) (omega arith) ∙ count-add s a (e - a)
-    ∙ omega (arith, count-none (λ j. s (a + j)) (e - a) (λ j l. z (a + j) (omega arith)))
 
 -- a part that runs to the end
 pub part-drop : (ws : List ℕ) (k : ℕ) → take (length ws - k) (drop k ws) ≡ drop k ws

@@ -1,26 +1,18 @@
--- What the definitions promise, in words of their own, at every truth table that makes no member of two numbers that are none.
+-- What the calls promise, from their contracts and in words of their own, at every truth table that makes no member of two numbers that are none.
 -- Each is proved in proofs/Promises.
-use Prim.Native.Nat.{ℕ, _+_, _*_, _≤_, _<_, max}
+use Prim.Native.Nat.{ℕ, _+_, _*_, _≤_, max}
 use mathlib.Core.Path.{_≡_}
 use mathlib.Core.Bool.{Bool, true, false, _&&_, _||_}
 use mathlib.Core.List.{List}
 use lib.ListN.{length}
-use Rattle.word.specs.Sets.{xorb, Counts}
-use Rattle.storage.specs.Refusals.{numberOf}
-use Rattle.storage.specs.Stores.{limit, view, size, andNot}
-use Rattle.storage.specs.declared.Refusal.{Refusal}
+use Rattle.word.specs.Sets.{xorb, Counted}
+use Rattle.storage.specs.Refusals.{guardNumber, numberNumber, numberValue, truthNumber, truthValue}
+use Rattle.storage.specs.Promises.{mostWords, Guarded, HandsNone, Hands, Tests}
+use Rattle.storage.specs.Stores.{view, andNot}
+use Rattle.storage.specs.declared.Guard.{Guard}
 use Rattle.storage.specs.declared.Number.{Number}
-use Rattle.storage.specs.declared.Number.the-variants.{Is}
 use Rattle.storage.specs.declared.Truth.{Truth}
-use Rattle.storage.specs.declared.Truth.the-variants.{Is}
-use Rattle.algebra.specs.Algebra.{emptyOf, countOf}
-
--- 1 and 2 apply to neither store
-pub record Accepted (ws : List ℕ) (n : ℕ) (os : List ℕ) (m : ℕ) : Type 0 where
-  pub short : length ws ≤ limit
-  pub inside : n ≤ length ws
-  pub second-short : length os ≤ limit
-  pub second-inside : m ≤ length os
+use Rattle.algebra.specs.Algebra.{checkedBoth, emptyOf, countOf}
 
 -- i is a member of the bitmap of n words
 abbrev pub isIn : List ℕ → ℕ → ℕ → Bool
@@ -30,45 +22,61 @@ isIn ws n i = view ws n .members i
 abbrev pub isInBoth : (Bool → Bool → Bool) → List ℕ → ℕ → List ℕ → ℕ → ℕ → Bool
 isInBoth f ws n os m i = f (isIn ws n i) (isIn os m i)
 
--- demand 2: a test answers, and says true exactly where no number at all is in the set
-pub record EmptyExact (f : Bool → Bool → Bool) (ws : List ℕ) (n : ℕ) (os : List ℕ) (m : ℕ) : Type 0 where
-  pub answers : (t : Bool) × (emptyOf f ws n os m ≡ Truth.Is t)
-  pub none : emptyOf f ws n os m ≡ Truth.Is true → (i : ℕ) → isInBoth f ws n os m i ≡ false
-  pub empty : ((i : ℕ) → isInBoth f ws n os m i ≡ false) → emptyOf f ws n os m ≡ Truth.Is true
+-- demand 1: 1 and 2 of the first store, then of the second, then the rest
+abbrev pub GuardedBoth : ℕ → ℕ → ℕ → ℕ → (ℕ → Type 0) → Type 0 → Type 0
+GuardedBoth c n d m No Rest = Guarded c n No (Guarded d m No Rest)
 
--- demand 2: `is_subset` says true exactly where every member of the first is one of the second
-pub record SubsetExact (ws : List ℕ) (n : ℕ) (os : List ℕ) (m : ℕ) : Type 0 where
-  pub each : emptyOf andNot ws n os m ≡ Truth.Is true → (i : ℕ) → isIn ws n i ≡ true → isIn os m i ≡ true
-  pub subset : ((i : ℕ) → isIn ws n i ≡ true → isIn os m i ≡ true) → emptyOf andNot ws n os m ≡ Truth.Is true
+-- `check_both`
+abbrev pub CheckBothMeans : Type 0
+CheckBothMeans =
+    (c n d m : ℕ) (r : Guard) → r ≡ checkedBoth c n d m → GuardedBoth c n d m (λ k. guardNumber r ≡ k) (guardNumber r ≡ 0)
 
--- demand 2: `is_disjoint` says true exactly where no number is in both
-pub record DisjointExact (ws : List ℕ) (n : ℕ) (os : List ℕ) (m : ℕ) : Type 0 where
-  pub apart : emptyOf (λ p q. p && q) ws n os m ≡ Truth.Is true → (i : ℕ) → isIn ws n i ≡ true → isIn os m i ≡ true → ⊥
-  pub disjoint : ((i : ℕ) → isIn ws n i ≡ true → isIn os m i ≡ true → ⊥) → emptyOf (λ p q. p && q) ws n os m ≡ Truth.Is true
+-- demands 1 and 2: the answer r is refused for a store, or 1 exactly where P holds, else 0
+abbrev pub TestsBoth : List ℕ → ℕ → List ℕ → ℕ → Type 0 → Truth → Type 0
+TestsBoth ws n os m P r =
+    GuardedBoth (length ws) n (length os) m (HandsNone (truthNumber r) (truthValue r)) (Tests P (truthNumber r) (truthValue r))
 
--- demand 2: a count is c, all members of the set, whatever counts them; 0 exactly where there is none
-pub record CountExact (f : Bool → Bool → Bool) (ws : List ℕ) (n : ℕ) (os : List ℕ) (m c : ℕ) : Type 0 where
-  pub answers : countOf f ws n os m ≡ Number.Is c
-  pub all : (count : ℕ → ℕ) → Counts (isInBoth f ws n os m) count → (e : ℕ) → 64 * max n m ≤ e → count e ≡ c
-  pub none : c ≡ 0 → (i : ℕ) → isInBoth f ws n os m i ≡ false
-  pub zero : ((i : ℕ) → isInBoth f ws n os m i ≡ false) → c ≡ 0
+-- a test: no number at all is in the set
+abbrev pub TestMeans : Type 0
+TestMeans =
+    (f : Bool → Bool → Bool) → f false false ≡ false → (ws : List ℕ) (n : ℕ) (os : List ℕ) (m : ℕ) (r : Truth) → r ≡ emptyOf f ws n os m
+    → TestsBoth ws n os m ((i : ℕ) → isInBoth f ws n os m i ≡ false) r
+
+-- `is_subset`: every member of the first is one of the second
+abbrev pub SubsetMeans : Type 0
+SubsetMeans =
+    (ws : List ℕ) (n : ℕ) (os : List ℕ) (m : ℕ) (r : Truth) → r ≡ emptyOf andNot ws n os m
+    → TestsBoth ws n os m ((i : ℕ) → isIn ws n i ≡ true → isIn os m i ≡ true) r
+
+-- `is_disjoint`: no number is in both
+abbrev pub DisjointMeans : Type 0
+DisjointMeans =
+    (ws : List ℕ) (n : ℕ) (os : List ℕ) (m : ℕ) (r : Truth) → r ≡ emptyOf (λ p q. p && q) ws n os m
+    → TestsBoth ws n os m ((i : ℕ) → isIn ws n i ≡ true → isIn os m i ≡ true → ⊥) r
+
+-- c is how many members the set s has, whatever counts them up to e or further; 0 exactly where there is none
+pub record CountExact (s : ℕ → Bool) (e c : ℕ) : Type 0 where
+  pub all : (k : ℕ) → e ≤ k → Counted s k c
+  pub none : c ≡ 0 → (i : ℕ) → s i ≡ false
+  pub zero : ((i : ℕ) → s i ≡ false) → c ≡ 0
+
+-- demands 1 and 2: a count
+abbrev pub CountMeans : Type 0
+CountMeans =
+    (f : Bool → Bool → Bool) → f false false ≡ false → (ws : List ℕ) (n : ℕ) (os : List ℕ) (m : ℕ) (r : Number) → r ≡ countOf f ws n os m
+    → GuardedBoth (length ws) n (length os) m (HandsNone (numberNumber r) (numberValue r))
+    (Hands (CountExact (isInBoth f ws n os m) (64 * max n m)) (numberNumber r) (numberValue r))
+
+-- four counts of bitmaps that have s and t members
+pub record Sums (s t and or xor andnot : ℕ) : Type 0 where
+  pub and-or : and + or ≡ s + t
+  pub xor-and : xor + and ≡ or
+  pub andnot-and : andnot + and ≡ s
 
 -- demand 2: the four counts and the sizes of the two bitmaps add up
-pub record CountsAddUp (ws : List ℕ) (n : ℕ) (os : List ℕ) (m : ℕ) : Type 0 where
-  pub and-or : (x y : ℕ) → countOf (λ p q. p && q) ws n os m ≡ Number.Is x → countOf (λ p q. p || q) ws n os m ≡ Number.Is y
-      → x + y ≡ size (view ws n) + size (view os m)
-  pub xor-and : (x y z : ℕ) → countOf xorb ws n os m ≡ Number.Is x → countOf (λ p q. p && q) ws n os m ≡ Number.Is y
-      → countOf (λ p q. p || q) ws n os m ≡ Number.Is z → x + y ≡ z
-  pub andnot-and : (x y : ℕ) → countOf andNot ws n os m ≡ Number.Is x → countOf (λ p q. p && q) ws n os m ≡ Number.Is y → x + y ≡ size (view ws n)
-
--- refused with the number k
-abbrev pub RefusedBy : {A : Type 0} → (Refusal → A) → ℕ → A → Type 0
-RefusedBy refuse k a = (e : Refusal) × (a ≡ refuse e) × (numberOf e ≡ k)
-
--- demand 1: 1 and 2 of the first store come before 1 and 2 of the second
-pub record FirstThenSecond {A : Type 0} (refuse : Refusal → A) (call : List ℕ → ℕ → List ℕ → ℕ → A) : Type 0 where
-  pub long : (ws : List ℕ) (n : ℕ) (os : List ℕ) (m : ℕ) → limit < length ws → RefusedBy refuse 1 (call ws n os m)
-  pub over : (ws : List ℕ) (n : ℕ) (os : List ℕ) (m : ℕ) → length ws ≤ limit → length ws < n → RefusedBy refuse 2 (call ws n os m)
-  pub second-long : (ws : List ℕ) (n : ℕ) (os : List ℕ) (m : ℕ) → length ws ≤ limit → n ≤ length ws → limit < length os → RefusedBy refuse 1 (call ws n os m)
-  pub second-over : (ws : List ℕ) (n : ℕ) (os : List ℕ) (m : ℕ) → length ws ≤ limit → n ≤ length ws → length os ≤ limit → length os < m
-      → RefusedBy refuse 2 (call ws n os m)
+abbrev pub CountsAddUp : Type 0
+CountsAddUp =
+    (ws : List ℕ) (n : ℕ) (os : List ℕ) (m : ℕ) → length ws ≤ mostWords → n ≤ length ws → length os ≤ mostWords → m ≤ length os
+    → (a o x d : Number) → a ≡ countOf (λ p q. p && q) ws n os m → o ≡ countOf (λ p q. p || q) ws n os m → x ≡ countOf xorb ws n os m → d ≡ countOf andNot ws n os m
+    → (s t : ℕ) → Counted (isIn ws n) (64 * n) s → Counted (isIn os m) (64 * m) t
+    → Sums s t (numberValue a) (numberValue o) (numberValue x) (numberValue d)

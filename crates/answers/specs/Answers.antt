@@ -1,10 +1,9 @@
 -- How an answer crosses to C: its number is returned (r), and its count, value or record goes out by parameters.
 use Prim.Native.Nat.{ℕ}
 use mathlib.Core.Path.{_≡_}
-use Rattle.storage.specs.Refusals.{foundNumber, foundValue, numberNumber, numberValue, fieldNumber, fieldValue, truthNumber, truthValue, changeNumber, changeRecord}
+use Rattle.storage.specs.Refusals.{foundNumber, foundFlag, foundValue, numberNumber, numberValue, fieldNumber, fieldValue, truthNumber, truthValue, changeNumber, changeRecord}
 use Rattle.storage.specs.declared.Change.{Change}
 use Rattle.storage.specs.declared.Found.{Found}
-use Rattle.storage.specs.declared.Found.the-variants.{At, Nothing, Refused}
 use Rattle.storage.specs.declared.Number.{Number}
 use Rattle.storage.specs.declared.Field.{Field}
 use Rattle.storage.specs.declared.Truth.{Truth}
@@ -26,12 +25,6 @@ pub record SplitOut (a : Split) (r n t : ℕ) : Type 0 where
   pub number : r ≡ splitNumber a
   pub count : n ≡ splitHead a .count
   pub tail : t ≡ splitTail a
-
--- 1 where something is found
-abbrev pub foundFlag : Found → ℕ
-foundFlag (At p) = 1
-foundFlag Nothing = 0
-foundFlag (Found.Refused e) = 0
 
 -- a search: whether something is found, and its place
 pub record FoundOut (a : Found) (r f v : ℕ) : Type 0 where

@@ -2,38 +2,45 @@
 use mathlib.Core.Path.{_≡_, refl, sym, ap, ap₂, _∙_, subst}
 use mathlib.Core.Bool.{Bool, true, false, not, _&&_}
 use mathlib.Core.List.{List}
-use Prim.Native.Nat.{ℕ, _+_, _*_, _/_, _%_, _<_}
+use mathlib.Core.Logic.{inl, inr}
+use Prim.Native.Nat.{ℕ, _+_, _*_, _/_, _%_, _^_, _<_}
 use native.Mathlib.Nat.{mod-eq-of-lt}
 use native.Mathlib.Omega.{arith}
 use lib.ListN.{length, getD}
 use lib.Dec.{leb, ltb, eqb}
 use borrow.Author.Tests.{lt-ltb, le-ltb, le-leb, lt-leb, eq-eqb, eqb-true, eqb-false, not-true, not-false}
-use Rattle.word.specs.Sets.{choose, leastFrom, topBelow, Nth, Least}
+use Rattle.word.specs.Sets.{choose, countBelow, leastFrom, topBelow, nth, Least, Counts}
 use Rattle.word.specs.Bits.{bit, member, wordsOf}
+use Rattle.word.specs.Words.{allOnes}
 use Rattle.word.proofs.Cases.{by-lt, and-false}
 use Rattle.word.proofs.Bits.{bit-zero, no-bits}
-use Rattle.word.proofs.Sets.{count-le, least, top, nth-has, nth-none}
-use Rattle.word.proofs.Lists.{Fit, at-place, member-at, member-past, member-words, length-words, length-tab}
-use Rattle.arch.specs.Scans.{Alike, firstOther, wordFound, nonzeroLen, isZero, countSet, filled}
-use Rattle.arch.specs.Select.{selectIn, selectTable, selectBy}
-use Rattle.arch.specs.Promises.{FirstOther, ZeroIsEmpty, CountIsWhole, Fills, TableRule, SelectsRank}
+use Rattle.word.proofs.Sets.{count-le, counts-is, least, top, nth-has, nth-none}
+use Rattle.word.proofs.Lists.{at-place, member-at, member-past, member-words, length-words, length-tab}
+use Rattle.arch.specs.Scans.{Alike, firstOther, wordFound, wordFlag, wordIndex, wordThere, nonzeroLen, isZero, countSet, filled}
+use Rattle.arch.specs.Select.{selectIn, selectTable}
+use Rattle.arch.specs.Promises.{FirstOther, FirstNonzeroMeans, FirstNotOnesMeans, NonzeroLenMeans, IsZeroMeans, CountSetBitsMeans, CountIsWhole, FillWordsMeans, FillRegionMeans, TableRule, SelectsRank, SelectMeans, SelectPortableMeans}
+use Rattle.arch.specs.declared.FoundWord.{FoundWord}
 use Rattle.arch.specs.declared.FoundWord.the-variants.{At, Nothing}
-use Rattle.arch.proofs.Scans.{nonzero-none}
+use Rattle.arch.proofs.Scans.{nonzero-none, nonzero-le, nonzero-past, nonzero-last}
+use Rattle.arch.proofs.Regions.{length-filled-words, filled-in, filled-below, filled-above}
 use Rattle.arch.proofs.Table.{table-entry, select-by-table}
 
 -- ---- scans
 
-pub first-other : (x : ℕ) (ws : List ℕ) → FirstOther x ws (wordFound ws (firstOther x ws))
+pub first-other : (x : ℕ) (ws : List ℕ) (a : FoundWord) → a ≡ wordFound ws (firstOther x ws) → FirstOther x ws (wordFlag a) (wordIndex a) (wordThere a)
 unfolding firstOther wordFound
-first-other x ws =
+first-other x ws a e =
     by-lt k (length ws)
     (λ h.
-    subst (FirstOther x ws) (sym (ap (λ (t : Bool). choose t (At k (getD ws k 0)) Nothing) (lt-ltb k (length ws) h)))
-    (h, refl, eqb-false (getD ws k 0) x (not-true (eqb (getD ws k 0) x) (r .here (omega arith))), alike))
+    subst is (sym (e ∙ ap (λ (t : Bool). choose t (At k (getD ws k 0)) Nothing) (lt-ltb k (length ws) h)))
+    (inl (refl, h, refl, eqb-false (getD ws k 0) x (not-true (eqb (getD ws k 0) x) (r .here (omega arith))), alike)))
     (λ h.
-    subst (FirstOther x ws) (sym (ap (λ (t : Bool). choose t (At k (getD ws k 0)) Nothing) (le-ltb k (length ws) h)))
-    (record { at = λ j a b. alike .at j a (omega arith) }))
+    subst is (sym (e ∙ ap (λ (t : Bool). choose t (At k (getD ws k 0)) Nothing) (le-ltb k (length ws) h)))
+    (inr (refl, refl, refl, record { at = λ j a b. alike .at j a (omega arith) })))
   where
+    is : FoundWord → Type 0
+    is a = FirstOther x ws (wordFlag a) (wordIndex a) (wordThere a)
+
     s : ℕ → Bool
     s j = not (eqb (getD ws j 0) x)
 
@@ -46,7 +53,16 @@ first-other x ws =
     alike : Alike ws x 0 k
     alike = record { at = λ j a b. eqb-true (getD ws j 0) x (not-false (eqb (getD ws j 0) x) (r .under j a b)) }
 
-pub zero-is-empty : (ws : List ℕ) → Fit ws → ZeroIsEmpty ws
+pub first-nonzero-means : FirstNonzeroMeans
+first-nonzero-means = first-other 0
+
+pub first-not-ones-means : FirstNotOnesMeans
+first-not-ones-means = first-other allOnes
+
+pub nonzero-len-means : NonzeroLenMeans
+nonzero-len-means ws = record { within = nonzero-le ws; last = nonzero-last ws; after = nonzero-past ws }
+
+pub zero-is-empty : IsZeroMeans
 unfolding isZero nonzeroLen
 zero-is-empty ws f = record {
   empty = λ e i.
@@ -68,13 +84,20 @@ zero-is-empty ws f = record {
         eqb-true (getD ws k 0) 0
         (not-false (eqb (getD ws k 0) 0) (top s (length ws) .over k (omega (arith, eqb-true (topBelow s (length ws)) 0 e)) l))
 
+pub count-set-bits-means : CountSetBitsMeans
+unfolding countSet
+count-set-bits-means ws count c = ap (λ (n : ℕ). n % 2 ^ 64) (sym (counts-is (member ws) count c (64 * length ws)))
+
 pub count-is-whole : CountIsWhole
 unfolding countSet
 count-is-whole ws h = mod-eq-of-lt (omega (arith, count-le (member ws) (64 * length ws)))
 
 -- ---- regions
 
-pub fills : (from end : ℕ) (v : Bool) (ws : List ℕ) → Fills from end v ws (filled from end v ws)
+pub fills-words : FillWordsMeans
+fills-words a e x ws = record { long = length-filled-words a e x ws; inside = filled-in a e x ws; below = filled-below a e x ws; above = filled-above a e x ws }
+
+pub fills : FillRegionMeans
 unfolding filled
 fills from end v ws = record {
   long = length-words s (length ws);
@@ -96,16 +119,24 @@ fills from end v ws = record {
 
 -- ---- the member of a rank
 
+selects : (w out x r : ℕ) (count : ℕ → ℕ) → Counts (bit x) count → SelectsRank w out x r (nth (bit x) r out w) count
+selects w out x r count c = record {
+  one = λ h. let n = nth-has (bit x) r out w (omega (arith, all)) in (n .within, n .here, counts-is (bit x) count c _ ∙ n .under);
+  none = λ h. nth-none (bit x) r out w (omega (arith, all));
+}
+  where
+    all : count w ≡ countBelow (bit x) w
+    all = counts-is (bit x) count c w
+
+pub select-means : SelectMeans
+select-means = selects 64 64
+
 pub table-rule : TableRule
 unfolding selectTable
 table-rule = record {
   size = length-tab 0 2048 (λ k. selectIn (k / 8) (k % 8));
-  one = λ byte rank hb hr h. subst (Nth (bit byte) rank 8) (sym (table-entry byte rank hb hr)) (nth-has (bit byte) rank 0 8 h);
-  none = λ byte rank hb hr h. table-entry byte rank hb hr ∙ nth-none (bit byte) rank 0 8 h;
+  entry = λ byte rank hb hr count c. subst (λ (p : ℕ). SelectsRank 8 0 byte rank p count) (sym (table-entry byte rank hb hr)) (selects 8 0 byte rank count c);
 }
 
-pub selects-rank : (x r : ℕ) → SelectsRank x r (selectBy selectTable x r)
-selects-rank x r = record {
-  one = λ h. subst (Nth (bit x) r 64) (sym (select-by-table x r)) (nth-has (bit x) r 64 64 h);
-  none = λ h. select-by-table x r ∙ nth-none (bit x) r 64 64 h;
-}
+pub selects-rank : SelectPortableMeans
+selects-rank x r count c = subst (λ (p : ℕ). SelectsRank 64 64 x r p count) (sym (select-by-table x r)) (select-means x r count c)

@@ -1,29 +1,70 @@
 -- What the kernels' definitions promise, in words of their own. Each is proved in proofs/Promises.
-use Prim.Native.Nat.{ℕ, _*_, _+_, _^_, _≤_, _<_}
+use Prim.Native.Nat.{ℕ, suc, _*_, _+_, _-_, _%_, _^_, _≤_, _<_}
 use mathlib.Core.Path.{_≡_}
 use mathlib.Core.Bool.{Bool, true, false}
 use mathlib.Core.List.{List}
+use mathlib.Core.Logic.{_⊎_}
 use lib.ListN.{length, getD}
-use Rattle.word.specs.Sets.{countBelow, Nth}
+use Rattle.word.specs.Sets.{countBelow, nth, Counts}
 use Rattle.word.specs.Bits.{bit, member}
-use Rattle.arch.specs.Scans.{Alike, isZero, countSet}
-use Rattle.arch.specs.Select.{selectTable}
+use Rattle.word.specs.Words.{allOnes}
+use Rattle.arch.specs.Scans.{Alike, firstOther, wordFound, wordFlag, wordIndex, wordThere, nonzeroLen, isZero, countSet, filledWords, filled}
+use Rattle.arch.specs.Select.{selectTable, selectBy}
 use Rattle.arch.specs.declared.FoundWord.{FoundWord}
-use Rattle.arch.specs.declared.FoundWord.the-variants.{At, Nothing}
 
--- a word found is there, is other than x, and no word before it is; nothing is found only where every word is x
-abbrev pub FirstOther : ℕ → List ℕ → FoundWord → Type 0
-FirstOther x ws (At k w) = (k < length ws) × (w ≡ getD ws k 0) × (w ≡ x → ⊥) × Alike ws x 0 k
-FirstOther x ws Nothing = Alike ws x 0 (length ws)
+-- by the flag f, the index k and the word w of an answer: a word found is there, is other than x, and no word before it is;
+-- nothing is found only where every word is x
+abbrev pub FirstOther : ℕ → List ℕ → ℕ → ℕ → ℕ → Type 0
+FirstOther x ws f k w =
+    ((f ≡ 1) × (k < length ws) × (w ≡ getD ws k 0) × ¬ (w ≡ x) × Alike ws x 0 k) ⊎ ((f ≡ 0) × (k ≡ 0) × (w ≡ 0) × Alike ws x 0 (length ws))
+
+-- `first_nonzero`
+abbrev pub FirstNonzeroMeans : Type 0
+FirstNonzeroMeans =
+    (ws : List ℕ) (r : FoundWord) → r ≡ wordFound ws (firstOther 0 ws) → FirstOther 0 ws (wordFlag r) (wordIndex r) (wordThere r)
+
+-- `first_not_ones`
+abbrev pub FirstNotOnesMeans : Type 0
+FirstNotOnesMeans =
+    (ws : List ℕ) (r : FoundWord) → r ≡ wordFound ws (firstOther allOnes ws) → FirstOther (2 ^ 64 - 1) ws (wordFlag r) (wordIndex r) (wordThere r)
+
+-- n words are left without trailing zeros: the last of them is not 0, and every word from n on is
+pub record EndsNonzero (ws : List ℕ) (n : ℕ) : Type 0 where
+  pub within : n ≤ length ws
+  pub last : (k : ℕ) → suc k ≡ n → ¬ (getD ws k 0 ≡ 0)
+  pub after : (k : ℕ) → n ≤ k → getD ws k 0 ≡ 0
+
+-- `nonzero_len`
+abbrev pub NonzeroLenMeans : Type 0
+NonzeroLenMeans = (ws : List ℕ) → EndsNonzero ws (nonzeroLen ws)
 
 -- all words are 0 exactly where there is no member
 pub record ZeroIsEmpty (ws : List ℕ) : Type 0 where
   pub empty : isZero ws ≡ true → (i : ℕ) → member ws i ≡ false
   pub zero : ((i : ℕ) → member ws i ≡ false) → isZero ws ≡ true
 
+-- `is_zero`
+abbrev pub IsZeroMeans : Type 0
+IsZeroMeans = (ws : List ℕ) → ((k : ℕ) → getD ws k 0 < 2 ^ 64) → ZeroIsEmpty ws
+
+-- `count_set_bits`: the 64 low digits of what any counting of the members comes to
+abbrev pub CountSetBitsMeans : Type 0
+CountSetBitsMeans = (ws : List ℕ) (count : ℕ → ℕ) → Counts (member ws) count → countSet ws ≡ count (64 * length ws) % 2 ^ 64
+
 -- the members counted, all of them where they fit the answer
 abbrev pub CountIsWhole : Type 0
 CountIsWhole = (ws : List ℕ) → length ws < 2 ^ 58 → countSet ws ≡ countBelow (member ws) (64 * length ws)
+
+-- the words from a on, below e, are x, the others as they were
+pub record FillsWords (a e x : ℕ) (ws ws' : List ℕ) : Type 0 where
+  pub long : length ws' ≡ length ws
+  pub inside : (k : ℕ) → k < length ws → a ≤ k → k < e → getD ws' k 0 ≡ x
+  pub below : (k : ℕ) → k < a → getD ws' k 0 ≡ getD ws k 0
+  pub above : (k : ℕ) → e ≤ k → getD ws' k 0 ≡ getD ws k 0
+
+-- `fill_words`
+abbrev pub FillWordsMeans : Type 0
+FillWordsMeans = (a e x : ℕ) (ws : List ℕ) → FillsWords a e x ws (filledWords a e x ws)
 
 -- in the region every number is a member or none is, elsewhere nothing changes, and no number comes in past the end
 pub record Fills (from end : ℕ) (v : Bool) (ws ws' : List ℕ) : Type 0 where
@@ -32,13 +73,25 @@ pub record Fills (from end : ℕ) (v : Bool) (ws ws' : List ℕ) : Type 0 where
   pub before : (i : ℕ) → i < from → member ws' i ≡ member ws i
   pub after : (i : ℕ) → end ≤ i → member ws' i ≡ member ws i
 
+-- `fill_region`
+abbrev pub FillRegionMeans : Type 0
+FillRegionMeans = (from end : ℕ) (v : Bool) (ws : List ℕ) → Fills from end v ws (filled from end v ws)
+
+-- by any counting, p is the member of x below w with exactly r members below it, and `out` only where there is none
+pub record SelectsRank (w out x r p : ℕ) (count : ℕ → ℕ) : Type 0 where
+  pub one : r < count w → (p < w) × (bit x p ≡ true) × (count p ≡ r)
+  pub none : count w ≤ r → p ≡ out
+
+-- `select_u64`: 64 if there is none
+abbrev pub SelectMeans : Type 0
+SelectMeans = (x r : ℕ) (count : ℕ → ℕ) → Counts (bit x) count → SelectsRank 64 64 x r (nth (bit x) r 64 64) count
+
 -- 01: "the place of the rank-th one in a byte, 0 if none", at each of the 2,048 entries
 pub record TableRule : Type 0 where
   pub size : length selectTable ≡ 2048
-  pub one : (byte rank : ℕ) → byte < 256 → rank < 8 → rank < countBelow (bit byte) 8 → Nth (bit byte) rank 8 (getD selectTable (byte * 8 + rank) 0)
-  pub none : (byte rank : ℕ) → byte < 256 → rank < 8 → countBelow (bit byte) 8 ≤ rank → getD selectTable (byte * 8 + rank) 0 ≡ 0
+  pub entry : (byte rank : ℕ) → byte < 256 → rank < 8 → (count : ℕ → ℕ) → Counts (bit byte) count
+      → SelectsRank 8 0 byte rank (getD selectTable (byte * 8 + rank) 0) count
 
--- by that table the answer is the member with exactly r members below it, and 64 only where there is none
-pub record SelectsRank (x r p : ℕ) : Type 0 where
-  pub one : r < countBelow (bit x) 64 → Nth (bit x) r 64 p
-  pub none : countBelow (bit x) 64 ≤ r → p ≡ 64
+-- `select_u64_portable`, by that table
+abbrev pub SelectPortableMeans : Type 0
+SelectPortableMeans = (x r : ℕ) (count : ℕ → ℕ) → Counts (bit x) count → SelectsRank 64 64 x r (selectBy selectTable x r) count

@@ -22,6 +22,19 @@ firstOther x ws = leastFrom (λ k. not (eqb (getD ws k 0) x)) 0 (length ws)
 unfoldable pub wordFound : List ℕ → ℕ → FoundWord
 wordFound ws k = choose (ltb k (length ws)) (At k (getD ws k 0)) Nothing
 
+-- of a word found its flag, 1, its index and the word itself; where nothing is found all three are 0
+abbrev pub wordFlag : FoundWord → ℕ
+wordFlag (At k w) = 1
+wordFlag Nothing = 0
+
+abbrev pub wordIndex : FoundWord → ℕ
+wordIndex (At k w) = k
+wordIndex Nothing = 0
+
+abbrev pub wordThere : FoundWord → ℕ
+wordThere (At k w) = w
+wordThere Nothing = 0
+
 -- the length without trailing zero words
 unfoldable pub nonzeroLen : List ℕ → ℕ
 nonzeroLen ws = topBelow (λ k. not (eqb (getD ws k 0) 0)) (length ws)

@@ -3,7 +3,7 @@ use mathlib.Core.Path.{_≡_, refl, sym, ap, ap₂, _∙_, subst}
 use mathlib.Core.Bool.{Bool, true, false, not, _&&_, _||_, false≢true}
 use mathlib.Core.List.{List}
 use mathlib.Core.Logic.{_⊎_, inl, inr}
-use Prim.Native.Nat.{ℕ, suc, _+_, _-_, _*_, _/_, _%_, _^_, _≤_, _<_, max}
+use Prim.Native.Nat.{ℕ, suc, _+_, _-_, _*_, _/_, _%_, _^_, _<_, max}
 use native.Mathlib.Omega.{arith}
 use lib.ListN.{getD}
 use lib.Dec.{ltb, leb, eqb}
@@ -14,18 +14,18 @@ use Rattle.word.proofs.Cases.{by-lt, by-eq, by-test, or-false, and-false, and-k
 use Rattle.word.proofs.Lists.{word-none, word-zero}
 use Rattle.storage.specs.Refusals.{numberOf}
 use Rattle.storage.specs.Stores.{Bits, done, flipped, trimmed}
-use Rattle.storage.specs.Promises.{LeastCount, Meets, Never, Lacks}
+use Rattle.storage.specs.Promises.{LeastCount}
 use Rattle.storage.proofs.Checks.{within-done}
-use Rattle.storage.proofs.Outcomes.{same, never, which, lacks}
+use Rattle.storage.proofs.Outcomes.{same, never, which, lacks, meets-nothing}
 use Rattle.storage.proofs.Promises.{least-count}
 use Rattle.bitmap.specs.Bitmaps.{trimming, setting, without, unsetting, listed, reachOf, settingMany, settingRegion, settingField, tidied, alone, keepingBit, droppingBit, flippingBit}
-use Rattle.bitmap.specs.Promises.{WithBit, WithListed, LacksListed, WithoutBit, Fewest, WithRegion, WithField, NoField, Tidied, OnlyBit, FlippedBit, ThenTidied}
+use Rattle.bitmap.specs.Promises.{WithBit, WithListed, WithoutBit, Fewest, WithRegion, WithField, Tidied, FlippedBit, Sets, SetsMany, Unsets, Trims, Regions, RegionUnchanged, FieldsSet, FieldUnchanged, KeepsBit, DropsBit, FlipsBit}
 use Rattle.bitmap.proofs.Many.{reach-in, reach-who, reach-under, listed-at, listed-who}
 use Rattle.bitmap.proofs.Sounds.{setting-sound, many-sound, unsetting-sound, trimming-sound, region-sound, field-sound, keeping-sound, dropping-sound, flipping-sound}
 use Rattle.bitmap.proofs.Regions.{region-none, region-over, region-put}
 use Rattle.bitmap.proofs.Fields.{zero-digit, no-digits, some-at, field-wide, field-over, field-put}
 
-pub sets : (i : ℕ) → Meets (setting i) (λ c b s. WithBit i b s) (Lacks (λ b. max (b .count) (i / 64 + 1)))
+pub sets : (i : ℕ) → Sets i
 unfolding setting
 sets i = record {
   made = λ c b s e.
@@ -39,7 +39,7 @@ sets i = record {
   why = λ c b e q. lacks c _ e q;
 }
 
-pub sets-many : (is : List ℕ) → Meets (settingMany is) (λ c b s. WithListed is b s) (LacksListed is)
+pub sets-many : (is : List ℕ) → SetsMany is
 unfolding settingMany
 sets-many is = record {
   made = λ c b s e.
@@ -65,7 +65,7 @@ removes i b = record {
   others = λ j n. ap (λ (t : Bool). b .members j && not t) (ne-eqb j i n) ∙ and-keep (b .members j);
 }
 
-pub unsets : (i : ℕ) → Meets (unsetting i) (λ c b s. WithoutBit i b s) Never
+pub unsets : (i : ℕ) → Unsets i
 unfolding unsetting
 unsets i = record {
   made = λ c b s e. subst (WithoutBit i b) (same e) (removes i b);
@@ -73,7 +73,7 @@ unsets i = record {
   why = λ c b e q. never q;
 }
 
-pub trims : Meets trimming (λ c b s. Fewest b s) Never
+pub trims : Trims
 unfolding trimming
 trims = record {
   made = λ c b s e. subst (Fewest b) (same e) (record { same = λ i. refl; count = least-count (b .members) (b .count) });
@@ -98,9 +98,7 @@ region-rule i v k b = record {
 }
 
 -- 4 exactly where the last index passes 2 ^ 64 - 1, then 6 for lack of space; k 0 does nothing, whatever i
-pub regions : (i : ℕ) (v : Bool) (k : ℕ) → (k ≡ 0 → ⊥)
-    → Meets (settingRegion i v k) (λ c b s. (i + k ≤ 2 ^ 64) × WithRegion i v k b s)
-    (λ c b m. ((m ≡ 4) × (2 ^ 64 < i + k)) ⊎ ((m ≡ 6) × (i + k ≤ 2 ^ 64) × (c < choose v (max (b .count) ((i + k - 1) / 64 + 1)) (b .count))))
+pub regions : (i : ℕ) (v : Bool) (k : ℕ) → Regions i v k
 regions i v k some = record {
   made = λ c b s e.
       by-lt (2 ^ 64) (i + k)
@@ -115,6 +113,9 @@ regions i v k some = record {
 
 pub region-nothing : (i : ℕ) (v : Bool) (c : ℕ) (b : Bits) → settingRegion i v 0 c b ≡ done b
 region-nothing i v c b = region-none i 0 c v b refl
+
+pub region-unchanged : (i : ℕ) (v : Bool) → RegionUnchanged i v
+region-unchanged i v = meets-nothing (settingRegion i v 0) (region-nothing i v)
 
 -- ---- a field of width > 0
 
@@ -140,8 +141,7 @@ field-rule i value width b = record {
 }
 
 -- 3, 4 and 6 exactly; width 0 does nothing, whatever i
-pub fields : (i value width : ℕ) → (width ≡ 0 → ⊥)
-    → Meets (settingField i value width) (λ c b s. (width ≤ 64) × (i + width ≤ 2 ^ 64) × WithField i value width b s) (NoField i value width)
+pub fields : (i value width : ℕ) → FieldsSet i value width
 fields i value width n = record {
   made = λ c b s e.
       by-lt 64 width
@@ -172,6 +172,9 @@ pub field-nothing : (i value c : ℕ) (b : Bits) → settingField i value 0 c b 
 unfolding settingField
 field-nothing i value c b = refl
 
+pub field-unchanged : (i value : ℕ) → FieldUnchanged i value
+field-unchanged i value = meets-nothing (settingField i value 0) (field-nothing i value)
+
 -- ---- one word worked on, and tidied
 
 pub tidies : (k : ℕ) (t : Bits) → Tidied k t (tidied k t)
@@ -201,7 +204,7 @@ tidies k t = record {
     full : (j : ℕ) → j / 64 ≡ k → t .members j ≡ true → wordOf (t .members) k ≡ 0 → ⊥
     full j e m z = false≢true (sym (word-zero (t .members) k (j % 64) z (omega arith)) ∙ ap (t .members) (omega arith) ∙ m)
 
-pub keeps-bit : (i : ℕ) → Meets (keepingBit i) (λ c b s. ThenTidied i (OnlyBit i) b s) Never
+pub keeps-bit : (i : ℕ) → KeepsBit i
 unfolding keepingBit
 keeps-bit i = record {
   made = λ c b s e. (
@@ -219,7 +222,7 @@ keeps-bit i = record {
   why = λ c b e q. never q;
 }
 
-pub drops-bit : (i : ℕ) → Meets (droppingBit i) (λ c b s. ThenTidied i (WithoutBit i) b s) Never
+pub drops-bit : (i : ℕ) → DropsBit i
 unfolding droppingBit
 drops-bit i = record {
   made = λ c b s e. (without i b, removes i b, subst (Tidied (i / 64) _) (same e) (tidies (i / 64) _));
@@ -227,19 +230,17 @@ drops-bit i = record {
   why = λ c b e q. never q;
 }
 
-pub flips-bit : (i : ℕ)
-    → Meets (flippingBit i) (λ c b s. ThenTidied i (FlippedBit i) b s) (Lacks (λ b. tidied (i / 64) (flipped i b) .count))
+flips : (i : ℕ) (b : Bits) → FlippedBit i b (flipped i b)
+flips i b = record {
+  count = refl;
+  here = ap (xorb (b .members i)) (eq-eqb i i refl) ∙ xor-true (b .members i);
+  others = λ j n. ap (xorb (b .members j)) (ne-eqb j i n) ∙ xor-false (b .members j);
+}
+
+pub flips-bit : (i : ℕ) → FlipsBit i
 unfolding flippingBit
 flips-bit i = record {
-  made = λ c b s e. (
-    flipped i b,
-    record {
-      count = refl;
-      here = ap (xorb (b .members i)) (eq-eqb i i refl) ∙ xor-true (b .members i);
-      others = λ j n. ap (xorb (b .members j)) (ne-eqb j i n) ∙ xor-false (b .members j);
-    },
-    subst (Tidied (i / 64) _) (within-done c _ s e .0) (tidies (i / 64) _),
-  );
+  made = λ c b s e. (flipped i b, flips i b, subst (Tidied (i / 64) _) (within-done c _ s e .0) (tidies (i / 64) _));
   sound = flipping-sound i;
-  why = λ c b e q. lacks c _ e q;
+  why = λ c b e q. let l = lacks c _ e q in (l .0, (tidied (i / 64) (flipped i b), (flipped i b, flips i b, tidies (i / 64) _), l .1));
 }

@@ -1,21 +1,26 @@
 -- The promises of specs/Promises. Assumes nothing.
 use mathlib.Core.Path.{_≡_, refl, sym, ap, _∙_, subst}
-use mathlib.Core.Bool.{Bool, not, _&&_}
-use Prim.Native.Nat.{ℕ, suc, _+_, _-_, _*_, _<_}
+use mathlib.Core.Bool.{Bool, true, false, not, _&&_}
+use mathlib.Core.Logic.{inl, inr}
+use Prim.Native.Nat.{ℕ, zero, suc, _+_, _-_, _*_, _≤_, _<_}
 use native.Mathlib.Omega.{arith}
 use lib.Dec.{ltb, eqb}
 use borrow.Author.Tests.{lt-ltb, le-ltb, eq-eqb, ne-eqb}
-use Rattle.word.specs.Sets.{choose, xorb, countBelow, nth, Nth}
+use Rattle.word.specs.Sets.{choose, val, xorb, countBelow, nth, Nth, Counted}
 use Rattle.word.proofs.Cases.{by-lt, xor-true, xor-false}
-use Rattle.word.proofs.Sets.{count-le, counts, nth-has, nth-none}
-use Rattle.storage.specs.Refusals.{numberOf}
-use Rattle.storage.specs.Stores.{Bits, refused, done, size, foundBelow}
-use Rattle.storage.specs.Promises.{Meets, Never}
+use Rattle.word.proofs.Sets.{count-add, count-none, counted, nth-has, nth-none}
+use Rattle.storage.specs.Refusals.{numberOf, foundNumber, foundFlag, foundValue}
+use Rattle.storage.specs.Stores.{Bits, Bounded, refused, done, size, foundBelow}
+use Rattle.storage.specs.Promises.{Hands, NumberCall}
 use Rattle.storage.specs.declared.Refusal.the-variants.{PastLength}
+use Rattle.storage.specs.declared.Found.{Found}
 use Rattle.storage.specs.declared.Found.the-variants.{At, Nothing}
+use Rattle.storage.specs.declared.Number.{Number}
+use Rattle.storage.specs.declared.Number.the-variants.{Is}
 use Rattle.storage.proofs.Outcomes.{same, never, which, sound-done}
+use Rattle.storage.proofs.Promises.{number-call, found-call}
 use Rattle.bits.specs.Bits.{toggling, inverting, reversing, clearSize, countRegion, rankOf, selected}
-use Rattle.bits.specs.Promises.{Toggled, Toggles, Inverted, Reversed, Counted, Selected}
+use Rattle.bits.specs.Promises.{Toggled, Toggles, Inverted, Inverts, Reversed, Reverses, CountClearBitsMeans, CountRegionMeans, RankMeans, Selected, SelectMeans}
 use Rattle.bits.proofs.Moves.{toggling-past}
 
 -- ---- toggle
@@ -59,7 +64,7 @@ toggles i = record {
 
 -- ---- invert and reverse
 
-pub inverts : Meets inverting (λ c b s. Inverted b s) Never
+pub inverts : Inverts
 unfolding inverting
 inverts = record {
   made = λ c b s q. subst (Inverted b) (same q) (inverted b);
@@ -74,7 +79,7 @@ inverts = record {
       past = λ i l. ap (λ (t : Bool). t && not (b .members i)) (le-ltb i (64 * b .count) l);
     }
 
-pub reverses : Meets reversing (λ c b s. Reversed b s) Never
+pub reverses : Reverses
 unfolding reversing
 reverses = record {
   made = λ c b s q. subst (Reversed b) (same q) (reversed b);
@@ -92,28 +97,71 @@ reverses = record {
 
 -- ---- counts
 
-pub counted : (b : Bits) → Counted b
-unfolding countRegion rankOf clearSize size
-counted b = record {
-  region = λ i. counts (λ j. b .members (i + j));
-  rank = counts (b .members);
-  whole = refl;
-  clear = omega (arith, count-le (b .members) (64 * b .count));
-}
+count-call : (f : Bits → ℕ) (rule : Bits → ℕ → Type 0) → ((b : Bits) → Bounded b → rule b (f b)) → NumberCall (λ s. Number.Is (f s)) (λ b. Hands (rule b))
+count-call f rule holds = number-call (λ s. Number.Is (f s)) (λ b. Hands (rule b)) (λ b bounded. (refl, holds b bounded))
 
-pub selects : (r : ℕ) (b : Bits) → Selected r b (selected r b)
-unfolding selected foundBelow rankOf size
-selects r b =
-    by-lt r (countBelow (b .members) len)
-    (λ h.
-    let n : Nth (b .members) r len p = nth-has (b .members) r len len h in
-    subst (Selected r b) (sym (ap (λ (t : Bool). choose t (At p) Nothing) (lt-ltb p len (n .within)))) (n .here, n .under, n .within))
-    (λ h.
-    let e : p ≡ len = nth-none (b .members) r len len h in
-    subst (Selected r b) (sym (ap (λ (t : Bool). choose t (At p) Nothing) (le-ltb p len (omega arith)))) h)
+counting : (s : ℕ → Bool) (k : ℕ) → Counted s k (countBelow s k)
+counting s k = counted s k (countBelow s k) refl
+
+-- members and others make all numbers
+count-others : (s : ℕ → Bool) (m : ℕ) → countBelow (λ i. not (s i)) m + countBelow s m ≡ m
+unfolding countBelow
+count-others s zero = refl
+count-others s (suc m) = omega (arith, count-others s m, one (s m))
   where
+    one : (t : Bool) → val (not t) + val t ≡ 1
+    one true = refl
+    one false = refl
+
+pub count-clear-bits-means : CountClearBitsMeans
+unfolding clearSize size
+count-clear-bits-means =
+    count-call clearSize (λ b. Counted (λ i. not (b .members i)) (64 * b .count))
+    (λ b bounded. counted (λ i. not (b .members i)) (64 * b .count) (clearSize b) (omega (arith, count-others (b .members) (64 * b .count))))
+
+pub count-region-means : (i k : ℕ) → CountRegionMeans i k
+unfolding countRegion
+count-region-means i k =
+    count-call (countRegion i k) (λ b. Counted (λ j. b .members (i + j)) k) (λ b bounded. counting (λ j. b .members (i + j)) k)
+
+pub rank-means : (i : ℕ) → RankMeans i
+unfolding rankOf
+rank-means i = count-call (rankOf i) (λ b. Counted (b .members) i) (λ b bounded. counting (b .members) i)
+
+-- ---- the member of a rank
+
+selects : (r : ℕ) (b : Bits) → Bounded b → Selected r b (foundNumber (selected r b)) (foundFlag (selected r b)) (foundValue (selected r b))
+unfolding selected foundBelow
+selects r b bounded =
+    by-lt r (countBelow s len)
+    (λ h.
+    let n : Nth s r len p = nth-has s r len len h in
+    subst is (sym (ap (λ (t : Bool). choose t (At p) Nothing) (lt-ltb p len (n .within))))
+    (refl, inl (refl, (n .here, counted s p r (n .under)))))
+    (λ h.
+    let e : p ≡ len = nth-none s r len len h in
+    subst is (sym (ap (λ (t : Bool). choose t (At p) Nothing) (le-ltb p len (omega arith))))
+    (refl, inr (refl, refl, λ e. (countBelow s e, counting s e, omega (arith, most e, h)))))
+  where
+    s : ℕ → Bool
+    s = b .members
+
     len : ℕ
     len = 64 * b .count
 
     p : ℕ
-    p = nth (b .members) r len len
+    p = nth s r len len
+
+    is : Found → Type 0
+    is a = Selected r b (foundNumber a) (foundFlag a) (foundValue a)
+
+    most : (e : ℕ) → countBelow s e ≤ countBelow s len
+    most e =
+        by-lt e len
+        (λ l. let w : e + (len - e) ≡ len = omega arith in omega (arith, count-add s e (len - e), ap (countBelow s) w))
+        (λ l.
+        let w : len + (e - len) ≡ e = omega arith in
+        omega (arith, count-add s len (e - len), ap (countBelow s) w, count-none (λ j. s (len + j)) (e - len) (λ j m. bounded .past (len + j) (omega arith))))
+
+pub select-means : (r : ℕ) → SelectMeans r
+select-means r = found-call (selected r) (Selected r) (selects r)

@@ -1,43 +1,59 @@
 -- What the calls of bits.rs promise, for every number. Each is proved in proofs/Promises.
 use Prim.Native.Nat.{ℕ, _+_, _*_, _≤_, _<_}
 use mathlib.Core.Path.{_≡_}
-use mathlib.Core.Bool.{true, false, not}
-use Rattle.word.specs.Sets.{Counts}
-use Rattle.storage.specs.Stores.{Bits, size}
-use Rattle.storage.specs.Promises.{Meets}
-use Rattle.storage.specs.declared.Found.{Found}
-use Rattle.storage.specs.declared.Found.the-variants.{At, Nothing, Refused}
-use Rattle.bits.specs.Bits.{toggling, clearSize, countRegion, rankOf}
+use mathlib.Core.Bool.{Bool, true, false, not}
+use Rattle.word.specs.Sets.{Counted}
+use Rattle.storage.specs.Stores.{Bits}
+use Rattle.storage.specs.Promises.{Hands, Finds, NumberCall, FoundCall, Meets, Never}
+use Rattle.storage.specs.declared.Number.{Number}
+use Rattle.storage.specs.declared.Number.the-variants.{Is}
+use Rattle.bits.specs.Bits.{toggling, inverting, reversing, clearSize, countRegion, rankOf, selected}
 
 pub record Toggled (i : ℕ) (b s : Bits) : Type 0 where
   pub count : s .count ≡ b .count
   pub flipped : s .members i ≡ not (b .members i)
   pub others : (j : ℕ) → (j ≡ i → ⊥) → s .members j ≡ b .members j
 
+-- `invert`
 pub record Inverted (b s : Bits) : Type 0 where
   pub count : s .count ≡ b .count
   pub below : (i : ℕ) → i < 64 * b .count → s .members i ≡ not (b .members i)
   pub past : (i : ℕ) → 64 * b .count ≤ i → s .members i ≡ false
 
+abbrev pub Inverts : Type 0
+Inverts = Meets inverting (λ c. Inverted) Never
+
 -- `toggle`: done below the length, 5 exactly from there on
 abbrev pub Toggles : ℕ → Type 0
 Toggles i = Meets (toggling i) (λ c b s. (i < 64 * b .count) × Toggled i b s) (λ c b k. (k ≡ 5) × (64 * b .count ≤ i))
 
--- the mirror of each number, over the whole length
+-- `reverse`: the mirror of each number, over the whole length
 pub record Reversed (b s : Bits) : Type 0 where
   pub count : s .count ≡ b .count
   pub mirror : (i j : ℕ) → i + j + 1 ≡ 64 * b .count → s .members i ≡ b .members j
   pub past : (i : ℕ) → 64 * b .count ≤ i → s .members i ≡ false
 
--- the counts count: a region's members one number after the other, the members below a number, the clear ones with the members make the length
-pub record Counted (b : Bits) : Type 0 where
-  pub region : (i : ℕ) → Counts (λ j. b .members (i + j)) (λ k. countRegion i k b)
-  pub rank : Counts (b .members) (λ i. rankOf i b)
-  pub whole : size b ≡ rankOf (64 * b .count) b
-  pub clear : clearSize b + size b ≡ 64 * b .count
+abbrev pub Reverses : Type 0
+Reverses = Meets reversing (λ c. Reversed) Never
+
+-- `count_clear_bits`: the numbers below the length that are no members
+abbrev pub CountClearBitsMeans : Type 0
+CountClearBitsMeans = NumberCall (λ s. Number.Is (clearSize s)) (λ b. Hands (Counted (λ i. not (b .members i)) (64 * b .count)))
+
+-- `count_region`: the members among the k numbers from i on
+abbrev pub CountRegionMeans : ℕ → ℕ → Type 0
+CountRegionMeans i k = NumberCall (λ s. Number.Is (countRegion i k s)) (λ b. Hands (Counted (λ j. b .members (i + j)) k))
+
+-- `rank`: the members below i
+abbrev pub RankMeans : ℕ → Type 0
+RankMeans i = NumberCall (λ s. Number.Is (rankOf i s)) (λ b. Hands (Counted (b .members) i))
 
 -- a member with exactly r members below it; none only where there are at most r members
-abbrev pub Selected : ℕ → Bits → Found → Type 0
-Selected r b (At p) = (b .members p ≡ true) × (rankOf p b ≡ r) × (p < 64 * b .count)
-Selected r b Nothing = size b ≤ r
-Selected r b (Found.Refused e) = ⊥
+abbrev pub Selected : ℕ → Bits → ℕ → ℕ → ℕ → Type 0
+Selected r b =
+    Finds (λ p. (b .members p ≡ true) × Counted (b .members) p r)
+    ((e : ℕ) → (v : ℕ) × Counted (b .members) e v × (v ≤ r))
+
+-- `select`
+abbrev pub SelectMeans : ℕ → Type 0
+SelectMeans r = FoundCall (selected r) (Selected r)

@@ -7,14 +7,13 @@ use native.Mathlib.Omega.{arith}
 use Rattle.word.proofs.Cases.{by-lt, by-test}
 use Rattle.storage.specs.Refusals.{numberOf}
 use Rattle.storage.specs.Stores.{Bits, Bounded, refused, done, within, wordsFor, trimmed}
-use Rattle.storage.specs.Promises.{Meets}
 use Rattle.storage.specs.declared.Refusal.{Refusal}
 use Rattle.storage.proofs.Checks.{within-done}
 use Rattle.storage.proofs.Outcomes.{never, which, lacks}
 use Rattle.shape.specs.Shapes.{topOf}
 use Rattle.gap.specs.Gaps.{opening, closing}
 use Rattle.gap.specs.Kernels.{opened}
-use Rattle.gap.specs.Promises.{Trimmed, Opens, NotOpened, Closes, NotClosed}
+use Rattle.gap.specs.Promises.{Trimmed, Opens, NotOpened, OpenMeans, Closes, CloseMeans}
 use Rattle.gap.proofs.Tops.{Ends, ends-of, top-le, ends-count}
 use Rattle.gap.proofs.Tails.{opened-below, opened-gap, opened-from, closed-below, closed-from}
 use Rattle.gap.proofs.Opens.{open-none, open-over, open-put, opened-ends}
@@ -87,7 +86,7 @@ module _ (p k c : ℕ) (b : Bits) (h : Bounded b) where
       let n = ends-count (b .members) (topOf b) (ends-of b h) (b .count) (top-le b) in
       inr (x .0, (λ i m y. absurd (omega (arith, ends-under (ends-of b h) i y))), topOf b - 1, ends-of b h .last (topOf b - 1) (omega (arith, x .1, n)), inl (omega (arith, x .1, n), omega (arith, x .1, n))))
 
-pub opens : (p k : ℕ) → Meets (opening p k) (λ c b s. (Bounded b → Opens p k b s)) (λ c b m. (Bounded b → NotOpened p k c b m))
+pub opens : OpenMeans
 opens p k = record {
   made = λ c b s q h. open-made p k c b h s q .0;
   sound = record { space = λ c b s h l q. open-made p k c b h s q .1; bound = λ c b s h l q. trimmed-bounded (open-made p k c b h s q .0 .count) };
@@ -123,7 +122,7 @@ module _ (p k : ℕ) (b : Bits) (h : Bounded b) where
       put : within c (trimmed (shut p k b)) ≡ done s → Closes p k b s × (s .count ≤ c)
       put e = let w = within-done c (trimmed (shut p k b)) s e in (subst (Closes p k b) (w .0) shut-closes, subst (λ (x : Bits). x .count ≤ c) (w .0) (w .1))
 
-pub closes : (p k : ℕ) → Meets (closing p k) (λ c b s. (Bounded b → Closes p k b s)) (λ c b m. (Bounded b → NotClosed c b m))
+pub closes : CloseMeans
 closes p k = record {
   made = λ c b s q h. close-made p k b h c s q .0;
   sound = record { space = λ c b s h l q. close-made p k b h c s q .1; bound = λ c b s h l q. trimmed-bounded (close-made p k b h c s q .0 .count) };

@@ -3,14 +3,16 @@ use Prim.Native.Nat.{ℕ, _+_, _*_, _^_, _≤_, _<_}
 use mathlib.Core.Path.{_≡_}
 use mathlib.Core.Bool.{true, false}
 use mathlib.Core.Logic.{_⊎_}
-use Rattle.storage.specs.Stores.{Bits, limit}
+use Rattle.storage.specs.Stores.{Bits, Bounded}
+use Rattle.storage.specs.Promises.{mostWords, Meets}
+use Rattle.gap.specs.Gaps.{opening, closing}
 
 -- the words in use hold every member, and no fewer words do
 pub record Trimmed (s : Bits) : Type 0 where
   pub holds : (i : ℕ) → s .members i ≡ true → i < 64 * s .count
   pub least : (n : ℕ) → ((i : ℕ) → s .members i ≡ true → i < 64 * n) → s .count ≤ n
 
--- `open`: numbers below p stay, those from p on go k up, and the k places at p are empty; no member passes 2 ^ 64 - 1
+-- numbers below p stay, those from p on go k up, and the k places at p are empty; no member passes 2 ^ 64 - 1
 pub record Opens (p k : ℕ) (b s : Bits) : Type 0 where
   pub below : (i : ℕ) → i < p → s .members i ≡ b .members i
   pub empty : (i : ℕ) → p ≤ i → i < p + k → s .members i ≡ false
@@ -25,7 +27,11 @@ NotOpened p k c b m =
     ⊎ ((m ≡ 6) × ((i : ℕ) → p ≤ i → b .members i ≡ true → i + k < 2 ^ 64)
     × (i : ℕ) × (b .members i ≡ true) × (((i < p) × (64 * c ≤ i)) ⊎ ((p ≤ i) × (64 * c ≤ i + k))))
 
--- `close`: numbers below p stay, those from p on, below p + k, go, and those behind them go k down
+-- `open_gap`
+abbrev pub OpenMeans : Type 0
+OpenMeans = (p k : ℕ) → Meets (opening p k) (λ c b s. Bounded b → Opens p k b s) (λ c b m. Bounded b → NotOpened p k c b m)
+
+-- numbers below p stay, those from p on, below p + k, go, and those behind them go k down
 pub record Closes (p k : ℕ) (b s : Bits) : Type 0 where
   pub below : (i : ℕ) → i < p → s .members i ≡ b .members i
   pub moved : (i : ℕ) → p ≤ i → s .members i ≡ b .members (i + k)
@@ -33,4 +39,8 @@ pub record Closes (p k : ℕ) (b s : Bits) : Type 0 where
 
 -- only a bitmap that no store has is refused
 abbrev pub NotClosed : ℕ → Bits → ℕ → Type 0
-NotClosed c b m = b .count ≤ c → b .count ≤ limit → ⊥
+NotClosed c b m = b .count ≤ c → b .count ≤ mostWords → ⊥
+
+-- `close_gap`
+abbrev pub CloseMeans : Type 0
+CloseMeans = (p k : ℕ) → Meets (closing p k) (λ c b s. Bounded b → Closes p k b s) (λ c b m. Bounded b → NotClosed c b m)

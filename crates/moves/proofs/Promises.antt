@@ -8,7 +8,7 @@ use lib.Seq.{getD-take, getD-drop, ext-getD}
 use Rattle.word.proofs.Cases.{by-lt}
 use Rattle.word.proofs.Lists.{past}
 use Rattle.moves.specs.Moves.{upWords, downWords, turnedWords}
-use Rattle.moves.specs.Promises.{GoesUp, GoesDown, Turned}
+use Rattle.moves.specs.Promises.{GoesUp, MoveUpMeans, GoesDown, MoveDownMeans, TurnWordsMeans}
 use Rattle.moves.proofs.Pieces.{getD-after}
 
 -- ---- up
@@ -32,8 +32,8 @@ module _ (whole : ℕ) (ws : List ℕ) where
       (λ p. List·getD-append (take whole ws) (take (length ws - whole) ws) 0 i (omega (arith, length-take whole ws)) ∙ getD-take whole ws i 0 l)
       (λ p. past (upWords whole ws) i (omega (arith, up-long)) ∙ sym (past ws i p))
 
-  pub goes-up : GoesUp whole ws (upWords whole ws)
-  goes-up = record { long = up-long; goes = up-goes; stays = up-stays }
+pub goes-up : MoveUpMeans
+goes-up whole ws = record { long = up-long whole ws; goes = up-goes whole ws; stays = up-stays whole ws }
 
 -- ---- down
 
@@ -55,8 +55,8 @@ module _ (whole : ℕ) (ws : List ℕ) where
   unfolding downWords
   down-long = length-append (drop whole ws) (drop (length ws - whole) ws) ∙ omega (arith, length-drop whole ws, length-drop (length ws - whole) ws)
 
-  pub goes-down : GoesDown whole ws (downWords whole ws)
-  goes-down = record { long = down-long; goes = down-goes; stays = down-stays }
+pub goes-down : MoveDownMeans
+goes-down whole ws = record { long = down-long whole ws; goes = down-goes whole ws; stays = down-stays whole ws }
 
 -- ---- turned
 
@@ -83,8 +83,8 @@ module _ (m : ℕ) (ws : List ℕ) where
   turned-long =
       length-append (drop (length ws - m) ws) (take (length ws - m) ws) ∙ omega (arith, length-drop (length ws - m) ws, length-take (length ws - m) ws)
 
-  pub turned : Turned m ws (turnedWords m ws)
-  turned = record { long = turned-long; goes = turned-goes; wraps = turned-wraps; stays = turned-stays }
+pub turned : TurnWordsMeans
+turned m ws = record { long = turned-long m ws; goes = turned-goes m ws; wraps = turned-wraps m ws; stays = turned-stays m ws }
 
 -- ---- up and down, of the list that a call leaves
 

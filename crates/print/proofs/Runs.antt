@@ -17,6 +17,7 @@ use Rattle.print.specs.declared.Run.{Run}
 use Rattle.text.proofs.Marks.{between, between-in}
 use lib.Bits.{bitAnd}
 use lib.ListN.{length, getD}
+use Rattle.storage.specs.Refusals.{foundNumber, foundFlag, foundValue}
 use Rattle.storage.specs.Promises.{NextMember}
 use Rattle.storage.specs.declared.Refusal.{Refusal}
 use Rattle.storage.specs.declared.Found.{Found}
@@ -25,7 +26,7 @@ use Rattle.storage.specs.declared.Number.{Number}
 use Rattle.storage.specs.declared.Number.the-variants.{Is}
 use Rattle.storage.proofs.Checks.{Passed, reading-ok}
 use Rattle.storage.proofs.Views.{view-count, bounded-view}
-use Rattle.storage.proofs.Promises.{next-member}
+use Rattle.storage.proofs.Promises.{each-number-once, next-member, finds-at, finds-nothing}
 use Rattle.slice.specs.Slices.{nextClear}
 use Rattle.slice.specs.Promises.{NextOther}
 use Rattle.slice.proofs.Promises.{next-other}
@@ -145,18 +146,27 @@ module _ (ws : List ℕ) (n i : ℕ) (p : Passed (length ws) n) where
   below j e = by-lt j (64 * n) (λ h. h) (λ h. absurd (false≢true (sym (bound .past j (omega (arith, view-count ws n))) ∙ e)))
 
   module _ (f : Found) (ef : f ≡ reading ws n Found.Refused (λ s. nextFrom s i)) where
-    member : NextMember (b .members) i f
-    member = subst (NextMember (b .members) i) (sym (ef ∙ reading-ok ws n Found.Refused (λ s. nextFrom s i) p)) (next-member b bound i)
+    abbrev is : Found → Type 0
+    is a = NextMember (b .members) i (foundNumber a) (foundFlag a) (foundValue a)
 
-    at : (x : ℕ) → f ≡ At x → NextMember (b .members) i (At x)
-    at x e = subst (NextMember (b .members) i) e member
+    member : is f
+    member = subst is (sym (ef ∙ reading-ok ws n Found.Refused (λ s. nextFrom s i) p)) (next-member b bound i)
+
+    abbrev first : ℕ → Type 0
+    first x = (i ≤ x) × (b .members x ≡ true) × ((q : ℕ) → i ≤ q → q < x → b .members q ≡ false)
+
+    abbrev nowhere : Type 0
+    nowhere = (q : ℕ) → i ≤ q → b .members q ≡ false
+
+    at : (x : ℕ) → f ≡ At x → first x
+    at x e = finds-at first nowhere x (subst is e member)
 
     pub start-below : (x : ℕ) → f ≡ At x → x < 64 * n
     start-below x e = below x (at x e .1)
 
     pub run-none : i ≤ 64 * n → f ≡ Nothing → NextRun (b .members) (64 * n) i (record { low = 64 * n; end = 64 * n })
     run-none h e =
-        let q : NextMember (b .members) i Nothing = subst (NextMember (b .members) i) e member in
+        let q : nowhere = finds-nothing first nowhere (subst is e member) in
         record {
           from = h;
           order = omega arith;
@@ -168,7 +178,7 @@ module _ (ws : List ℕ) (n i : ℕ) (p : Passed (length ws) n) where
         }
 
     pub found-never : (e : Refusal) → f ≡ Found.Refused e → ⊥
-    found-never e q = subst (NextMember (b .members) i) q member
+    found-never e q = omega (arith, each-number-once .range e .0, subst is q member .0)
 
     -- a run of one number
     pub run-single : (x : ℕ) → f ≡ At x → b .members (x + 1) ≡ false → NextRun (b .members) (64 * n) i (record { low = x; end = x + 1 })

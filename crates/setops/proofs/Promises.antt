@@ -1,15 +1,14 @@
--- What the set operations promise: the combined set in the fewest words, or for `or` in as many as the longer, and 6 where those have no space.
--- Assumes nothing.
+-- The promises of specs/Promises. Assumes nothing.
 use mathlib.Core.Path.{_≡_, refl, subst}
 use mathlib.Core.Bool.{Bool, false, _||_}
-use Prim.Native.Nat.{max}
-use Rattle.storage.specs.Stores.{Bits, Bounded, trimmedCount, trimmed, combined}
-use Rattle.storage.specs.Promises.{Combines, Unites, Sound, Meets, Lacks}
+use Rattle.storage.specs.Stores.{Bits, Bounded, trimmed, combined}
+use Rattle.storage.specs.Promises.{Combines, Unites, Sound}
 use Rattle.storage.proofs.Checks.{within-done}
 use Rattle.storage.proofs.Outcomes.{lacks, bounded-combined, sound-within}
 use Rattle.storage.proofs.Trims.{bounded-trimmed}
 use Rattle.storage.proofs.Promises.{combined-fewest, combined-either}
 use Rattle.setops.specs.Setops.{combining, uniting}
+use Rattle.setops.specs.Promises.{CombineMeans, UniteMeans}
 
 pub combining-sound : (f : Bool → Bool → Bool) → f false false ≡ false → (o : Bits) → Bounded o → Sound (combining f o)
 unfolding combining
@@ -20,16 +19,15 @@ pub uniting-sound : (o : Bits) → Bounded o → Sound (uniting o)
 unfolding uniting
 uniting-sound o k = sound-within (uniting o) (λ b. combined _||_ b o) (λ c b. refl) (λ b h. bounded-combined _||_ refl b o h k)
 
-pub combines : (f : Bool → Bool → Bool) → f false false ≡ false → (o : Bits) → Bounded o
-    → Meets (combining f o) (λ c b s. Combines f o b s) (Lacks (λ b. trimmedCount (combined f b o .members) (combined f b o .count)))
+pub combines : CombineMeans
 unfolding combining
 combines f e o k = record {
   made = λ c b s q. subst (Combines f o b) (within-done c _ s q .0) (combined-fewest f b o);
   sound = combining-sound f e o k;
-  why = λ c b e q. lacks c _ e q;
+  why = λ c b e q. let l = lacks c _ e q in (l .0, (trimmed (combined f b o), combined-fewest f b o, l .1));
 }
 
-pub unites : (o : Bits) → Bounded o → Meets (uniting o) (λ c b s. Unites o b s) (Lacks (λ b. max (b .count) (o .count)))
+pub unites : UniteMeans
 unfolding uniting combined
 unites o k = record {
   made = λ c b s q. subst (Unites o b) (within-done c _ s q .0) (combined-either b o);

@@ -1,2 +1,3 @@
 pub mod Setops
 pub mod Kernels
+pub mod Promises

@@ -12,10 +12,6 @@ use Rattle.sheet.specs.declared.Fields.{Fields}
 use Rattle.sheet.specs.declared.Edit.{Edit}
 use Rattle.sheet.specs.declared.Edit.the-variants.{Set, Unset, SetRegion, SetField, Shift, Rotate, Resize, Reverse, ToggleRegion, Open, Close}
 
--- the most words of a store
-abbrev pub mostWords : ℕ
-mostWords = 67_108_864
-
 -- the editions: 14 is any other
 abbrev pub IsEdition : ℕ → Type 0
 IsEdition n = (n ≡ 1) ⊎ (n ≡ 2)

@@ -12,6 +12,7 @@ use Rattle.word.specs.Sets.{choose}
 use Rattle.word.specs.Bits.{member}
 use Rattle.storage.specs.Refusals.{numberOf}
 use Rattle.storage.specs.Stores.{Bits, Bounded, view, written}
+use Rattle.storage.specs.Promises.{mostWords}
 use Rattle.storage.specs.declared.Refusal.{Refusal}
 use Rattle.bits.specs.Promises.{Reversed}
 use Rattle.shift.specs.Promises.{RotatedLeft, RotatedRight}
@@ -19,7 +20,7 @@ use Rattle.bitmap.specs.Promises.{WithBit, WithoutBit, WithRegion, WithField}
 use Rattle.shape.specs.Promises.{FlippedFrom, RaisedBy, LoweredBy, ResizedTo}
 use Rattle.gap.specs.Promises.{Opens, Closes}
 use Rattle.sheet.specs.Kinds.{kindOf, payloadOf, Ranged}
-use Rattle.sheet.specs.Paper.{mostWords, IsEdition, printed, values, given, Allowed, digits, cellDigits, byteDigits}
+use Rattle.sheet.specs.Paper.{IsEdition, printed, values, given, Allowed, digits, cellDigits, byteDigits}
 use Rattle.sheet.specs.Reader.{Edition, Turn, stop, next, Item, Answer, done, answerNumber, answerRecord, read}
 use Rattle.sheet.specs.Meaning.{Header, total, start, Whole, Is, Asks, effect, AtRecord, Newer, Applies, Accepted, Due}
 use Rattle.sheet.specs.Reads.{editionOf, latest, fitting, Reads, readingNumber, readingRecord, readingCount}

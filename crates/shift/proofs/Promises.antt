@@ -1,16 +1,20 @@
 -- The promises of specs/Promises. Assumes nothing.
 use mathlib.Core.Path.{_≡_, refl, sym, ap, ap₂, _∙_, fun-ext, subst}
 use mathlib.Core.Bool.{Bool, true, false, _&&_, false≢true}
+use mathlib.Core.List.{List}
 use Prim.Native.Nat.{ℕ, _+_, _-_, _*_, _%_, _≤_, _<_}
 use native.Mathlib.Nat.{mod-lt, mod-eq-of-lt, add-mod-right}
 use native.Mathlib.Omega.{arith}
 use borrow.Author.Tests.{lt-ltb, le-ltb, ltb-true}
 use lib.Dec.{ltb}
+use lib.ListN.{length}
+use Rattle.word.specs.Bits.{member, wordsOf}
 use Rattle.word.proofs.Cases.{by-lt, and-true}
+use Rattle.word.proofs.Lists.{member-past, member-words, length-words}
 use Rattle.storage.specs.Stores.{Bits, Bounded, done, Op}
 use Rattle.storage.proofs.Outcomes.{same, never, sound-done}
 use Rattle.shift.specs.Shifts.{movedUp, movedDown, turnedUp, turnedDown, kept, shiftingLeft, shiftingRight, rotatingLeft, rotatingRight}
-use Rattle.shift.specs.Promises.{Moves, ShiftedLeft, ShiftedRight, RotatedLeft, RotatedRight, Rotations}
+use Rattle.shift.specs.Promises.{Moves, MovesWords, ShiftedLeft, ShiftsLeft, LeftWordsMeans, ShiftedRight, ShiftsRight, RightWordsMeans, RotatedLeft, RotatesLeft, TurnLeftMeans, RotatedRight, RotatesRight, TurnRightMeans, Rotations}
 use Rattle.shift.proofs.Rings.{there, back, turned-from}
 use Rattle.shift.proofs.Moves.{moved-up, moved-in}
 
@@ -50,7 +54,7 @@ kept-moves op f rule e r = record {
 
 -- ---- the shifts
 
-pub shifts-left : (k : ℕ) → Moves (shiftingLeft k) (ShiftedLeft k)
+pub shifts-left : ShiftsLeft
 unfolding shiftingLeft
 shifts-left k =
     kept-moves (shiftingLeft k) (λ b. movedUp k (b .members)) (ShiftedLeft k) (λ c b. refl)
@@ -65,7 +69,7 @@ shifts-left k =
         (λ l. absurd (false≢true (sym (moved-in k (b .members) m l) ∙ p .1)))
         (λ l. (m - k, sym (moved-up k (b .members) m l) ∙ p .1, omega arith, p .0))
 
-pub shifts-right : (k : ℕ) → Moves (shiftingRight k) (ShiftedRight k)
+pub shifts-right : ShiftsRight
 unfolding shiftingRight
 shifts-right k =
     kept-moves (shiftingRight k) (λ b. movedDown k (b .members)) (ShiftedRight k) (λ c b. refl)
@@ -76,7 +80,7 @@ shifts-right k =
 
 -- ---- the rotations
 
-pub rotates-left : (k : ℕ) → Moves (rotatingLeft k) (RotatedLeft k)
+pub rotates-left : RotatesLeft
 unfolding rotatingLeft
 rotates-left k =
     kept-moves (rotatingLeft k) (λ b. turnedUp (64 * b .count) k (b .members)) (RotatedLeft k) (λ c b. refl)
@@ -89,7 +93,7 @@ rotates-left k =
       past = past-it (turnedUp len k (b .members)) b;
     })
 
-pub rotates-right : (k : ℕ) → Moves (rotatingRight k) (RotatedRight k)
+pub rotates-right : RotatesRight
 unfolding rotatingRight
 rotates-right k =
     kept-moves (rotatingRight k) (λ b. turnedDown (64 * b .count) k (b .members)) (RotatedRight k) (λ c b. refl)
@@ -97,6 +101,46 @@ rotates-right k =
       goes = within (turnedDown (64 * b .count) k (b .members)) b;
       past = past-it (turnedDown (64 * b .count) k (b .members)) b;
     })
+
+-- ---- of words as they are
+
+-- the set of all words
+abbrev whole : List ℕ → Bits
+whole ws = record { members = member ws; count = length ws }
+
+-- what a call that keeps below the length makes of the set is the set of the words made
+words-move : (op : Op) (f : ℕ → (ℕ → Bool) → ℕ → Bool) (rule : ℕ → (ℕ → Bool) → (ℕ → Bool) → Type 0)
+    → ((c : ℕ) (b : Bits) → op c b ≡ done (kept (f (64 * b .count) (b .members)) b)) → Moves op rule → MovesWords f rule
+words-move op f rule e m ws ws' q =
+    subst (λ (x : List ℕ). (length x ≡ length ws) × rule (64 * length ws) (member ws) (member x)) (sym q)
+    (length-words g (length ws), subst (rule (64 * length ws) (member ws)) (fun-ext made) (m .made 0 (whole ws) (kept g (whole ws)) (e 0 (whole ws)) (record { past = member-past ws }) .1))
+  where
+    g : ℕ → Bool
+    g = f (64 * length ws) (member ws)
+
+    made : (i : ℕ) → kept g (whole ws) .members i ≡ member (wordsOf g (length ws)) i
+    made i =
+        by-lt i (64 * length ws)
+        (λ l. within g (whole ws) i l ∙ sym (member-words g (length ws) i l))
+        (λ l. past-it g (whole ws) i l ∙ sym (member-past (wordsOf g (length ws)) i (omega (arith, length-words g (length ws)))))
+
+pub left-words-means : LeftWordsMeans
+unfolding shiftingLeft
+left-words-means k = words-move (shiftingLeft k) (λ len. movedUp k) (ShiftedLeft k) (λ c b. refl) (shifts-left k)
+
+pub right-words-means : RightWordsMeans
+unfolding shiftingRight
+right-words-means k = words-move (shiftingRight k) (λ len. movedDown k) (ShiftedRight k) (λ c b. refl) (shifts-right k)
+
+pub turn-left-means : TurnLeftMeans
+unfolding rotatingLeft
+turn-left-means k = words-move (rotatingLeft k) (λ len. turnedUp len k) (RotatedLeft k) (λ c b. refl) (rotates-left k)
+
+pub turn-right-means : TurnRightMeans
+unfolding rotatingRight
+turn-right-means k = words-move (rotatingRight k) (λ len. turnedDown len k) (RotatedRight k) (λ c b. refl) (rotates-right k)
+
+-- ---- rotations one after the other
 
 -- the result of an operation on sets that keeps below the length has no member where there are no words
 none : (f : ℕ → Bool) (b s : Bits) → b .count ≡ 0 → done (kept f b) ≡ done s → (i : ℕ) → s .members i ≡ false

@@ -2,23 +2,46 @@
 use Prim.Native.Nat.{ℕ, _+_, _-_, _*_, _%_, _≤_, _<_}
 use mathlib.Core.Path.{_≡_}
 use mathlib.Core.Bool.{Bool, true, false}
+use mathlib.Core.List.{List}
+use lib.ListN.{length}
+use Rattle.word.specs.Bits.{member, wordsOf}
 use Rattle.storage.specs.Stores.{Bits, Bounded, done, Op}
 use Rattle.storage.specs.Promises.{Meets, Never}
-use Rattle.shift.specs.Shifts.{rotatingLeft, rotatingRight}
+use Rattle.shift.specs.Shifts.{movedUp, movedDown, turnedUp, turnedDown, shiftingLeft, shiftingRight, rotatingLeft, rotatingRight}
 
 -- whatever the capacity, the call is done, the count stays, and the rule holds of the length, the old set and the new one
 abbrev pub Moves : Op → (ℕ → (ℕ → Bool) → (ℕ → Bool) → Type 0) → Type 0
 Moves op rule = Meets op (λ c b s. Bounded b → (s .count ≡ b .count) × rule (64 * b .count) (b .members) (s .members)) Never
+
+-- of words as they are: their number stays, and the rule holds of the length, the old set and the new one
+abbrev pub MovesWords : (ℕ → (ℕ → Bool) → ℕ → Bool) → (ℕ → (ℕ → Bool) → (ℕ → Bool) → Type 0) → Type 0
+MovesWords f rule =
+    (ws ws' : List ℕ) → ws' ≡ wordsOf (f (64 * length ws) (member ws)) (length ws)
+    → (length ws' ≡ length ws) × rule (64 * length ws) (member ws) (member ws')
 
 -- a member i goes to i + k where that is below the length, and nothing else is a member
 pub record ShiftedLeft (k len : ℕ) (old new : ℕ → Bool) : Type 0 where
   pub goes : (i : ℕ) → old i ≡ true → i + k < len → new (i + k) ≡ true
   pub comes : (m : ℕ) → new m ≡ true → (i : ℕ) × (old i ≡ true) × (i + k ≡ m) × (m < len)
 
+-- `shift_left`, `left_words`
+abbrev pub ShiftsLeft : Type 0
+ShiftsLeft = (k : ℕ) → Moves (shiftingLeft k) (ShiftedLeft k)
+
+abbrev pub LeftWordsMeans : Type 0
+LeftWordsMeans = (k : ℕ) → MovesWords (λ len. movedUp k) (ShiftedLeft k)
+
 -- a member i goes to i - k where i is at least k, and nothing else is a member
 pub record ShiftedRight (k len : ℕ) (old new : ℕ → Bool) : Type 0 where
   pub goes : (i : ℕ) → old i ≡ true → k ≤ i → new (i - k) ≡ true
   pub comes : (m : ℕ) → new m ≡ true → (i : ℕ) × (old i ≡ true) × (k ≤ i) × (i - k ≡ m) × (m < len)
+
+-- `shift_right`, `right_words`
+abbrev pub ShiftsRight : Type 0
+ShiftsRight = (k : ℕ) → Moves (shiftingRight k) (ShiftedRight k)
+
+abbrev pub RightWordsMeans : Type 0
+RightWordsMeans = (k : ℕ) → MovesWords (λ len. movedDown k) (ShiftedRight k)
 
 -- i is a member exactly where (i + k) mod len is one afterwards; every number below the length is one of those, and none past it is a member
 pub record RotatedLeft (k len : ℕ) (old new : ℕ → Bool) : Type 0 where
@@ -26,10 +49,24 @@ pub record RotatedLeft (k len : ℕ) (old new : ℕ → Bool) : Type 0 where
   pub comes : (m : ℕ) → m < len → (i : ℕ) × (i < len) × ((i + k) % len ≡ m)
   pub past : (m : ℕ) → len ≤ m → new m ≡ false
 
+-- `rotate_left`, `turn_left`
+abbrev pub RotatesLeft : Type 0
+RotatesLeft = (k : ℕ) → Moves (rotatingLeft k) (RotatedLeft k)
+
+abbrev pub TurnLeftMeans : Type 0
+TurnLeftMeans = (k : ℕ) → MovesWords (λ len. turnedUp len k) (RotatedLeft k)
+
 -- (i + k) mod len is a member exactly where i is one afterwards; none past the length is
 pub record RotatedRight (k len : ℕ) (old new : ℕ → Bool) : Type 0 where
   pub goes : (i : ℕ) → i < len → new i ≡ old ((i + k) % len)
   pub past : (m : ℕ) → len ≤ m → new m ≡ false
+
+-- `rotate_right`, `turn_right`
+abbrev pub RotatesRight : Type 0
+RotatesRight = (k : ℕ) → Moves (rotatingRight k) (RotatedRight k)
+
+abbrev pub TurnRightMeans : Type 0
+TurnRightMeans = (k : ℕ) → MovesWords (λ len. turnedDown len k) (RotatedRight k)
 
 -- one way and then the other gives the bitmap back
 abbrev pub Undoes : Op → Op → Type 0

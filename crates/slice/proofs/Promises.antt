@@ -1,7 +1,6 @@
 -- The promises of specs/Promises. Assumes nothing.
 use mathlib.Core.Path.{_≡_, refl, sym, ap, ap₂, _∙_, subst}
 use mathlib.Core.Bool.{Bool, true, false, not, _&&_}
-use mathlib.Core.List.{List}
 use mathlib.Core.Logic.{_⊎_, inl, inr}
 use Prim.Native.Nat.{ℕ, zero, suc, _+_, _-_, _*_, _≤_, _<_}
 use native.Mathlib.Nat.{not-suc-le-zero}
@@ -13,32 +12,58 @@ use Rattle.word.specs.Sets.{choose, val, countBelow, leastFrom, topBelow, Least
 use Rattle.word.specs.Bits.{bit, pack}
 use Rattle.word.proofs.Cases.{by-lt, by-eq, and-false}
 use Rattle.word.proofs.Bits.{bit-past, bit-pack, pack-lt}
-use Rattle.word.proofs.Sets.{count-ext, least, top}
+use Rattle.word.proofs.Sets.{count-ext, count-flat, counted, least, top}
 use Rattle.arch.specs.Scans.{nonzeroLen}
-use Rattle.storage.specs.Stores.{Bits, Bounded, Outcome, refused, done, size}
-use Rattle.storage.specs.Promises.{Sound}
+use Rattle.storage.specs.Refusals.{numberOf, foundNumber, foundFlag, foundValue, fieldNumber, fieldValue}
+use Rattle.storage.specs.Stores.{Bits, Bounded, Outcome, refused, done, view, reading, size, nextFrom}
+use Rattle.storage.specs.Promises.{Guarded, HandsNone, Hands, Tests, NextMember}
+use Rattle.storage.specs.declared.Refusal.{Refusal}
 use Rattle.storage.specs.declared.Refusal.the-variants.{WidthOver, PastLength}
+use Rattle.storage.specs.declared.Found.{Found}
 use Rattle.storage.specs.declared.Found.the-variants.{At, Nothing}
+use Rattle.storage.specs.declared.Number.{Number}
+use Rattle.storage.specs.declared.Number.the-variants.{Is}
 use Rattle.storage.specs.declared.Field.{Field}
+use Rattle.storage.specs.declared.Field.the-variants.{Is, Refused}
+use Rattle.storage.specs.declared.Truth.{Truth}
+use Rattle.storage.specs.declared.Truth.the-variants.{Is, Refused}
+use Rattle.storage.proofs.Outcomes.{same, never, which}
+use Rattle.storage.proofs.Promises.{number-call, field-call, truth-call, found-call, tests, next-member}
 use Rattle.slice.specs.Slices.{frontPart, equal, fieldAt, withField, fieldSetting, lastSet, nextClear}
-use Rattle.slice.specs.Promises.{LastMember, NextOther, EqualIsSame, FieldDigits, FieldWritten, StrictField, CountsMembers, FrontOf}
+use Rattle.slice.specs.Promises.{GetMeans, FieldDigits, GetFieldMeans, NextSetMeans, FirstSetMeans, LastMember, LastSetMeans, NextOther, NextClearMeans, FirstClearMeans, EqMeans, FieldWritten, FieldRefused, SetFieldStrict, AllCounted, CountSetBitsMeans, CountsMembers, TrimmedMeans}
 use Rattle.slice.proofs.Equals.{size-none, none-of-size, equal-of-same, same-of-equal, length-front, zero-past}
+
+-- ---- what a call answers, from what it makes of a bitmap
+
+pub get-means : (i : ℕ) → GetMeans i
+get-means i =
+    truth-call (λ s. Truth.Is (s .members i)) (λ b. Tests (b .members i ≡ true))
+    (λ b bounded. tests (b .members i ≡ true) (b .members i) (λ e. e) (λ e. e))
 
 -- ---- scans
 
+pub next-set-means : (i : ℕ) → NextSetMeans i
+next-set-means i = found-call (λ s. nextFrom s i) (λ b. NextMember (b .members) i) (λ b bounded. next-member b bounded i)
+
+pub first-set-means : FirstSetMeans
+first-set-means = next-set-means 0
+
 module _ (b : Bits) (bounded : Bounded b) where
-  pub last-member : LastMember b (lastSet b)
+  last-member : LastMember b (foundNumber (lastSet b)) (foundFlag (lastSet b)) (foundValue (lastSet b))
   unfolding lastSet
   last-member = go (topBelow (b .members) (64 * b .count)) (top (b .members) (64 * b .count))
     where
+      is : Found → Type 0
+      is a = LastMember b (foundNumber a) (foundFlag a) (foundValue a)
+
       over : (t : ℕ) → Top (b .members) (64 * b .count) t → (q : ℕ) → t ≤ q → b .members q ≡ false
       over t r q l = by-lt q (64 * b .count) (λ m. r .over q l m) (λ m. bounded .past q m)
 
-      go : (t : ℕ) → Top (b .members) (64 * b .count) t → LastMember b (choose (eqb t 0) Nothing (At (t - 1)))
-      go zero r = λ q. over 0 r q (omega arith)
+      go : (t : ℕ) → Top (b .members) (64 * b .count) t → is (choose (eqb t 0) Nothing (At (t - 1)))
+      go zero r = (refl, inr (refl, refl, λ q. over 0 r q (omega arith)))
       go (suc k) r =
-          subst (LastMember b) (sym (ap (λ (t : Bool). choose t Nothing (At (suc k - 1))) (ne-eqb (suc k) 0 (omega arith))))
-          (r .last (suc k - 1) (omega arith), λ q l. over (suc k) r q (omega arith))
+          subst is (sym (ap (λ (t : Bool). choose t Nothing (At (suc k - 1))) (ne-eqb (suc k) 0 (omega arith))))
+          (refl, inl (refl, (r .last (suc k - 1) (omega arith), λ q l. over (suc k) r q (omega arith))))
 
   pub next-other : (i : ℕ) → NextOther b i (nextClear b i)
   unfolding nextClear
@@ -58,31 +83,55 @@ module _ (b : Bits) (bounded : Bounded b) where
       r : Least (λ q. not (b .members q)) i (i + (e - i)) p
       r = least (λ q. not (b .members q)) i (e - i)
 
+pub last-set-means : LastSetMeans
+last-set-means = found-call lastSet LastMember last-member
+
+pub next-clear-means : (i : ℕ) → NextClearMeans i
+next-clear-means i = number-call (λ s. Number.Is (nextClear s i)) (λ b. Hands (NextOther b i)) (λ b bounded. (refl, next-other b bounded i))
+
+pub first-clear-means : FirstClearMeans
+first-clear-means = next-clear-means 0
+
 -- ---- equality
 
-pub equal-is-same : (b o : Bits) → Bounded b → Bounded o → EqualIsSame b o
-equal-is-same b o bb bo = record { same = same-of-equal b o bb bo; equal = equal-of-same b o }
+pub eq-means : EqMeans
+eq-means ws os n m =
+    truth-call (λ s. reading os m Truth.Refused (λ t. Truth.Is (equal s t)))
+    (λ b x v. Guarded (length os) m (HandsNone x v) (Tests ((i : ℕ) → b .members i ≡ view os m .members i) x v))
+    (λ b bb.
+    truth-call (λ t. Truth.Is (equal b t)) (λ o. Tests ((i : ℕ) → b .members i ≡ o .members i))
+    (λ o bo. tests ((i : ℕ) → b .members i ≡ o .members i) (equal b o) (same-of-equal b o bb bo) (equal-of-same b o))
+    os m (reading os m Truth.Refused (λ t. Truth.Is (equal b t))) refl)
+    ws n
 
 -- ---- fields
 
-pub field-digits : (i width : ℕ) (b : Bits) → FieldDigits i width b (fieldAt i width b)
+field-digits : (i width : ℕ) (b : Bits) → FieldDigits i width b (fieldNumber (fieldAt i width b)) (fieldValue (fieldAt i width b))
 unfolding fieldAt
 field-digits i width b =
     by-lt 64 width
-    (λ h. subst (FieldDigits i width b) (sym (ap (λ (t : Bool). choose t (Field.Refused WidthOver) (Field.Is (pack width s))) (lt-ltb 64 width h))) (h, refl))
+    (λ h. subst is (sym (ap (λ (t : Bool). choose t (Field.Refused WidthOver) (Field.Is (pack width s))) (lt-ltb 64 width h))) (inr (refl, refl, h)))
     (λ h.
-    subst (FieldDigits i width b) (sym (ap (λ (t : Bool). choose t (Field.Refused WidthOver) (Field.Is (pack width s))) (le-ltb 64 width h)))
-    (h, bit-pack width s, λ j l. bit-past (pack width s) width j (pack-lt width s) l))
+    subst is (sym (ap (λ (t : Bool). choose t (Field.Refused WidthOver) (Field.Is (pack width s))) (le-ltb 64 width h)))
+    (inl (refl, h, bit-pack width s, λ j l. bit-past (pack width s) width j (pack-lt width s) l)))
   where
+    is : Field → Type 0
+    is a = FieldDigits i width b (fieldNumber a) (fieldValue a)
+
     s : ℕ → Bool
     s j = b .members (i + j)
 
+pub get-field-means : (i width : ℕ) → GetFieldMeans i width
+get-field-means i width =
+    field-call (fieldAt i width) (FieldDigits i width) (λ b bounded. field-digits i width b)
+
 module _ (i value width : ℕ) (b : Bits) where
-  written-inside : width ≤ 64 → (width ≡ 0) ⊎ (i + width ≤ 64 * b .count) → FieldWritten i value width b (withField i value width b)
+  written-inside : 0 < width → width ≤ 64 → i + width ≤ 64 * b .count → FieldWritten i value width b (withField i value width b)
   unfolding withField
-  written-inside h inside = record {
+  written-inside p h inside = record {
     wide = h;
-    inside = inside;
+    inside = inr inside;
+    none = λ e. absurd (omega arith);
     count = refl;
     field = λ j l.
         ap₂ (λ (s t : Bool). choose (s && t) (bit value (i + j - i)) (b .members (i + j))) (le-leb i (i + j) (omega arith)) (lt-ltb (i + j) (i + width) (omega arith))
@@ -93,10 +142,21 @@ module _ (i value width : ℕ) (b : Bits) where
         ∙ ap (λ (t : Bool). choose t (bit value (p - i)) (b .members p)) (and-false (leb i p));
   }
 
+  written-none : width ≡ 0 → FieldWritten i value width b b
+  written-none e = record {
+    wide = omega arith;
+    inside = inl e;
+    none = λ e. refl;
+    count = refl;
+    field = λ j l. absurd (omega arith);
+    below = λ p l. refl;
+    above = λ p l. refl;
+  }
+
   -- the outcome by its two tests and the end of the field
   by-field : (c : ℕ) (P : Outcome → Type 0) → (64 < width → P (refused WidthOver)) → (width ≡ 0 → P (done b))
       → (0 < width → width ≤ 64 → 64 * b .count < i + width → P (refused PastLength))
-      → (width ≤ 64 → i + width ≤ 64 * b .count → P (done (withField i value width b))) → P (fieldSetting i value width c b)
+      → (0 < width → width ≤ 64 → i + width ≤ 64 * b .count → P (done (withField i value width b))) → P (fieldSetting i value width c b)
   unfolding fieldSetting
   by-field c P wide none past inside =
       by-lt 64 width
@@ -105,47 +165,43 @@ module _ (i value width : ℕ) (b : Bits) where
       (λ e. rw (le-ltb 64 width h, eq-eqb width 0 e) (none e))
       (λ e. by-lt (64 * b .count) (i + width)
       (λ l. rw (le-ltb 64 width h, ne-eqb width 0 e, lt-ltb (64 * b .count) (i + width) l) (past (omega arith) h l))
-      (λ l. rw (le-ltb 64 width h, ne-eqb width 0 e, le-ltb (64 * b .count) (i + width) l) (inside h l))))
+      (λ l. rw (le-ltb 64 width h, ne-eqb width 0 e, le-ltb (64 * b .count) (i + width) l) (inside (omega arith) h l))))
 
-  pub strict-field : (c : ℕ) → StrictField i value width b (fieldSetting i value width c b)
-  strict-field c =
-      by-field c (StrictField i value width b)
-      (λ h. inl (h, refl))
-      (λ e.
-      record {
-        wide = omega arith;
-        inside = inl e;
-        count = refl;
-        field = λ j l. absurd (omega arith);
-        below = λ p l. refl;
-        above = λ p l. refl;
-      })
-      (λ p h l. inr (p, h, l, refl))
-      (λ h l. written-inside h (inr l))
+  field-made : (c : ℕ) (s : Bits) → fieldSetting i value width c b ≡ done s → FieldWritten i value width b s
+  field-made c s =
+      by-field c (λ o. o ≡ done s → FieldWritten i value width b s)
+      (λ h q. absurd (never (sym q)))
+      (λ e q. subst (FieldWritten i value width b) (same q) (written-none e))
+      (λ p h l q. absurd (never (sym q)))
+      (λ p h l q. subst (FieldWritten i value width b) (same q) (written-inside p h l))
 
--- calls in a row see what a strict field left
-pub sound-field : (i value width : ℕ) → Sound (fieldSetting i value width)
-sound-field i value width = record {
-  space = λ c b s bb h e. at c b bb h s e .0;
-  bound = λ c b s bb h e. at c b bb h s e .1;
+  field-why : (c : ℕ) (e : Refusal) → fieldSetting i value width c b ≡ refused e → FieldRefused i width b (numberOf e)
+  field-why c e =
+      by-field c (λ o. o ≡ refused e → FieldRefused i width b (numberOf e))
+      (λ h q. inl (sym (ap numberOf (which q)), h))
+      (λ z q. absurd (never q))
+      (λ p h l q. inr (sym (ap numberOf (which q)), p, h, l))
+      (λ p h l q. absurd (never q))
+
+  field-bounded : (s : Bits) → FieldWritten i value width b s → Bounded b → Bounded s
+  field-bounded s f bounded =
+      by-eq width 0
+      (λ e. subst Bounded (sym (f .none e)) bounded)
+      (λ z. record { past = λ p m. f .above p (omega (arith, f .count, inside z (f .inside))) ∙ bounded .past p (omega (arith, f .count)) })
+    where
+      inside : (width ≡ 0 → ⊥) → (width ≡ 0) ⊎ (i + width ≤ 64 * b .count) → i + width ≤ 64 * b .count
+      inside z (inl e) = absurd (z e)
+      inside z (inr h) = h
+
+pub set-field-strict : (i value width : ℕ) → SetFieldStrict i value width
+set-field-strict i value width = record {
+  made = λ c b. field-made i value width b c;
+  sound = record {
+    space = λ c b s h l q. omega (arith, field-made i value width b c s q .count);
+    bound = λ c b s h l q. field-bounded i value width b s (field-made i value width b c s q) h;
+  };
+  why = λ c b. field-why i value width b c;
 }
-  where
-    Kept : ℕ → Outcome → Type 0
-    Kept c o = (s : Bits) → o ≡ done s → (s .count ≤ c) × Bounded s
-
-    given : (c : ℕ) (b : Bits) → b .count ≤ c → Bounded b → Kept c (done b)
-    given c b h bb s q = let e : b ≡ s = cc in subst (λ (x : Bits). (x .count ≤ c) × Bounded x) e (h, bb)
-
-    at : (c : ℕ) (b : Bits) → Bounded b → b .count ≤ c → Kept c (fieldSetting i value width c b)
-    at c b bb h =
-        by-field i value width b c (Kept c)
-        (λ l s q. absurd (let z : _≡_ {A = ℕ} 0 1 = cc in omega arith))
-        (λ e. given c b h bb)
-        (λ p w l s q. absurd (let z : _≡_ {A = ℕ} 0 1 = cc in omega arith))
-        (λ w l.
-        let f : FieldWritten i value width b (withField i value width b) = written-inside i value width b w (inr l) in
-        given c (withField i value width b) (omega (arith, f .count))
-        (record { past = λ p m. let far : 64 * b .count ≤ p = omega (arith, f .count) in f .above p (omega arith) ∙ bb .past p far }))
 
 -- ---- the count
 
@@ -168,9 +224,15 @@ counts-members b bounded = record {
       ap (λ (n : ℕ). countBelow (s .members) (64 * n)) e ∙ one-more (s .members) (b .members) p (64 * b .count) l out has same;
 }
 
+pub count-set-bits-means : CountSetBitsMeans
+unfolding size
+count-set-bits-means =
+    number-call (λ s. Number.Is (size s)) (λ b. Hands (AllCounted b))
+    (λ b bounded. (refl, λ e h. counted (b .members) e (size b) (count-flat (b .members) (64 * b .count) e h (bounded .past))))
+
 -- ---- the front part
 
-pub front-of : (ws : List ℕ) → FrontOf ws (frontPart ws)
+pub front-of : TrimmedMeans
 unfolding frontPart nonzeroLen
 front-of ws = record {
   front = ap (λ (m : ℕ). take m ws) (sym (length-front ws));

@@ -1,7 +1,8 @@
 -- The scans, the greatest member and the count, from what the kernels leave. Assumes nothing.
-use mathlib.Core.Path.{_≡_, sym, ap, ap₂, _∙_, subst}
+use mathlib.Core.Path.{_≡_, sym, ap, ap₂, _∙_}
 use mathlib.Core.Bool.{Bool, not}
 use mathlib.Core.List.{List}
+use mathlib.Core.Logic.{inl, inr}
 use Prim.Native.Nat.{ℕ, _+_, _-_, _*_, _/_, _^_, _≤_, _<_}
 use native.Mathlib.Omega.{arith}
 use lib.ListN.{length, getD, take, drop, length-drop}
@@ -45,6 +46,14 @@ clear-words ws n f = record {
 
 -- ---- what a search in the words after the first one tells
 
+other-there : (x : ℕ) (ws : List ℕ) (k w : ℕ) → FirstOther x ws 1 k w → (k < length ws) × (w ≡ getD ws k 0) × ¬ (w ≡ x) × Alike ws x 0 k
+other-there x ws k w (inl r) = (r .1, r .2, r .3, r .4)
+other-there x ws k w (inr r) = absurd (omega (arith, r .0))
+
+all-alike : (x : ℕ) (ws : List ℕ) (k w : ℕ) → FirstOther x ws 0 k w → Alike ws x 0 (length ws)
+all-alike x ws k w (inl r) = absurd (omega (arith, r .0))
+all-alike x ws k w (inr r) = r .3
+
 -- the words of the part that starts at word a and ends before word n
 module _ (ws : List ℕ) (a n : ℕ) where
   abbrev part : List ℕ
@@ -65,7 +74,7 @@ module _ (ws : List ℕ) (a n : ℕ) where
 
   pub other-found : (x p y : ℕ) → n ≤ length ws → word-found.At p y ≡ wordFound part (firstOther x part) → Other x p y
   other-found x p y h e =
-      let r : FirstOther x part (word-found.At p y) = subst (FirstOther x part) (sym e) (first-other x part) in
+      let r = other-there x part p y (first-other x part (word-found.At p y) e) in
       let l : p < n - a = omega (arith, r .0, length-part h) in
       record {
         inside = omega arith;
@@ -78,7 +87,7 @@ module _ (ws : List ℕ) (a n : ℕ) where
 
   pub none-found : (x : ℕ) → n ≤ length ws → word-found.Nothing ≡ wordFound part (firstOther x part) → (m : ℕ) → a ≤ m → m < n → getD ws m 0 ≡ x
   none-found x h e m q s =
-      let r : Alike part x 0 (length part) = subst (FirstOther x part) (sym e) (first-other x part) in
+      let r : Alike part x 0 (length part) = all-alike x part 0 0 (first-other x part word-found.Nothing e) in
       let e : a + (m - a) ≡ m = omega arith in
       ap (λ (k : ℕ). getD ws k 0) (sym e) ∙ sym (part-at (m - a) (omega arith)) ∙ r .at (m - a) (omega arith) (omega (arith, length-part h))
 

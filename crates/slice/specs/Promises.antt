@@ -5,62 +5,108 @@ use mathlib.Core.Bool.{true, false}
 use mathlib.Core.List.{List}
 use mathlib.Core.Logic.{_⊎_}
 use lib.ListN.{length, getD, take}
+use Rattle.word.specs.Sets.{Counted}
 use Rattle.word.specs.Bits.{bit}
-use Rattle.storage.specs.Refusals.{numberOf}
-use Rattle.storage.specs.Stores.{Bits, Outcome, refused, done, size}
-use Rattle.storage.specs.declared.Found.{Found}
-use Rattle.storage.specs.declared.Found.the-variants.{At, Nothing}
-use Rattle.storage.specs.declared.Field.{Field}
-use Rattle.slice.specs.Slices.{equal}
+use Rattle.storage.specs.Refusals.{truthNumber, truthValue}
+use Rattle.storage.specs.Stores.{Bits, view, reading, size, nextFrom}
+use Rattle.storage.specs.Promises.{Guarded, HandsNone, Hands, Tests, Finds, NextMember, NumberCall, FieldCall, TruthCall, FoundCall, Meets}
+use Rattle.storage.specs.declared.Number.{Number}
+use Rattle.storage.specs.declared.Number.the-variants.{Is}
+use Rattle.storage.specs.declared.Truth.{Truth}
+use Rattle.storage.specs.declared.Truth.the-variants.{Is, Refused}
+use Rattle.slice.specs.Slices.{frontPart, equal, fieldAt, fieldSetting, lastSet, nextClear}
 
--- `last_set`: a member with none above it; nothing only where there is none
-abbrev pub LastMember : Bits → Found → Type 0
-LastMember b (At p) = (b .members p ≡ true) × ((q : ℕ) → p < q → b .members q ≡ false)
-LastMember b Nothing = (q : ℕ) → b .members q ≡ false
-LastMember b (Found.Refused e) = ⊥
+-- `get`: 1 exactly where i is a member
+abbrev pub GetMeans : ℕ → Type 0
+GetMeans i = TruthCall (λ s. Truth.Is (s .members i)) (λ b. Tests (b .members i ≡ true))
 
--- `first_clear`, `next_clear`: no member, at least i, every number between being one; from the length on it is i
+-- every digit, and 3 exactly over 64 digits
+abbrev pub FieldDigits : ℕ → ℕ → Bits → ℕ → ℕ → Type 0
+FieldDigits i width b x v =
+    ((x ≡ 0) × (width ≤ 64) × ((j : ℕ) → j < width → bit v j ≡ b .members (i + j)) × ((j : ℕ) → width ≤ j → bit v j ≡ false))
+    ⊎ ((x ≡ 3) × (v ≡ 0) × (64 < width))
+
+-- `get_field`
+abbrev pub GetFieldMeans : ℕ → ℕ → Type 0
+GetFieldMeans i width = FieldCall (fieldAt i width) (FieldDigits i width)
+
+-- `next_set`, `first_set`: the least member from i on, and the least
+abbrev pub NextSetMeans : ℕ → Type 0
+NextSetMeans i = FoundCall (λ s. nextFrom s i) (λ b. NextMember (b .members) i)
+
+abbrev pub FirstSetMeans : Type 0
+FirstSetMeans = FoundCall (λ s. nextFrom s 0) (λ b. NextMember (b .members) 0)
+
+-- a member with none above it; nothing only where there is none
+abbrev pub LastMember : Bits → ℕ → ℕ → ℕ → Type 0
+LastMember b = Finds (λ p. (b .members p ≡ true) × ((q : ℕ) → p < q → b .members q ≡ false)) ((q : ℕ) → b .members q ≡ false)
+
+-- `last_set`
+abbrev pub LastSetMeans : Type 0
+LastSetMeans = FoundCall lastSet LastMember
+
+-- no member, at least i, every number between being one; from the length on it is i
 pub record NextOther (b : Bits) (i p : ℕ) : Type 0 where
   pub from : i ≤ p
   pub other : b .members p ≡ false
   pub between : (q : ℕ) → i ≤ q → q < p → b .members q ≡ true
   pub past : 64 * b .count ≤ i → p ≡ i
 
--- `eq`: true exactly where every number is a member of both or of neither
-pub record EqualIsSame (b o : Bits) : Type 0 where
-  pub same : equal b o ≡ true → (i : ℕ) → b .members i ≡ o .members i
-  pub equal : ((i : ℕ) → b .members i ≡ o .members i) → equal b o ≡ true
+-- `next_clear`, `first_clear`
+abbrev pub NextClearMeans : ℕ → Type 0
+NextClearMeans i = NumberCall (λ s. Number.Is (nextClear s i)) (λ b. Hands (NextOther b i))
 
--- `get_field`: every digit, and 3 exactly over 64 digits
-abbrev pub FieldDigits : ℕ → ℕ → Bits → Field → Type 0
-FieldDigits i width b (Field.Is x) =
-    (width ≤ 64) × ((j : ℕ) → j < width → bit x j ≡ b .members (i + j)) × ((j : ℕ) → width ≤ j → bit x j ≡ false)
-FieldDigits i width b (Field.Refused e) = (64 < width) × (numberOf e ≡ 3)
+abbrev pub FirstClearMeans : Type 0
+FirstClearMeans = NumberCall (λ s. Number.Is (nextClear s 0)) (λ b. Hands (NextOther b 0))
 
--- `set_field_strict`, done: the places of the field have the value's digits, all others and the count are as they were
+-- `eq`: the second store after the first; 1 exactly where every number is a member of both or of neither
+abbrev pub EqMeans : Type 0
+EqMeans =
+    (ws os : List ℕ) (n m : ℕ) (r : Truth) → r ≡ reading ws n Truth.Refused (λ s. reading os m Truth.Refused (λ t. Truth.Is (equal s t)))
+    → let x = truthNumber r in
+    let v = truthValue r in
+    Guarded (length ws) n (HandsNone x v)
+    (Guarded (length os) m (HandsNone x v) (Tests ((i : ℕ) → view ws n .members i ≡ view os m .members i) x v))
+
+-- the places of the field have the value's digits, all others and the count are as they were
 pub record FieldWritten (i value width : ℕ) (b s : Bits) : Type 0 where
   pub wide : width ≤ 64
   pub inside : (width ≡ 0) ⊎ (i + width ≤ 64 * b .count)
+  pub none : width ≡ 0 → s ≡ b
   pub count : s .count ≡ b .count
   pub field : (j : ℕ) → j < width → s .members (i + j) ≡ bit value j
   pub below : (p : ℕ) → p < i → s .members p ≡ b .members p
   pub above : (p : ℕ) → i + width ≤ p → s .members p ≡ b .members p
 
 -- 3 exactly over 64 digits, then 5 exactly where a place is past the length
-abbrev pub StrictField : ℕ → ℕ → ℕ → Bits → Outcome → Type 0
-StrictField i value width b (done s) = FieldWritten i value width b s
-StrictField i value width b (refused e) =
-    ((64 < width) × (numberOf e ≡ 3)) ⊎ ((0 < width) × (width ≤ 64) × (64 * b .count < i + width) × (numberOf e ≡ 5))
+abbrev pub FieldRefused : ℕ → ℕ → Bits → ℕ → Type 0
+FieldRefused i width b k = ((k ≡ 3) × (64 < width)) ⊎ ((k ≡ 5) × (0 < width) × (width ≤ 64) × (64 * b .count < i + width))
 
--- `count_set_bits`: 0 exactly where there is no member, and one more with each number that becomes one
+-- `set_field_strict`
+abbrev pub SetFieldStrict : ℕ → ℕ → ℕ → Type 0
+SetFieldStrict i value width = Meets (fieldSetting i value width) (λ c. FieldWritten i value width) (λ c. FieldRefused i width)
+
+-- v members, at the length and from there on
+abbrev pub AllCounted : Bits → ℕ → Type 0
+AllCounted b v = (e : ℕ) → 64 * b .count ≤ e → Counted (b .members) e v
+
+-- `count_set_bits`
+abbrev pub CountSetBitsMeans : Type 0
+CountSetBitsMeans = NumberCall (λ s. Number.Is (size s)) (λ b. Hands (AllCounted b))
+
+-- the size is 0 exactly where there is no member, and one more with each number that becomes one
 pub record CountsMembers (b : Bits) : Type 0 where
   pub empty : size b ≡ 0 → (i : ℕ) → b .members i ≡ false
   pub zero : ((i : ℕ) → b .members i ≡ false) → size b ≡ 0
   pub more : (s : Bits) (p : ℕ) → s .count ≡ b .count → p < 64 * b .count → b .members p ≡ false → s .members p ≡ true
       → ((q : ℕ) → (q ≡ p → ⊥) → s .members q ≡ b .members q) → size s ≡ suc (size b)
 
--- `trimmed`: a front part, whose last word is not 0, with only zero words after it
+-- a front part, whose last word is not 0, with only zero words after it
 pub record FrontOf (ws part : List ℕ) : Type 0 where
   pub front : part ≡ take (length part) ws
   pub last : (k : ℕ) → suc k ≡ length part → getD ws k 0 ≡ 0 → ⊥
   pub after : (k : ℕ) → length part ≤ k → getD ws k 0 ≡ 0
+
+-- `trimmed`
+abbrev pub TrimmedMeans : Type 0
+TrimmedMeans = (ws : List ℕ) → FrontOf ws (frontPart ws)

@@ -10,7 +10,7 @@ use Rattle.word.specs.Sets.{xorb}
 use Rattle.word.proofs.Cases.{by-lt}
 use Rattle.storage.specs.Refusals.{numberOf}
 use Rattle.storage.specs.Stores.{Bits, Bounded, Outcome, refused, done, Op, limit, checked, view, beside, within, flipped, combined}
-use Rattle.storage.specs.Promises.{Sound}
+use Rattle.storage.specs.Promises.{Sound, Meets, Unchanged, Never}
 use Rattle.storage.specs.declared.Refusal.{Refusal}
 use Rattle.storage.proofs.Checks.{checked-ok, checked-long, checked-over, within-ok, within-no, within-done}
 use Rattle.storage.proofs.Views.{bounded-view}
@@ -67,6 +67,14 @@ pub sound-done : (op : Op) (f : Bits → Bits) → ((c : ℕ) (b : Bits) → op 
 sound-done op f e k g = record {
   space = λ c b s h l q. subst (λ (x : Bits). x .count ≤ c) (same (sym (e c b) ∙ q)) (omega (arith, k b));
   bound = λ c b s h l q. subst Bounded (same (sym (e c b) ∙ q)) (g b h);
+}
+
+-- an operation that does nothing
+pub meets-nothing : (op : Op) → ((c : ℕ) (b : Bits) → op c b ≡ done b) → Meets op Unchanged Never
+meets-nothing op e = record {
+  made = λ c b s q. sym (same (sym (e c b) ∙ q));
+  sound = sound-done op (λ b. b) e (λ b. omega arith) (λ b h. h);
+  why = λ c b k q. never (sym (e c b) ∙ q);
 }
 
 -- a second bitmap, looked at after the first

@@ -13,19 +13,27 @@ use Rattle.word.specs.Bits.{member}
 use Rattle.word.proofs.Cases.{by-lt, every-at, or-true}
 use Rattle.word.proofs.Sets.{least}
 use Rattle.word.proofs.Lists.{determined, at-place, member-at}
-use Rattle.storage.specs.Refusals.{lastNumber, numberOf, changeNumber, changeRecord}
-use Rattle.storage.specs.Stores.{Bits, Bounded, Outcome, refused, done, view, beside, trimmedCount, trimmed, combined, written, answer, store, outcome, Leaves, foundBelow, nextFrom}
-use Rattle.storage.specs.Promises.{EachNumberOnce, RefusalKeeps, StoresFirst, WordsAndSets, SpaceRules, SpaceExact, LeastCount, Combines, Unites, NextMember, Chains}
+use Rattle.storage.specs.Refusals.{lastNumber, numberOf, changeNumber, changeRecord, guardNumber, foundNumber, foundFlag, foundValue, numberNumber, numberValue, fieldNumber, fieldValue, truthNumber, truthValue}
+use Rattle.storage.specs.Stores.{Bits, Bounded, Outcome, refused, done, Op, limit, checked, view, beside, reading, trimmedCount, trimmed, combined, written, zeroed, answer, store, outcome, Leaves, foundBelow, nextFrom}
+use Rattle.storage.specs.Promises.{EachNumberOnce, Guarded, CheckMeans, RefusalKeeps, GrowMeans, WordsAndSets, SpaceRules, SpaceExact, LeastCount, Combines, Unites, HandsNone, FindsNone, Tests, Finds, NextMember, NumberCall, FieldCall, TruthCall, FoundCall, Meets, Kept, Made, Ends, EndsAs, ChangeMeans, BesideMeans, Chains}
 use Rattle.storage.specs.declared.Bitmap.{Bitmap}
 use Rattle.storage.specs.declared.Refusal.{Refusal}
 use Rattle.storage.specs.declared.Refusal.the-variants.{StoreTooLong, CountOverStore, WidthOver, IndexOver, PastLength, NoSpace, NotList, NotAscii, NotSheet, CutRecord, BytesRemain, BadPayload, NewerKind, NoEdition}
-use Rattle.storage.specs.declared.Found.the-variants.{At, Nothing}
+use Rattle.storage.specs.declared.Found.{Found}
+use Rattle.storage.specs.declared.Found.the-variants.{At, Nothing, Refused}
+use Rattle.storage.specs.declared.Number.{Number}
+use Rattle.storage.specs.declared.Number.the-variants.{Refused}
+use Rattle.storage.specs.declared.Field.{Field}
+use Rattle.storage.specs.declared.Field.the-variants.{Refused}
+use Rattle.storage.specs.declared.Truth.{Truth}
+use Rattle.storage.specs.declared.Truth.the-variants.{Is, Refused}
+use Rattle.storage.specs.declared.Guard.the-variants.{Pass, Stop}
 use Rattle.storage.specs.declared.Change.{Change}
 use Rattle.storage.specs.declared.Change.the-variants.{Done, Refused}
 use Rattle.storage.proofs.Checks.{checked-ok, checked-long, checked-over, within-ok, within-no}
-use Rattle.storage.proofs.Outcomes.{let-pass}
+use Rattle.storage.proofs.Outcomes.{by-outcome, let-pass}
 use Rattle.storage.proofs.Views.{view-count, bounded-view}
-use Rattle.storage.proofs.Stores.{Stored, written-stored, view-written, written-view, length-written}
+use Rattle.storage.proofs.Stores.{Stored, written-stored, view-written, written-view, length-written, length-zeroed, zeroed-in, zeroed-out}
 use Rattle.storage.proofs.Trims.{trimmed-le, trimmed-holds, trimmed-least}
 
 -- ---- the numbers
@@ -78,36 +86,54 @@ each-number-once = record {
   each = λ n a b. (getD ordered (n - 1) NoEdition, nth-refusal (n - 1) (omega arith) ∙ omega arith);
 }
 
--- ---- a refusal keeps everything
+-- ---- 1, then 2
 
-keeps : (o : Outcome) (ws ws' : List ℕ) (b : Bitmap) (r : Change) → Leaves o ws b r ws' → 0 < changeNumber r → (changeRecord r ≡ b) × (ws' ≡ ws)
-unfolding answer store
-keeps (refused e) ws ws' b r l p = (ap changeRecord (l .answers), l .leaves)
-keeps (done s) ws ws' b r l p = absurd (omega (arith, ap changeNumber (l .answers)))
-
-pub refusal-keeps : RefusalKeeps
-refusal-keeps op ws ws' b r l p = keeps (outcome op ws (b .count)) ws ws' b r l p
-
--- ---- 1 and 2 come first
-
-pub refuses : (o : Outcome) (ws ws' : List ℕ) (b : Bitmap) (r : Change) (e : Refusal) → Leaves o ws b r ws' → o ≡ refused e → changeNumber r ≡ numberOf e
-unfolding answer
-refuses o ws ws' b r e l q = ap changeNumber (l .answers ∙ ap (λ (x : Outcome). answer x b) q)
-
-pub stores-first : StoresFirst
-unfolding outcome beside
-stores-first = record {
-  long = λ op ws ws' b r l h. refuses _ ws ws' b r StoreTooLong l (checked-long (length ws) (b .count) refused (op (length ws) (view ws (b .count))) h);
-  over = λ op ws ws' b r l h k. refuses _ ws ws' b r CountOverStore l (checked-over (length ws) (b .count) refused (op (length ws) (view ws (b .count))) h k);
-  second-long = λ op os ws ws' n b r l h k m.
-      refuses _ ws ws' b r StoreTooLong l
-      (checked-ok (length ws) (b .count) refused (beside os n op (length ws) (view ws (b .count))) h k
-      ∙ checked-long (length os) n refused (op (view os n) (length ws) (view ws (b .count))) m);
-  second-over = λ op os ws ws' n b r l h k m q.
-      refuses _ ws ws' b r CountOverStore l
-      (checked-ok (length ws) (b .count) refused (beside os n op (length ws) (view ws (b .count))) h k
-      ∙ checked-over (length os) n refused (op (view os n) (length ws) (view ws (b .count))) m q);
+-- what a guard lets pass, and what it says where it does not
+pub guarded : {A : Type 0} (c n : ℕ) (refuse : Refusal → A) (a : A) (No : A → ℕ → Type 0) (Rest : A → Type 0) → ((e : Refusal) → No (refuse e) (numberOf e))
+    → (c ≤ limit → n ≤ c → Rest a) → (r : A) → r ≡ checked c n refuse a → Guarded c n (No r) (Rest r)
+guarded c n refuse a No Rest stop rest r q = record {
+  long = λ h. subst (λ x. No x 1) (sym (q ∙ checked-long c n refuse a h)) (stop StoreTooLong);
+  over = λ h l. subst (λ x. No x 2) (sym (q ∙ checked-over c n refuse a h l)) (stop CountOverStore);
+  rest = λ h l. subst Rest (sym (q ∙ checked-ok c n refuse a h l)) (rest h l);
 }
+
+-- of what holds where nothing is refused, something else follows
+pub guarded-map : {c n : ℕ} {No : ℕ → Type 0} {P Q : Type 0} → (c ≤ limit → n ≤ c → P → Q) → Guarded c n No P → Guarded c n No Q
+guarded-map f g = record { long = g .long; over = g .over; rest = λ h l. f h l (g .rest h l) }
+
+pub check-means : CheckMeans
+check-means c n = guarded c n Stop Pass (λ r k. guardNumber r ≡ k) (λ r. guardNumber r ≡ 0) (λ e. refl) (λ h l. refl) (checked c n Stop Pass) refl
+
+-- a call that only reads: what holds of its answer for every bitmap holds of it here
+pub reading-means : {A : Type 0} (refuse : Refusal → A) (f : Bits → A) (No : A → ℕ → Type 0) (Rest : Bits → A → Type 0)
+    → ((e : Refusal) → No (refuse e) (numberOf e)) → ((b : Bits) → Bounded b → Rest b (f b)) → (ws : List ℕ) (n : ℕ) (r : A) → r ≡ reading ws n refuse f
+    → Guarded (length ws) n (No r) (Rest (view ws n) r)
+unfolding reading
+reading-means refuse f No Rest stop rest ws n r q =
+    guarded (length ws) n refuse (f (view ws n)) No (Rest (view ws n)) stop (λ h l. rest (view ws n) (bounded-view ws n)) r q
+
+-- a test whose truth value is true exactly where P holds
+pub tests : (P : Type 0) (t : Bool) → (t ≡ true → P) → (P → t ≡ true) → Tests P (truthNumber (Truth.Is t)) (truthValue (Truth.Is t))
+tests P true f g = (refl, inl (refl, f refl))
+tests P false f g = (refl, inr (refl, λ p. let e : false ≡ true = g p in absurd (let z : _≡_ {A = ℕ} 0 1 = cc in omega arith)))
+
+pub number-call : (f : Bits → Number) (Rest : Bits → ℕ → ℕ → Type 0) → ((b : Bits) → Bounded b → Rest b (numberNumber (f b)) (numberValue (f b))) → NumberCall f Rest
+number-call f Rest =
+    reading-means Number.Refused f (λ r. HandsNone (numberNumber r) (numberValue r)) (λ b r. Rest b (numberNumber r) (numberValue r)) (λ e. (refl, refl))
+
+pub field-call : (f : Bits → Field) (Rest : Bits → ℕ → ℕ → Type 0) → ((b : Bits) → Bounded b → Rest b (fieldNumber (f b)) (fieldValue (f b))) → FieldCall f Rest
+field-call f Rest =
+    reading-means Field.Refused f (λ r. HandsNone (fieldNumber r) (fieldValue r)) (λ b r. Rest b (fieldNumber r) (fieldValue r)) (λ e. (refl, refl))
+
+pub truth-call : (f : Bits → Truth) (Rest : Bits → ℕ → ℕ → Type 0) → ((b : Bits) → Bounded b → Rest b (truthNumber (f b)) (truthValue (f b))) → TruthCall f Rest
+truth-call f Rest =
+    reading-means Truth.Refused f (λ r. HandsNone (truthNumber r) (truthValue r)) (λ b r. Rest b (truthNumber r) (truthValue r)) (λ e. (refl, refl))
+
+pub found-call : (f : Bits → Found) (Rest : Bits → ℕ → ℕ → ℕ → Type 0)
+    → ((b : Bits) → Bounded b → Rest b (foundNumber (f b)) (foundFlag (f b)) (foundValue (f b))) → FoundCall f Rest
+found-call f Rest =
+    reading-means Found.Refused f (λ r. FindsNone (foundNumber r) (foundFlag r) (foundValue r))
+    (λ b r. Rest b (foundNumber r) (foundFlag r) (foundValue r)) (λ e. (refl, refl, refl))
 
 -- ---- words and sets
 
@@ -132,6 +158,115 @@ space-exact c b = record { enough = within-ok c b; lacking = λ h. (NoSpace, wit
 pub least-count : (s : ℕ → Bool) (n : ℕ) → LeastCount s n (trimmedCount s n)
 least-count s n = record { low = trimmed-le s n; holds = trimmed-holds s n; least = trimmed-least s n }
 
+-- ---- what a changing call answers and leaves
+
+leaves-kept : (o : Outcome) (ws ws' : List ℕ) (b : Bitmap) (r : Change) (e : Refusal) → Leaves o ws b r ws' → o ≡ refused e
+    → Kept (b .count) ws (changeNumber r) (changeRecord r .count) ws' (numberOf e)
+unfolding answer store
+leaves-kept o ws ws' b r e l q = record {
+  number = ap changeNumber a;
+  count = ap (λ (x : Change). changeRecord x .count) a;
+  words = l .leaves ∙ ap (λ (x : Outcome). store x ws (b .count)) q;
+}
+  where
+    a : r ≡ Change.Refused e b
+    a = l .answers ∙ ap (λ (x : Outcome). answer x b) q
+
+keeps : (o : Outcome) (ws ws' : List ℕ) (b : Bitmap) (r : Change) → Leaves o ws b r ws' → 0 < changeNumber r → (changeRecord r ≡ b) × (ws' ≡ ws)
+unfolding answer store
+keeps (refused e) ws ws' b r l p = (ap changeRecord (l .answers), l .leaves)
+keeps (done s) ws ws' b r l p = absurd (omega (arith, ap changeNumber (l .answers)))
+
+pub refusal-keeps : RefusalKeeps
+refusal-keeps op ws ws' b r l p = keeps (outcome op ws (b .count)) ws ws' b r l p
+
+-- a guard before an outcome
+pub leaves-guarded : (c n : ℕ) (o : Outcome) (ws ws' : List ℕ) (b : Bitmap) (r : Change) → Leaves (checked c n refused o) ws b r ws'
+    → Guarded c n (Kept (b .count) ws (changeNumber r) (changeRecord r .count) ws') (Leaves o ws b r ws')
+leaves-guarded c n o ws ws' b r l = record {
+  long = λ h. leaves-kept _ ws ws' b r StoreTooLong l (checked-long c n refused o h);
+  over = λ h k. leaves-kept _ ws ws' b r CountOverStore l (checked-over c n refused o h k);
+  rest = λ h k. subst (λ (x : Outcome). Leaves x ws b r ws') (checked-ok c n refused o h k) l;
+}
+
+-- a store that was written with s holds it
+pub stored : (rule : Bits → Type 0) (n : ℕ) (ws ws' : List ℕ) (s : Bits) (x m : ℕ) → n ≤ length ws → s .count ≤ length ws → Bounded s → rule s
+    → x ≡ 0 → m ≡ s .count → ws' ≡ written ws n s → Made rule n ws x m ws'
+stored rule n ws ws' s x m h k bound holds number count words = record {
+  number = number;
+  made = subst rule (sym seen) holds;
+  inside = omega arith;
+  words = subst (λ (y : Bits). SpaceRules ws n y ws') (sym seen) (subst (SpaceRules ws n s) (sym words) (space-rules ws n s k h));
+}
+  where
+    seen : view ws' m ≡ s
+    seen = ap (view ws') count ∙ ap (λ (y : List ℕ). view y (s .count)) words ∙ view-written ws n s k h bound
+
+leaves-made : (o : Outcome) (ws ws' : List ℕ) (b : Bitmap) (r : Change) (s : Bits) (rule : Bits → Type 0) → Leaves o ws b r ws' → o ≡ done s
+    → b .count ≤ length ws → s .count ≤ length ws → Bounded s → rule s → Made rule (b .count) ws (changeNumber r) (changeRecord r .count) ws'
+unfolding answer store
+leaves-made o ws ws' b r s rule l q h k bound holds =
+    let a : r ≡ Done (record { count = s .count }) = l .answers ∙ ap (λ (x : Outcome). answer x b) q in
+    stored rule (b .count) ws ws' s _ _ h k bound holds (ap changeNumber a) (ap (λ (x : Change). changeRecord x .count) a)
+    (l .leaves ∙ ap (λ (x : Outcome). store x ws (b .count)) q)
+
+positive : (e : Refusal) → 0 < numberOf e
+positive e = omega (arith, range e .0)
+
+-- an operation by its promise, on a bitmap that 1 and 2 have let pass
+pub leaves-ends : (op : Op) (rule : ℕ → Bits → Bits → Type 0) (why : ℕ → Bits → ℕ → Type 0) → Meets op rule why
+    → (ws ws' : List ℕ) (b : Bitmap) (r : Change) → b .count ≤ length ws → Leaves (op (length ws) (view ws (b .count))) ws b r ws'
+    → EndsAs rule why (view ws (b .count)) ws (changeNumber r) (changeRecord r .count) ws'
+leaves-ends op rule why meets ws ws' b r h l =
+    subst (λ (n : ℕ). Ends (rule (length ws) s) (why (length ws) s) n ws (changeNumber r) (changeRecord r .count) ws') (sym (view-count ws (b .count)))
+    (by-outcome (op (length ws) s)
+    (λ t q. inl (leaves-made _ ws ws' b r t (rule (length ws) s) l q h
+    (meets .sound .space (length ws) s t bound in-view q)
+    (meets .sound .bound (length ws) s t bound in-view q)
+    (meets .made (length ws) s t q)))
+    (λ e q.
+    let k = leaves-kept _ ws ws' b r e l q in
+    inr (
+      subst (λ (x : ℕ). 0 < x) (sym (k .number)) (positive e),
+      subst (why (length ws) s) (sym (k .number)) (meets .why (length ws) s e q),
+      record { number = refl; count = k .count; words = k .words },
+    )))
+  where
+    s : Bits
+    s = view ws (b .count)
+
+    bound : Bounded s
+    bound = bounded-view ws (b .count)
+
+    in-view : s .count ≤ length ws
+    in-view = omega (arith, h, view-count ws (b .count))
+
+pub change-means : ChangeMeans
+unfolding outcome
+change-means op rule why meets ws ws' b r l =
+    guarded-map (λ h k. leaves-ends op rule why meets ws ws' b r k)
+    (leaves-guarded (length ws) (b .count) (op (length ws) (view ws (b .count))) ws ws' b r l)
+
+pub beside-means : BesideMeans
+unfolding outcome beside
+beside-means op rule why meets os ws ws' n b r l =
+    guarded-map
+    (λ h k x.
+    guarded-map (λ h' k'. leaves-ends (op o) (rule o) (why o) (meets o (bounded-view os n)) ws ws' b r k)
+    (leaves-guarded (length os) n (op o (length ws) (view ws (b .count))) ws ws' b r x))
+    (leaves-guarded (length ws) (b .count) (beside os n op (length ws) (view ws (b .count))) ws ws' b r l)
+  where
+    o : Bits
+    o = view os n
+
+pub grow-means : GrowMeans
+grow-means old new ws = record {
+  long = length-zeroed old new ws;
+  zero = zeroed-in old new ws;
+  below = λ k h. zeroed-out old new ws k (inl h);
+  above = λ k h. zeroed-out old new ws k (inr h);
+}
+
 -- ---- set operations of two bitmaps
 
 pub combined-fewest : (f : Bool → Bool → Bool) (b o : Bits) → Combines f o b (trimmed (combined f b o))
@@ -153,16 +288,16 @@ combined-either b o = record {
 
 -- ---- calls in a row
 
-accepted : (o : Outcome) (ws ws' : List ℕ) (b b' : Bitmap) → Leaves o ws b (Done b') ws'
-    → (s : Bits) × (o ≡ done s) × (b' .count ≡ s .count) × (ws' ≡ written ws (b .count) s)
+accepted : (o : Outcome) (ws ws' : List ℕ) (b : Bitmap) (r : Change) → Leaves o ws b r ws' → changeNumber r ≡ 0
+    → (s : Bits) × (o ≡ done s) × (changeRecord r .count ≡ s .count) × (ws' ≡ written ws (b .count) s)
 unfolding answer store
-accepted (refused e) ws ws' b b' l = let q : Done b' ≡ Refused e b = l .answers in absurd (let z : _≡_ {A = ℕ} 0 1 = cc in omega arith)
-accepted (done s) ws ws' b b' l = (s, refl, ap (λ (r : Change). changeRecord r .count) (l .answers), l .leaves)
+accepted (refused e) ws ws' b r l z = absurd (omega (arith, positive e, ap changeNumber (l .answers)))
+accepted (done s) ws ws' b r l z = (s, refl, ap (λ (r : Change). changeRecord r .count) (l .answers), l .leaves)
 
 pub chains : Chains
 unfolding outcome
-chains op ws ws' b b' sound l =
-    let a = accepted (outcome op ws (b .count)) ws ws' b b' l in
+chains op ws ws' b r sound l z =
+    let a = accepted (outcome op ws (b .count)) ws ws' b r l z in
     let s : Bits = a .0 in
     let p = let-pass (length ws) (b .count) (op (length ws) (view ws (b .count))) s (a .1) in
     let in-view : view ws (b .count) .count ≤ length ws = subst (λ (n : ℕ). n ≤ length ws) (sym (view-count ws (b .count))) (p .1) in
@@ -180,14 +315,15 @@ chains op ws ws' b b' sound l =
 
 -- ---- the least member from a place on
 
-pub next-member : (b : Bits) → Bounded b → (i : ℕ) → NextMember (b .members) i (nextFrom b i)
+pub next-member : (b : Bits) → Bounded b → (i : ℕ)
+    → NextMember (b .members) i (foundNumber (nextFrom b i)) (foundFlag (nextFrom b i)) (foundValue (nextFrom b i))
 unfolding nextFrom foundBelow
 next-member b bounded i =
     by-lt p e
-    (λ h. subst (NextMember (b .members) i) (sym (ap (λ (t : Bool). choose t (At p) Nothing) (lt-ltb p e h))) (r .from, r .here (omega arith), r .under))
+    (λ h. subst is (sym (ap (λ (t : Bool). choose t (At p) Nothing) (lt-ltb p e h))) (refl, inl (refl, (r .from, r .here (omega arith), r .under))))
     (λ h.
-    subst (NextMember (b .members) i) (sym (ap (λ (t : Bool). choose t (At p) Nothing) (le-ltb p e h)))
-    (λ q l. by-lt q e (λ m. r .under q l (omega arith)) (λ m. bounded .past q m)))
+    subst is (sym (ap (λ (t : Bool). choose t (At p) Nothing) (le-ltb p e h)))
+    (refl, inr (refl, refl, λ q l. by-lt q e (λ m. r .under q l (omega arith)) (λ m. bounded .past q m))))
   where
     e : ℕ
     e = 64 * b .count
@@ -197,3 +333,15 @@ next-member b bounded i =
 
     r : Least (b .members) i (i + (e - i)) p
     r = least (b .members) i (e - i)
+
+    is : Found → Type 0
+    is a = NextMember (b .members) i (foundNumber a) (foundFlag a) (foundValue a)
+
+-- what is found, and what is not
+pub finds-at : (rule : ℕ → Type 0) (none : Type 0) (v : ℕ) → Finds rule none 0 1 v → rule v
+finds-at rule none v (e, inl x) = x .1
+finds-at rule none v (e, inr x) = absurd (omega (arith, x .0))
+
+pub finds-nothing : (rule : ℕ → Type 0) (none : Type 0) → Finds rule none 0 0 0 → none
+finds-nothing rule none (e, inl x) = absurd (omega (arith, x .0))
+finds-nothing rule none (e, inr x) = x .2

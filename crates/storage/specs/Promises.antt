@@ -6,14 +6,20 @@ use mathlib.Core.List.{List}
 use mathlib.Core.Logic.{_⊎_}
 use lib.ListN.{length, getD}
 use Rattle.word.specs.Bits.{member}
-use Rattle.storage.specs.Refusals.{lastNumber, numberOf, changeNumber, changeRecord}
-use Rattle.storage.specs.Stores.{Bits, Bounded, refused, done, Op, limit, view, beside, within, written, Changes}
+use Rattle.storage.specs.Refusals.{lastNumber, numberOf, foundNumber, foundFlag, foundValue, numberNumber, numberValue, fieldNumber, fieldValue, truthNumber, truthValue, changeNumber, changeRecord, guardNumber}
+use Rattle.storage.specs.Stores.{Bits, Bounded, refused, done, Op, checked, view, beside, reading, within, written, zeroed, Changes}
 use Rattle.storage.specs.declared.Bitmap.{Bitmap}
 use Rattle.storage.specs.declared.Refusal.{Refusal}
-use Rattle.storage.specs.declared.Found.{Found}
-use Rattle.storage.specs.declared.Found.the-variants.{At, Nothing, Refused}
 use Rattle.storage.specs.declared.Change.{Change}
-use Rattle.storage.specs.declared.Change.the-variants.{Done, Refused}
+use Rattle.storage.specs.declared.Found.{Found}
+use Rattle.storage.specs.declared.Found.the-variants.{Refused}
+use Rattle.storage.specs.declared.Number.{Number}
+use Rattle.storage.specs.declared.Number.the-variants.{Refused}
+use Rattle.storage.specs.declared.Field.{Field}
+use Rattle.storage.specs.declared.Field.the-variants.{Refused}
+use Rattle.storage.specs.declared.Truth.{Truth}
+use Rattle.storage.specs.declared.Truth.the-variants.{Refused}
+use Rattle.storage.specs.declared.Guard.the-variants.{Pass, Stop}
 
 -- demand 1: the numbers from 1 to the last, each for one refusal
 pub record EachNumberOnce : Type 0 where
@@ -21,19 +27,36 @@ pub record EachNumberOnce : Type 0 where
   pub once : (d e : Refusal) → numberOf d ≡ numberOf e → d ≡ e
   pub each : (n : ℕ) → 1 ≤ n → n ≤ lastNumber → (e : Refusal) × (numberOf e ≡ n)
 
+-- the limit of a store, as 01 has it
+abbrev pub mostWords : ℕ
+mostWords = 67_108_864
+
+-- demand 1: of a store of c words and its count n, 1 exactly where the store is over the limit, then 2 exactly where the count is over the store.
+-- `No k` says that the call is refused with k, `Rest` what holds where neither applies; a second store's guard stands in the rest of the first one's.
+pub record Guarded (c n : ℕ) (No : ℕ → Type 0) (Rest : Type 0) : Type 0 where
+  pub long : mostWords < c → No 1
+  pub over : c ≤ mostWords → c < n → No 2
+  pub rest : c ≤ mostWords → n ≤ c → Rest
+
+-- `check`
+abbrev pub CheckMeans : Type 0
+CheckMeans = (c n : ℕ) → Guarded c n (λ k. guardNumber (checked c n Stop Pass) ≡ k) (guardNumber (checked c n Stop Pass) ≡ 0)
+
 -- demand 1: whatever the operation, a call whose number is not 0 returns the old record and leaves every word
 abbrev pub RefusalKeeps : Type 0
 RefusalKeeps =
     (op : Op) (ws ws' : List ℕ) (b : Bitmap) (r : Change) → Changes op ws b r ws' → 0 < changeNumber r → (changeRecord r ≡ b) × (ws' ≡ ws)
 
--- demand 1: whatever the operation, 1 comes first, then 2, then the second store's 1 and 2
-pub record StoresFirst : Type 0 where
-  pub long : (op : Op) (ws ws' : List ℕ) (b : Bitmap) (r : Change) → Changes op ws b r ws' → limit < length ws → changeNumber r ≡ 1
-  pub over : (op : Op) (ws ws' : List ℕ) (b : Bitmap) (r : Change) → Changes op ws b r ws' → length ws ≤ limit → length ws < b .count → changeNumber r ≡ 2
-  pub second-long : (op : Bits → Op) (os ws ws' : List ℕ) (n : ℕ) (b : Bitmap) (r : Change) → Changes (beside os n op) ws b r ws'
-      → length ws ≤ limit → b .count ≤ length ws → limit < length os → changeNumber r ≡ 1
-  pub second-over : (op : Bits → Op) (os ws ws' : List ℕ) (n : ℕ) (b : Bitmap) (r : Change) → Changes (beside os n op) ws b r ws'
-      → length ws ≤ limit → b .count ≤ length ws → length os ≤ limit → length os < n → changeNumber r ≡ 2
+-- the words from the old count on, below the new one, are 0, the others as they were
+pub record Zeroes (old new : ℕ) (ws ws' : List ℕ) : Type 0 where
+  pub long : length ws' ≡ length ws
+  pub zero : (k : ℕ) → old ≤ k → k < new → getD ws' k 0 ≡ 0
+  pub below : (k : ℕ) → k < old → getD ws' k 0 ≡ getD ws k 0
+  pub above : (k : ℕ) → new ≤ k → getD ws' k 0 ≡ getD ws k 0
+
+-- `grow`
+abbrev pub GrowMeans : Type 0
+GrowMeans = (old new : ℕ) (ws : List ℕ) → Zeroes old new ws (zeroed old new ws)
 
 -- demand 2: words and sets determine each other
 pub record WordsAndSets : Type 0 where
@@ -75,11 +98,62 @@ pub record Unites (o b s : Bits) : Type 0 where
   pub only : (i : ℕ) → s .members i ≡ true → (b .members i ≡ true) ⊎ (o .members i ≡ true)
   pub count : s .count ≡ max (b .count) (o .count)
 
--- demand 2: a scan or a walk from i answers a member, at least i, with none between; nothing only where no member is at least i
-abbrev pub NextMember : (ℕ → Bool) → ℕ → Found → Type 0
-NextMember s i (At p) = (i ≤ p) × (s p ≡ true) × ((q : ℕ) → i ≤ q → q < p → s q ≡ false)
-NextMember s i Nothing = (q : ℕ) → i ≤ q → s q ≡ false
-NextMember s i (Found.Refused e) = ⊥
+-- What a call hands out, by the number x that it answers, the flag f and the value v.
+
+-- refused with k: the value is 0, and so is the flag of a search
+abbrev pub HandsNone : ℕ → ℕ → ℕ → Type 0
+HandsNone x v k = (x ≡ k) × (v ≡ 0)
+
+abbrev pub FindsNone : ℕ → ℕ → ℕ → ℕ → Type 0
+FindsNone x f v k = (x ≡ k) × (f ≡ 0) × (v ≡ 0)
+
+-- a number of which the rule holds
+abbrev pub Hands : (ℕ → Type 0) → ℕ → ℕ → Type 0
+Hands rule x v = (x ≡ 0) × rule v
+
+-- a truth value: 1 exactly where P holds, else 0
+abbrev pub Tests : Type 0 → ℕ → ℕ → Type 0
+Tests P x v = (x ≡ 0) × (((v ≡ 1) × P) ⊎ ((v ≡ 0) × ¬ P))
+
+-- a place of which the rule holds, or nothing, where there is none
+abbrev pub Finds : (ℕ → Type 0) → Type 0 → ℕ → ℕ → ℕ → Type 0
+Finds rule none x f v = (x ≡ 0) × (((f ≡ 1) × rule v) ⊎ ((f ≡ 0) × (v ≡ 0) × none))
+
+-- demand 2: a scan or a walk from i finds a member, at least i, with none between; nothing only where no member is at least i
+abbrev pub NextMember : (ℕ → Bool) → ℕ → ℕ → ℕ → ℕ → Type 0
+NextMember s i =
+    Finds (λ p. (i ≤ p) × (s p ≡ true) × ((q : ℕ) → i ≤ q → q < p → s q ≡ false)) ((q : ℕ) → i ≤ q → s q ≡ false)
+
+-- A call that only reads, by its contract: 1 and 2 of the store, then what holds of the bitmap, the number and the value, and of a search the flag.
+
+abbrev pub NumberCall : (Bits → Number) → (Bits → ℕ → ℕ → Type 0) → Type 0
+NumberCall f Rest =
+    (ws : List ℕ) (n : ℕ) (r : Number) → r ≡ reading ws n Number.Refused f
+    → let x = numberNumber r in
+    let v = numberValue r in
+    Guarded (length ws) n (HandsNone x v) (Rest (view ws n) x v)
+
+abbrev pub FieldCall : (Bits → Field) → (Bits → ℕ → ℕ → Type 0) → Type 0
+FieldCall f Rest =
+    (ws : List ℕ) (n : ℕ) (r : Field) → r ≡ reading ws n Field.Refused f
+    → let x = fieldNumber r in
+    let v = fieldValue r in
+    Guarded (length ws) n (HandsNone x v) (Rest (view ws n) x v)
+
+abbrev pub TruthCall : (Bits → Truth) → (Bits → ℕ → ℕ → Type 0) → Type 0
+TruthCall f Rest =
+    (ws : List ℕ) (n : ℕ) (r : Truth) → r ≡ reading ws n Truth.Refused f
+    → let x = truthNumber r in
+    let v = truthValue r in
+    Guarded (length ws) n (HandsNone x v) (Rest (view ws n) x v)
+
+abbrev pub FoundCall : (Bits → Found) → (Bits → ℕ → ℕ → ℕ → Type 0) → Type 0
+FoundCall f Rest =
+    (ws : List ℕ) (n : ℕ) (r : Found) → r ≡ reading ws n Found.Refused f
+    → let x = foundNumber r in
+    let t = foundFlag r in
+    let v = foundValue r in
+    Guarded (length ws) n (FindsNone x t v) (Rest (view ws n) x t v)
 
 -- an operation whose results have space and hold no member past their words
 pub record Sound (op : Op) : Type 0 where
@@ -92,6 +166,10 @@ pub record Meets (op : Op) (rule : ℕ → Bits → Bits → Type 0) (no : ℕ �
   pub sound : Sound op
   pub why : (c : ℕ) (b : Bits) (e : Refusal) → op c b ≡ refused e → no c b (numberOf e)
 
+-- a call that changes nothing
+abbrev pub Unchanged : ℕ → Bits → Bits → Type 0
+Unchanged c b s = s ≡ b
+
 -- a call that is never refused
 abbrev pub Never : ℕ → Bits → ℕ → Type 0
 Never c b k = ⊥
@@ -99,6 +177,52 @@ Never c b k = ⊥
 -- 6, where the count n of the result is above the capacity
 abbrev pub Lacks : (Bits → ℕ) → ℕ → Bits → ℕ → Type 0
 Lacks n c b k = (k ≡ 6) × (c < n b)
+
+-- 6, where a result as the rule says has more words than there are
+abbrev pub LacksResult : (Bits → Bits → Type 0) → ℕ → Bits → ℕ → Type 0
+LacksResult rule c b k = (k ≡ 6) × ((s : Bits) × rule b s × (c < s .count))
+
+-- What a changing call answers and leaves, by its number x, its count m and the store's words ws' afterwards. Before there were n words in use of ws.
+
+-- refused with k: the count and every word are as they were
+pub record Kept (n : ℕ) (ws : List ℕ) (x m : ℕ) (ws' : List ℕ) (k : ℕ) : Type 0 where
+  pub number : x ≡ k
+  pub count : m ≡ n
+  pub words : ws' ≡ ws
+
+-- done: the store holds in m words what the rule says, and the other words follow
+pub record Made (rule : Bits → Type 0) (n : ℕ) (ws : List ℕ) (x m : ℕ) (ws' : List ℕ) : Type 0 where
+  pub number : x ≡ 0
+  pub made : rule (view ws' m)
+  pub inside : m ≤ length ws
+  pub words : SpaceRules ws n (view ws' m) ws'
+
+-- done, or refused with a number whose condition holds
+abbrev pub Ends : (Bits → Type 0) → (ℕ → Type 0) → ℕ → List ℕ → ℕ → ℕ → List ℕ → Type 0
+Ends rule why n ws x m ws' = Made rule n ws x m ws' ⊎ ((0 < x) × why x × Kept n ws x m ws' x)
+
+-- the rule and the conditions are an operation's, at the store's capacity and the bitmap b
+abbrev pub EndsAs : (ℕ → Bits → Bits → Type 0) → (ℕ → Bits → ℕ → Type 0) → Bits → List ℕ → ℕ → ℕ → List ℕ → Type 0
+EndsAs rule why b ws x m ws' = Ends (rule (length ws) b) (why (length ws) b) (b .count) ws x m ws'
+
+-- demands 1 and 2 of a call of any operation, from its contract
+abbrev pub ChangeMeans : Type 1
+ChangeMeans =
+    (op : Op) (rule : ℕ → Bits → Bits → Type 0) (why : ℕ → Bits → ℕ → Type 0) → Meets op rule why
+    → (ws ws' : List ℕ) (b : Bitmap) (r : Change) → Changes op ws b r ws'
+    → let x = changeNumber r in
+    let m = changeRecord r .count in
+    Guarded (length ws) (b .count) (Kept (b .count) ws x m ws') (EndsAs rule why (view ws (b .count)) ws x m ws')
+
+-- and with a second bitmap, whose store is looked at after the first
+abbrev pub BesideMeans : Type 1
+BesideMeans =
+    (op : Bits → Op) (rule : Bits → ℕ → Bits → Bits → Type 0) (why : Bits → ℕ → Bits → ℕ → Type 0) → ((o : Bits) → Bounded o → Meets (op o) (rule o) (why o))
+    → (os ws ws' : List ℕ) (n : ℕ) (b : Bitmap) (r : Change) → Changes (beside os n op) ws b r ws'
+    → let x = changeNumber r in
+    let m = changeRecord r .count in
+    Guarded (length ws) (b .count) (Kept (b .count) ws x m ws')
+    (Guarded (length os) n (Kept (b .count) ws x m ws') (EndsAs (rule (view os n)) (why (view os n)) (view ws (b .count)) ws x m ws'))
 
 -- calls in a row: the next call on the record and the store that a call left sees exactly what the operation made
 pub record Seen (op : Op) (ws : List ℕ) (b b' : Bitmap) (ws' : List ℕ) (s : Bits) : Type 0 where
@@ -108,4 +232,6 @@ pub record Seen (op : Op) (ws : List ℕ) (b b' : Bitmap) (ws' : List ℕ) (s : 
   pub inside : b' .count ≤ length ws'
 
 abbrev pub Chains : Type 0
-Chains = (op : Op) (ws ws' : List ℕ) (b b' : Bitmap) → Sound op → Changes op ws b (Done b') ws' → (s : Bits) × Seen op ws b b' ws' s
+Chains =
+    (op : Op) (ws ws' : List ℕ) (b : Bitmap) (r : Change) → Sound op → Changes op ws b r ws' → changeNumber r ≡ 0
+    → (s : Bits) × Seen op ws b (changeRecord r) ws' s

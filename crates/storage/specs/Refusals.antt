@@ -14,6 +14,8 @@ use Rattle.storage.specs.declared.Field.{Field}
 use Rattle.storage.specs.declared.Field.the-variants.{Is, Refused}
 use Rattle.storage.specs.declared.Truth.{Truth}
 use Rattle.storage.specs.declared.Truth.the-variants.{Is, Refused}
+use Rattle.storage.specs.declared.Guard.{Guard}
+use Rattle.storage.specs.declared.Guard.the-variants.{Pass, Stop}
 
 -- the numbers are 1 to this one
 abbrev pub lastNumber : ℕ
@@ -40,6 +42,12 @@ abbrev pub foundNumber : Found → ℕ
 foundNumber (At p) = 0
 foundNumber Nothing = 0
 foundNumber (Found.Refused e) = numberOf e
+
+-- 1 where something is found
+abbrev pub foundFlag : Found → ℕ
+foundFlag (At p) = 1
+foundFlag Nothing = 0
+foundFlag (Found.Refused e) = 0
 
 abbrev pub foundValue : Found → ℕ
 foundValue (At p) = p
@@ -77,3 +85,7 @@ changeNumber (Change.Refused e b) = numberOf e
 abbrev pub changeRecord : Change → Bitmap
 changeRecord (Done b) = b
 changeRecord (Change.Refused e b) = b
+
+abbrev pub guardNumber : Guard → ℕ
+guardNumber Pass = 0
+guardNumber (Stop e) = numberOf e

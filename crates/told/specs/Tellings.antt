@@ -1,11 +1,10 @@
 -- What a call answers, as four numbers: its number; a tag, 0 without a value, 1 with one, 2 where the call may have changed its store; the value, of a changing call the word count; a second value.
 use Prim.Native.Nat.{ℕ}
 use mathlib.Core.Path.{_≡_}
-use Rattle.storage.specs.Refusals.{numberOf, foundNumber, foundValue, numberNumber, numberValue, fieldNumber, fieldValue, truthNumber, truthValue, changeNumber, changeRecord}
+use Rattle.storage.specs.Refusals.{foundNumber, foundFlag, foundValue, guardNumber, numberNumber, numberValue, fieldNumber, fieldValue, truthNumber, truthValue, changeNumber, changeRecord}
 use Rattle.storage.specs.declared.Change.{Change}
 use Rattle.storage.specs.declared.Change.the-variants.{Done, Refused}
 use Rattle.storage.specs.declared.Found.{Found}
-use Rattle.storage.specs.declared.Found.the-variants.{At, Nothing, Refused}
 use Rattle.storage.specs.declared.Number.{Number}
 use Rattle.storage.specs.declared.Number.the-variants.{Is, Refused}
 use Rattle.storage.specs.declared.Field.{Field}
@@ -13,9 +12,8 @@ use Rattle.storage.specs.declared.Field.the-variants.{Is, Refused}
 use Rattle.storage.specs.declared.Truth.{Truth}
 use Rattle.storage.specs.declared.Truth.the-variants.{Is, Refused}
 use Rattle.storage.specs.declared.Guard.{Guard}
-use Rattle.storage.specs.declared.Guard.the-variants.{Pass, Stop}
+use Rattle.arch.specs.Scans.{wordFlag, wordIndex, wordThere}
 use Rattle.arch.specs.declared.FoundWord.{FoundWord}
-use Rattle.arch.specs.declared.FoundWord.the-variants.{At, Nothing}
 use Rattle.shape.specs.Shapes.{splitNumber, splitHead, splitTail}
 use Rattle.shape.specs.declared.Split.{Split}
 use Rattle.shape.specs.declared.Split.the-variants.{Done, Refused}
@@ -28,13 +26,8 @@ pub record Tells (r : Told) (n t v a : ℕ) : Type 0 where
   pub value : r .value ≡ v
   pub also : r .also ≡ a
 
-abbrev pub foundTag : Found → ℕ
-foundTag (Found.At i) = 1
-foundTag Found.Nothing = 0
-foundTag (Found.Refused e) = 0
-
 abbrev pub OfFound : Found → Told → Type 0
-OfFound a r = Tells r (foundNumber a) (foundTag a) (foundValue a) 0
+OfFound a r = Tells r (foundNumber a) (foundFlag a) (foundValue a) 0
 
 abbrev pub numberTag : Number → ℕ
 numberTag (Number.Is n) = 1
@@ -73,25 +66,9 @@ splitTag (Split.Refused e b) = 0
 abbrev pub OfSplit : Split → Told → Type 0
 OfSplit a r = Tells r (splitNumber a) (splitTag a) (splitHead a .count) (splitTail a)
 
-abbrev pub wordTag : FoundWord → ℕ
-wordTag (FoundWord.At k w) = 1
-wordTag FoundWord.Nothing = 0
-
-abbrev pub wordIndex : FoundWord → ℕ
-wordIndex (FoundWord.At k w) = k
-wordIndex FoundWord.Nothing = 0
-
-abbrev pub wordThere : FoundWord → ℕ
-wordThere (FoundWord.At k w) = w
-wordThere FoundWord.Nothing = 0
-
 -- a word that is found: its index, and the word
 abbrev pub OfFoundWord : FoundWord → Told → Type 0
-OfFoundWord a r = Tells r 0 (wordTag a) (wordIndex a) (wordThere a)
-
-abbrev pub guardNumber : Guard → ℕ
-guardNumber Pass = 0
-guardNumber (Stop e) = numberOf e
+OfFoundWord a r = Tells r 0 (wordFlag a) (wordIndex a) (wordThere a)
 
 abbrev pub OfGuard : Guard → Told → Type 0
 OfGuard a r = Tells r (guardNumber a) 0 0 0

@@ -1,25 +1,18 @@
--- A walk answers the least member from a place on, and refuses in order. Assumes nothing.
-use mathlib.Core.Path.{_≡_, sym, subst}
-use mathlib.Core.Bool.{Bool, false}
-use mathlib.Core.List.{List}
-use Prim.Native.Nat.{ℕ}
-use Rattle.storage.specs.Stores.{view, combined}
-use Rattle.storage.specs.Promises.{NextMember}
+-- The promise of specs/Promises. Assumes nothing.
+use mathlib.Core.Path.{refl}
+use Rattle.storage.specs.Refusals.{foundNumber, foundFlag, foundValue}
+use Rattle.storage.specs.Stores.{combined, nextFrom}
+use Rattle.storage.specs.Promises.{FindsNone, NextMember}
 use Rattle.storage.specs.declared.Found.the-variants.{Refused}
+use Rattle.storage.proofs.Outcomes.{bounded-combined}
 use Rattle.storage.proofs.Promises.{next-member}
-use Rattle.algebra.specs.Promises.{Accepted, isInBoth, FirstThenSecond}
-use Rattle.algebra.proofs.Readings.{both-viewed}
-use Rattle.algebra.proofs.Promises.{accepted, past, both-in-order}
+use Rattle.algebra.proofs.Promises.{both-means}
 use Rattle.walk.specs.Walks.{walkOf}
-use Rattle.walk.proofs.Walks.{isNext}
+use Rattle.walk.specs.Promises.{WalkMeans}
 
-pub walk-exact : (f : Bool → Bool → Bool) → f false false ≡ false → (ws : List ℕ) (n : ℕ) (os : List ℕ) (m i : ℕ) → Accepted ws n os m
-    → NextMember (isInBoth f ws n os m) i (walkOf f ws n os m i)
-unfolding walkOf combined view
-walk-exact f ff ws n os m i a =
-    subst (NextMember (isInBoth f ws n os m) i) (sym (both-viewed ws n os m Refused (isNext f i) (accepted a)))
-    (next-member (combined f (view ws n) (view os m)) (record { past = past f ff ws n os m }) i)
-
-pub walks-in-order : (f : Bool → Bool → Bool) (i : ℕ) → FirstThenSecond Refused (λ ws n os m. walkOf f ws n os m i)
-unfolding walkOf
-walks-in-order f i = both-in-order Refused (isNext f i)
+pub walk-means : WalkMeans
+unfolding walkOf combined
+walk-means f ff ws n os m i =
+    both-means Refused (λ b o. nextFrom (combined f b o) i) (λ r. FindsNone (foundNumber r) (foundFlag r) (foundValue r))
+    (λ b o r. NextMember (λ j. f (b .members j) (o .members j)) i (foundNumber r) (foundFlag r) (foundValue r)) (λ e. (refl, refl, refl))
+    (λ b o h k. next-member (combined f b o) (bounded-combined f ff b o h k) i) ws n os m

@@ -1,13 +1,13 @@
 -- Counts of members, the least, the greatest, and the member of a rank: what the definitions answer. Assumes nothing.
 use mathlib.Core.Path.{_≡_, refl, sym, ap, ap₂, _∙_}
 use mathlib.Core.Bool.{Bool, true, false, _&&_}
-use Prim.Native.Nat.{ℕ, zero, suc, _+_, _≤_, _<_}
+use Prim.Native.Nat.{ℕ, zero, suc, _+_, _-_, _≤_, _<_}
 use native.Mathlib.Nat.{add-suc, add-zero, not-suc-le-zero}
 use native.Mathlib.Omega.{arith}
 use borrow.Author.Tests.{eq-eqb, ne-eqb, eqb-true, eqb-false}
 use lib.Arith.{lt-of-le-ne}
 use lib.Dec.{eqb}
-use Rattle.word.specs.Sets.{choose, val, countBelow, leastFrom, topBelow, nth, Least, Top, Nth, Counts}
+use Rattle.word.specs.Sets.{choose, val, countBelow, leastFrom, topBelow, nth, Least, Top, Nth, Counts, Counted}
 use Rattle.word.proofs.Cases.{by-lt, by-eq, by-test, and-false}
 
 -- ---- how many members are below a number
@@ -44,6 +44,12 @@ unfolding countBelow
 count-none s zero h = refl
 count-none s (suc m) h = ap₂ (λ (b : Bool) (x : ℕ). val b + x) (h m (omega arith)) (count-none s m (λ i l. h i (omega arith)))
 
+-- a set with no member from a on has no more below e
+pub count-flat : (s : ℕ → Bool) (a e : ℕ) → a ≤ e → ((i : ℕ) → a ≤ i → s i ≡ false) → countBelow s e ≡ countBelow s a
+count-flat s a e h z =
+    ap (countBelow s) (omega arith) ∙ count-add s a (e - a)
+    ∙ omega (arith, count-none (λ j. s (a + j)) (e - a) (λ j l. z (a + j) (omega arith)))
+
 -- a number past a member has more below it
 pub count-more : (s : ℕ → Bool) (p m : ℕ) → p < m → s p ≡ true → countBelow s p < countBelow s m
 unfolding countBelow
@@ -74,6 +80,9 @@ counts-is s f c (suc m) =
     by-test (s m)
     (λ e. c .member m e ∙ ap suc (counts-is s f c m) ∙ sym (counts s .member m e))
     (λ e. c .other m e ∙ counts-is s f c m ∙ sym (counts s .other m e))
+
+pub counted : (s : ℕ → Bool) (k v : ℕ) → countBelow s k ≡ v → Counted s k v
+counted s k v e = record { some = (countBelow s, counts s, e); all = λ count c. counts-is s count c k ∙ e }
 
 -- ---- the least from a place on
 

@@ -65,3 +65,8 @@ pub record Counts (s : ℕ → Bool) (count : ℕ → ℕ) : Type 0 where
   pub none : count 0 ≡ 0
   pub member : (m : ℕ) → s m ≡ true → count (suc m) ≡ suc (count m)
   pub other : (m : ℕ) → s m ≡ false → count (suc m) ≡ count m
+
+-- v members are below k: something counts them, and whatever does comes to v
+pub record Counted (s : ℕ → Bool) (k v : ℕ) : Type 0 where
+  pub some : (count : ℕ → ℕ) × Counts s count × (count k ≡ v)
+  pub all : (count : ℕ → ℕ) → Counts s count → count k ≡ v
