@@ -11,16 +11,16 @@ use Rattle.word.proofs.Cases.{by-lt, by-eq, or-false, and-false, xor-true, xor-
 use Rattle.word.proofs.Sets.{top, top-is}
 use Rattle.storage.specs.Refusals.{numberOf}
 use Rattle.storage.specs.Stores.{Bits, Bounded, refused, done, within, flipped, wordsFor}
-use Rattle.storage.specs.Promises.{Sound, Meets, Never, Lacks}
+use Rattle.storage.specs.Promises.{Sound}
 use Rattle.storage.specs.declared.Refusal.{Refusal}
 use Rattle.storage.proofs.Checks.{within-done}
-use Rattle.storage.proofs.Outcomes.{same, never, which, lacks, bounded-flipped, sound-within, sound-done}
+use Rattle.storage.proofs.Outcomes.{same, never, which, lacks, bounded-flipped, sound-within, sound-done, meets-nothing}
 use Rattle.storage.proofs.Trims.{bounded-trimmed}
 use Rattle.storage.proofs.Promises.{least-count}
 use Rattle.shift.specs.Shifts.{movedDown}
 use Rattle.shift.proofs.Moves.{moved-up, moved-in}
 use Rattle.shape.specs.Shapes.{topOf, cutAt, toggling, togglingRegion, raising, lowered, lowering, truncated, truncating, resizing, joined, appending}
-use Rattle.shape.specs.Promises.{FlippedFrom, IsTop, RaisedBy, TopPasses, LoweredBy, CutBelow, TruncatedTo, ResizedTo, JoinedWith}
+use Rattle.shape.specs.Promises.{FlippedFrom, Toggles, TogglesRegion, RegionUnchanged, IsTop, RaisedBy, TopPasses, Raises, LoweredBy, Lowers, CutBelow, TruncatedTo, Truncates, ResizedTo, Resizes, JoinedWith, Joins}
 use Rattle.shape.proofs.Toggles.{flippedRegion, region-none, region-over, region-put}
 use Rattle.shape.proofs.Moves.{raised, raise-none, raise-over, raise-put}
 
@@ -50,10 +50,7 @@ region-sound i k =
     })
     (λ l. sound-within (togglingRegion i k) (flippedRegion i k) (λ c b. region-put i k c b some l) (bounded-region i k some)))
 
--- 4 exactly where the last index passes 2 ^ 64 - 1, then 6 for lack of space; k 0 does nothing, whatever i
-pub toggles-region : (i k : ℕ) → (k ≡ 0 → ⊥)
-    → Meets (togglingRegion i k) (λ c b s. (i + k ≤ 2 ^ 64) × FlippedFrom i k b s)
-    (λ c b m. ((m ≡ 4) × (2 ^ 64 < i + k)) ⊎ ((m ≡ 6) × (i + k ≤ 2 ^ 64) × (c < max (b .count) ((i + k - 1) / 64 + 1))))
+pub toggles-region : TogglesRegion
 toggles-region i k some = record {
   made = λ c b s e.
       by-lt (2 ^ 64) (i + k)
@@ -69,7 +66,10 @@ toggles-region i k some = record {
 pub region-nothing : (i c : ℕ) (b : Bits) → togglingRegion i 0 c b ≡ done b
 region-nothing i c b = region-none i 0 c b refl
 
-pub toggles : (i : ℕ) → Meets (toggling i) (λ c b s. FlippedFrom i 1 b s) (Lacks (λ b. max (b .count) (i / 64 + 1)))
+pub region-unchanged : RegionUnchanged
+region-unchanged i = meets-nothing (togglingRegion i 0) (region-nothing i)
+
+pub toggles : Toggles
 unfolding toggling
 toggles i = record {
   made = λ c b s e. subst (FlippedFrom i 1 b) (within-done c _ s e .0) (one b);
@@ -144,7 +144,7 @@ raising-sound k = record {
         (λ o. let w = within-done c (raised k b) s (sym (raise-put k c b z o) ∙ q) in
         (subst (λ (x : Bits). x .count ≤ c) (w .0) (w .1), subst Bounded (w .0) (bounded-raised k b h))))
 
-pub raises : (k : ℕ) → Meets (raising k) (λ c b s. Bounded b → RaisedBy k b s) (λ c b m. Bounded b → TopPasses k c b m)
+pub raises : Raises
 raises k = record {
   made = λ c b s e h. made c b s e h;
   sound = raising-sound k;
@@ -200,7 +200,7 @@ lowers-by k b = record {
   count = least-count (λ i. b .members (i + k)) (b .count);
 }
 
-bounded-lowered : (k : ℕ) (b : Bits) → Bounded b → Bounded (lowered k b)
+pub bounded-lowered : (k : ℕ) (b : Bits) → Bounded b → Bounded (lowered k b)
 unfolding lowered movedDown
 bounded-lowered k b h = bounded-trimmed (record { members = λ i. b .members (i + k); count = b .count }) (record { past = λ i l. h .past (i + k) (omega arith) })
 
@@ -208,7 +208,7 @@ lowered-le : (k : ℕ) (b : Bits) → lowered k b .count ≤ b .count
 unfolding lowered movedDown
 lowered-le k b = least-count (λ i. b .members (i + k)) (b .count) .low
 
-pub lowers : (k : ℕ) → Meets (lowering k) (λ c b s. LoweredBy k b s) Never
+pub lowers : Lowers
 unfolding lowering
 lowers k = record {
   made = λ c b s e. subst (LoweredBy k b) (same e) (lowers-by k b);
@@ -228,20 +228,19 @@ pub truncates-to : (k : ℕ) (b : Bits) → TruncatedTo k b (truncated k b)
 unfolding truncated
 truncates-to k b = record { cut = record { below = cuts k 0 b .below; from = cuts k 0 b .from }; count = least-count (cutAt k b .members) (b .count) }
 
-bounded-cut : (k : ℕ) (b : Bits) → Bounded b → (i : ℕ) → 64 * b .count ≤ i → cutAt k b .members i ≡ false
-bounded-cut k b h i l = ap (λ (t : Bool). ltb i k && t) (h .past i l) ∙ and-false (ltb i k)
+pub bounded-truncated : (k : ℕ) (b : Bits) → Bounded b → Bounded (truncated k b)
+unfolding truncated
+bounded-truncated k b h = bounded-trimmed (cutAt k b) (record { past = λ i l. ap (λ (t : Bool). ltb i k && t) (h .past i l) ∙ and-false (ltb i k) })
 
-pub truncates : (k : ℕ) → Meets (truncating k) (λ c b s. TruncatedTo k b s) Never
-unfolding truncating truncated
+pub truncates : Truncates
+unfolding truncating
 truncates k = record {
   made = λ c b s e. subst (TruncatedTo k b) (same e) (truncates-to k b);
-  sound =
-      sound-done (truncating k) (truncated k) (λ c b. refl) (λ b. least-count (cutAt k b .members) (b .count) .low)
-      (λ b h. bounded-trimmed (cutAt k b) (record { past = bounded-cut k b h }));
+  sound = sound-done (truncating k) (truncated k) (λ c b. refl) (λ b. truncates-to k b .count .low) (bounded-truncated k);
   why = λ c b e q. never q;
 }
 
-pub resizes : (k : ℕ) → Meets (resizing k) (λ c b s. ResizedTo k b s) (Lacks (λ b. (k + 63) / 64))
+pub resizes : Resizes
 unfolding resizing wordsFor
 resizes k = record {
   made = λ c b s e. subst (ResizedTo k b) (within-done c _ s e .0) (record { cut = cuts k ((k + 63) / 64) b; holds = omega arith; least = λ n l. omega arith });
@@ -253,7 +252,7 @@ resizes k = record {
 
 -- ---- joined
 
-pub joins : (o : Bits) → Bounded o → Meets (appending o) (λ c b s. Bounded b → JoinedWith o b s) (Lacks (λ b. b .count + o .count))
+pub joins : Joins
 unfolding appending
 joins o k = record {
   made = λ c b s e h. subst (JoinedWith o b) (within-done c _ s e .0) (record {
