@@ -1,26 +1,121 @@
 -- The promises of specs/Promises. Assumes nothing.
-use Prim.Native.Nat.{ℕ, _<_}
-use mathlib.Core.Path.{_≡_, refl, ap, _∙_}
-use mathlib.Core.Bool.{Bool, true, false}
+use Prim.Native.Nat.{ℕ, _≤_, _<_}
+use mathlib.Core.Path.{_≡_, refl, sym, ap, _∙_, subst}
+use mathlib.Core.Bool.{Bool, true, false, not}
 use mathlib.Core.List.{List}
+use mathlib.Core.Logic.{_⊎_, inl, inr}
 use native.Mathlib.Omega.{arith}
 use lib.ListN.{length}
+use borrow.Author.Tests.{ne-eqb}
 use Rattle.word.proofs.Cases.{by-lt}
+use Rattle.storage.specs.Refusals.{foundNumber, foundFlag, foundValue, numberNumber, numberValue, fieldNumber, fieldValue, truthNumber, truthValue}
 use Rattle.storage.specs.Stores.{Op, limit, view}
+use Rattle.storage.specs.Promises.{Guarded, HandsNone, FindsNone, Kept, EndsAs}
+use Rattle.storage.specs.declared.Found.{Found}
+use Rattle.storage.specs.declared.Found.the-variants.{Refused}
+use Rattle.storage.specs.declared.Number.{Number}
+use Rattle.storage.specs.declared.Number.the-variants.{Refused}
+use Rattle.storage.specs.declared.Field.{Field}
+use Rattle.storage.specs.declared.Field.the-variants.{Refused}
+use Rattle.storage.specs.declared.Truth.{Truth}
+use Rattle.storage.specs.declared.Truth.the-variants.{Refused}
+use Rattle.storage.proofs.Promises as storage
+use Rattle.algebra.specs.Promises.{GuardedBoth}
+use Rattle.algebra.proofs.Promises as algebra
+use Rattle.combine.proofs.Promises as combine
+use Rattle.shape.specs.Promises.{SplitMeans}
+use Rattle.shape.proofs.Halves as halves
+use Rattle.print.specs.Promises.{NotPrinted, TextPut, PrintsText}
 use Rattle.storage.specs.declared.Bitmap.{Bitmap}
-use Rattle.print.specs.Texts.{textOf}
 use Rattle.print.proofs.Promises.{prints-text}
 use Rattle.sheet.specs.Writer.{started, added, requested}
 use Rattle.sheet.specs.Promises.{Leaves}
 use Rattle.sheet.specs.declared.Fields.{Fields}
 use Rattle.sheet.specs.declared.Added.{Added}
 use Rattle.sheet.specs.declared.Added.the-variants.{Done, Refused}
+use Rattle.sheet.proofs.Readings.{reading-means}
 use Rattle.sheet.proofs.Writings.{starting-means, adding-means}
 use Rattle.answers.specs.Answers.{AddedOut}
-use Rattle.storage.proofs.Promises as storage
-use Rattle.shape.proofs.Halves as halves
 use Rattle.capi.specs.Calls.{Changed, Split, Printed, Written}
-use Rattle.capi.specs.Promises.{RefusalKeeps}
+use Rattle.capi.specs.Promises.{ChangesMean, ReadingsMean, OthersMean, TruthIn, RefusalKeeps}
+
+-- ---- what crosses is what the answer is
+
+carry : (P : ℕ → ℕ → Type 0) {x v r w : ℕ} → r ≡ x → w ≡ v → P x v → P r w
+carry P {v = v} {r = r} p q h = subst (P r) (sym q) (subst (λ (y : ℕ). P y v) (sym p) h)
+
+carry-three : (P : ℕ → ℕ → ℕ → Type 0) {x f v r g w : ℕ} → r ≡ x → g ≡ f → w ≡ v → P x f v → P r g w
+carry-three P {f = f} {v = v} {r = r} p q s h = carry (P r) q s (subst (λ (y : ℕ). P y f v) (sym p) h)
+
+-- ---- changing calls
+
+pub changes-mean : ChangesMean
+changes-mean = record {
+  alone = λ op rule why meets ws ws' n r n' h.
+      carry (λ x m. Guarded (length ws) n (Kept n ws x m ws') (EndsAs rule why (view ws n) ws x m ws')) (h .out .number) (h .out .count)
+      (storage.change-means op rule why meets ws ws' (record { count = n }) _ (record { answers = refl; leaves = h .leaves }));
+  with-one = λ op rule why meets os ws ws' m n r n' h.
+      carry
+      (λ x c. Guarded (length ws) n (Kept n ws x c ws') (Guarded (length os) m (Kept n ws x c ws') (EndsAs (rule (view os m)) (why (view os m)) (view ws n) ws x c ws')))
+      (h .out .number) (h .out .count)
+      (storage.beside-means op rule why meets os ws ws' m (record { count = n }) _ (record { answers = refl; leaves = h .leaves }));
+  with-two = λ op rule why meets xs ys ws ws' k m n r n' h.
+      carry
+      (λ x c. Guarded (length ws) n (Kept n ws x c ws')
+      (Guarded (length xs) k (Kept n ws x c ws')
+      (Guarded (length ys) m (Kept n ws x c ws') (EndsAs (rule (view xs k) (view ys m)) (why (view xs k) (view ys m)) (view ws n) ws x c ws'))))
+      (h .out .number) (h .out .count)
+      (combine.both-means op rule why meets xs k ys m ws (record { count = n }) _ ws' (record { answers = refl; leaves = h .leaves }));
+}
+
+-- ---- reading calls
+
+pub readings-mean : ReadingsMean
+readings-mean = record {
+  found = λ rule g holds ws n r f v o.
+      carry-three (λ x t y. Guarded (length ws) n (FindsNone x t y) (rule (view ws n) x t y)) (o .number) (o .found) (o .place)
+      (storage.reading-means Found.Refused g (λ a. FindsNone (foundNumber a) (foundFlag a) (foundValue a))
+      (λ b a. rule b (foundNumber a) (foundFlag a) (foundValue a)) (λ e. (refl, refl, refl)) holds ws n _ refl);
+  number = λ rule g holds ws n r v o.
+      carry (λ x y. Guarded (length ws) n (HandsNone x y) (rule (view ws n) x y)) (o .number) (o .value)
+      (storage.reading-means Number.Refused g (λ a. HandsNone (numberNumber a) (numberValue a)) (λ b a. rule b (numberNumber a) (numberValue a)) (λ e. (refl, refl)) holds ws n _ refl);
+  field = λ rule g holds ws n r v o.
+      carry (λ x y. Guarded (length ws) n (HandsNone x y) (rule (view ws n) x y)) (o .number) (o .value)
+      (storage.reading-means Field.Refused g (λ a. HandsNone (fieldNumber a) (fieldValue a)) (λ b a. rule b (fieldNumber a) (fieldValue a)) (λ e. (refl, refl)) holds ws n _ refl);
+  truth = λ rule g holds ws n r v o.
+      carry (λ x y. Guarded (length ws) n (HandsNone x y) (rule (view ws n) x y)) (o .number) (o .value)
+      (storage.reading-means Truth.Refused g (λ a. HandsNone (truthNumber a) (truthValue a)) (λ b a. rule b (truthNumber a) (truthValue a)) (λ e. (refl, refl)) holds ws n _ refl);
+  found-both = λ rule g holds ws os n m r f v o.
+      carry-three (λ x t y. GuardedBoth (length ws) n (length os) m (FindsNone x t y) (rule (view ws n) (view os m) x t y)) (o .number) (o .found) (o .place)
+      (algebra.both-means Found.Refused g (λ a. FindsNone (foundNumber a) (foundFlag a) (foundValue a))
+      (λ b c a. rule b c (foundNumber a) (foundFlag a) (foundValue a)) (λ e. (refl, refl, refl)) holds ws n os m _ refl);
+  number-both = λ rule g holds ws os n m r v o.
+      carry (λ x y. GuardedBoth (length ws) n (length os) m (HandsNone x y) (rule (view ws n) (view os m) x y)) (o .number) (o .value)
+      (algebra.both-means Number.Refused g (λ a. HandsNone (numberNumber a) (numberValue a)) (λ b c a. rule b c (numberNumber a) (numberValue a)) (λ e. (refl, refl)) holds ws n os m _ refl);
+  truth-both = λ rule g holds ws os n m r v o.
+      carry (λ x y. GuardedBoth (length ws) n (length os) m (HandsNone x y) (rule (view ws n) (view os m) x y)) (o .number) (o .value)
+      (algebra.both-means Truth.Refused g (λ a. HandsNone (truthNumber a) (truthValue a)) (λ b c a. rule b c (truthNumber a) (truthValue a)) (λ e. (refl, refl)) holds ws n os m _ refl);
+}
+
+-- ---- the other calls
+
+pub others-mean : OthersMean
+others-mean = record {
+  split = λ at ws ts ws' ts' n r n' t h.
+      carry-three (λ x m k. SplitMeans at ws n ts x m k ws' ts') (h .out .number) (h .out .count) (h .out .tail)
+      (halves.split-means at ws (record { count = n }) ts _ ws' ts' (record { answers = refl; head = h .head; tail = h .tail }));
+  print = λ ws bs bs' n r v h.
+      carry (λ x y. PrintsText ws n bs x y bs') (h .out .number) (h .out .value) (prints-text ws n bs _ bs' (record { answers = refl; leaves = h .leaves }));
+  read = λ e sheet ws res res' n r k m h. (_, h .out, reading-means e sheet ws n res _ res' (record { answers = refl; leaves = h .leaves }));
+  start = λ bs bs' n r n' h. (_, h .out, starting-means bs _ bs' (record { answers = refl; leaves = h .leaves }));
+  add-duty = λ bs bs' payload f n kind r n' h. (_, h .out, adding-means .duties bs n kind f payload _ bs' (record { answers = refl; leaves = h .leaves }));
+  add-remark = λ bs bs' payload f n kind r n' h. (_, h .out, adding-means .remarks bs n kind f payload _ bs' (record { answers = refl; leaves = h .leaves }));
+}
+
+pub truth-in : TruthIn
+truth-in = record { zero = refl; other = λ v h. ap not (ne-eqb v 0 (omega arith)) }
+
+-- ---- a refused call
 
 change : (op : Op) (ws ws' : List ℕ) (n r n' : ℕ) → Changed op ws n r ws' n' → 0 < r → (n' ≡ n) × (ws' ≡ ws)
 change op ws ws' n r n' h p =
@@ -34,10 +129,12 @@ split at ws ts ws' ts' n r n' t h p =
 
 print : (ws bs bs' : List ℕ) (n r v : ℕ) → Printed ws n bs r bs' v → 0 < r → bs' ≡ bs
 print ws bs bs' n r v h p =
-    let q = prints-text ws n bs _ bs' (record { answers = refl; leaves = h .leaves }) in
-    by-lt limit (length ws) (λ l. q .long l .1)
-    (λ l. by-lt (length ws) n (λ m. q .over l m .1)
-    (λ m. by-lt (length bs) (length (textOf (view ws n))) (λ s. q .short l m s .1) (λ s. absurd (omega (arith, h .out .number, q .done l m s .0)))))
+    let q = others-mean .print ws bs bs' n r v h in
+    by-lt limit (length ws) (λ l. q .long l .bytes) (λ l. by-lt (length ws) n (λ m. q .over l m .bytes) (λ m. ends (q .rest l m .2)))
+  where
+    ends : {t : List ℕ} → ((length t ≤ length bs) × TextPut t bs r v bs') ⊎ ((length bs < length t) × NotPrinted bs r v bs' 6) → bs' ≡ bs
+    ends (inl x) = absurd (omega (arith, x .1 .number))
+    ends (inr x) = x .1 .bytes
 
 kept : (a : Added) (bs bs' : List ℕ) (n r n' : ℕ) → AddedOut a n r n' → Leaves bs a bs' → 0 < r → (n' ≡ n) × (bs' ≡ bs)
 kept (Done m) bs bs' n r n' o k p = absurd (omega (arith, o .number))

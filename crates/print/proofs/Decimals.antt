@@ -1,23 +1,24 @@
 -- The digits of a number. Assumes nothing.
-use mathlib.Core.Path.{_≡_, refl, sym, ap, ap₂, _∙_, subst}
-use mathlib.Core.Bool.{Bool, true, false, _&&_}
+use mathlib.Core.Path.{_≡_, refl, sym, ap, _∙_, subst}
+use mathlib.Core.Bool.{Bool, true, false}
 use mathlib.Core.List.{List, [], _∷_, _++_}
 use Prim.Native.Nat.{ℕ, zero, suc, _+_, _*_, _/_, _%_, _^_, _≤_, _<_}
 use native.Mathlib.Nat.{pow-suc}
 use native.Mathlib.Omega.{arith}
 use lib.ListN.{length, length-append}
 use lib.Dec.{ltb}
-use borrow.Author.Tests.{lt-ltb, le-ltb, le-leb, ltb-true, ltb-false}
+use borrow.Author.Tests.{lt-ltb, le-ltb, ltb-true, ltb-false}
 use Rattle.word.specs.Sets.{choose}
 use Rattle.word.proofs.Cases.{by-lt}
-use Rattle.text.specs.Lists.{zeroDigit, digit, Digits, one, more}
+use Rattle.text.specs.Lists.{zeroDigit}
+use Rattle.text.specs.Grammar.{Digit, Digits, one, more}
 use Rattle.print.specs.Texts.{decimalFrom, decimal}
 use Rattle.text.proofs.Steps.{chosen, other}
 
 -- ---- they mean the number
 
-digit-of : (n : ℕ) → digit (zeroDigit + n % 10) ≡ true
-digit-of n = ap₂ _&&_ (le-leb 48 (48 + n % 10) (omega arith)) (le-leb (48 + n % 10) 57 (omega arith))
+digit-of : (n : ℕ) → Digit (zeroDigit + n % 10)
+digit-of n = (omega arith, omega arith)
 
 last-digit : (n v : ℕ) → v ≡ n % 10 → Digits ((zeroDigit + n % 10) ∷ []) v
 last-digit n v e = subst (Digits ((zeroDigit + n % 10) ∷ [])) (omega arith) (one (digit-of n))

@@ -2,6 +2,7 @@
 use mathlib.Core.Path.{_≡_, refl, sym, ap, _∙_, subst}
 use mathlib.Core.Bool.{Bool, true, false, false≢true}
 use mathlib.Core.List.{List, [], _∷_, _++_}
+use mathlib.Core.Logic.{inl, inr}
 use Prim.Native.Nat.{ℕ, zero, suc, _+_, _-_, _*_, _^_, _≤_, _<_}
 use native.Mathlib.Nat.{pow-suc}
 use native.Mathlib.Omega.{arith}
@@ -11,22 +12,25 @@ use lib.Seq.{take-at, drop-at}
 use borrow.Author.Tests.{le-leb, lt-leb}
 use Rattle.word.specs.Sets.{choose}
 use Rattle.word.proofs.Cases.{by-lt}
-use Rattle.storage.specs.Refusals.{numberNumber, numberValue}
-use Rattle.storage.specs.Stores.{Bits, Bounded, Outcome, refused, done, limit, view, reading, trimmedCount, trimmed, outcome, answer, store}
-use Rattle.storage.specs.declared.Refusal.the-variants.{NoSpace, NotList}
+use Rattle.storage.specs.Refusals.{numberOf, numberNumber, numberValue, changeNumber, changeRecord}
+use Rattle.storage.specs.Stores.{Bits, Outcome, refused, done, limit, view, reading, trimmedCount, trimmed, outcome, answer, store}
+use Rattle.storage.specs.Promises.{LeastCount}
+use Rattle.storage.specs.declared.Refusal.{Refusal}
+use Rattle.storage.specs.declared.Refusal.the-variants.{StoreTooLong, CountOverStore, NoSpace, NotList}
 use Rattle.storage.specs.declared.Number.{Number}
-use Rattle.storage.specs.declared.Number.the-variants.{Is}
+use Rattle.storage.specs.declared.Number.the-variants.{Is, Refused}
+use Rattle.storage.specs.declared.Change.{Change}
 use Rattle.storage.specs.declared.Change.the-variants.{Done}
 use Rattle.storage.proofs.Checks.{checked-ok, checked-long, checked-over}
 use Rattle.storage.proofs.Views.{view-count, bounded-view}
 use Rattle.storage.proofs.Stores.{view-written}
 use Rattle.storage.proofs.Trims.{bounded-trimmed}
-use Rattle.text.specs.Lists as g
-use Rattle.text.specs.Lists.{plain, Range, covers}
+use Rattle.storage.proofs.Promises.{least-count}
+use Rattle.text.specs.Lists.{plain, Range, range, covers}
+use Rattle.text.specs.Grammar as g
 use Rattle.text.specs.Readings.{empty, token, reads, notList, parsed, parse, readingList}
 use Rattle.print.specs.Texts.{runs, decimal, text, textOf, fitted, replaced, Prints}
-use Rattle.print.specs.Promises.{Shortest, Runs, none, more, PrintsRuns, PrintedRuns, PrintsOne, PrintsText, TextOf, ReadsBack}
-use Rattle.text.proofs.Accepts.{digit-low}
+use Rattle.print.specs.Promises.{PrintsShortest, Runs, none, more, PrintsRuns, PrintedRuns, PrintsOne, NotPrinted, TextPut, PrintsText, WriteListMeans, TextMeans, ReadsBack}
 use Rattle.print.proofs.Decimals.{decimal-digits, digits-most}
 use Rattle.print.proofs.Printed.{runs-printed, printed-only}
 use Rattle.print.proofs.Runs.{runs-are, runs-cover}
@@ -37,13 +41,13 @@ use Rattle.text.proofs.Promises.{covers-within, within-covers}
 -- ---- numbers
 
 digits-bound : {u : List ℕ} {v : ℕ} → g.Digits u v → (0 < length u) × (v < 10 ^ length u)
-digits-bound (g.one {c = c} e) = (omega arith, omega (arith, digit-low c e))
+digits-bound (g.one {c = c} e) = (omega arith, omega (arith, e .1))
 digits-bound (g.more {t = t} {v = v} c d e) =
     let i = digits-bound d in
     let q : length (t ++ c ∷ []) ≡ suc (length t) = length-append t (c ∷ []) ∙ omega arith in
-    (omega (arith, q), subst (λ (k : ℕ). v * 10 + (c - 48) < 10 ^ k) (sym q) (omega (arith, digit-low c e, i .1, pow-suc 10 (length t))))
+    (omega (arith, q), subst (λ (k : ℕ). 10 * v + (c - 48) < 10 ^ k) (sym q) (omega (arith, e .1, i .1, pow-suc 10 (length t))))
 
-pub shortest : (n : ℕ) → Shortest n (decimal n)
+pub shortest : PrintsShortest
 shortest n = record { means = decimal-digits n; least = λ u d. go (length u) (digits-bound d) }
   where
     go : (k : ℕ) → (0 < k) × (n < 10 ^ k) → length (decimal n) ≤ k
@@ -57,7 +61,7 @@ runs-only s i [] [] (none f) (none h) = refl
 runs-only s i [] (q ∷ qs) (none f) (more a b h m z x) = absurd (false≢true (sym (f (q .low) a) ∙ m (q .low) (omega arith) b))
 runs-only s i (r ∷ rs) [] (more a b f m z x) (none h) = absurd (false≢true (sym (h (r .low) a) ∙ m (r .low) (omega arith) b))
 runs-only s i (r ∷ rs) (q ∷ qs) (more a b f m z x) (more a' b' f' m' z' x') =
-    (λ k. g.range (low k) (high k) ∷ runs-only s (r .high + 1) rs qs x (subst (λ (n : ℕ). Runs s n qs) (omega (arith, high)) x') k)
+    (λ k. range (low k) (high k) ∷ runs-only s (r .high + 1) rs qs x (subst (λ (n : ℕ). Runs s n qs) (omega (arith, high)) x') k)
   where
     low : r .low ≡ q .low
     low =
@@ -71,7 +75,7 @@ runs-only s i (r ∷ rs) (q ∷ qs) (more a b f m z x) (more a' b' f' m' z' x') 
         (λ h. absurd (false≢true (sym z ∙ m' (r .high + 1) (omega (arith, low)) (omega arith))))
         (λ h. by-lt (q .high) (r .high) (λ l. absurd (false≢true (sym z' ∙ m (q .high + 1) (omega (arith, low)) (omega arith)))) (λ l. omega arith))
 
-pub prints-runs : (b : Bits) → Bounded b → PrintsRuns b
+pub prints-runs : PrintsRuns
 prints-runs b h = record {
   maximal = runs-are b h;
   cover = λ i.
@@ -82,7 +86,7 @@ prints-runs b h = record {
 
 -- ---- the text of a bitmap
 
-pub prints-one : (b : Bits) → Bounded b → PrintsOne b
+pub prints-one : PrintsOne
 prints-one b h t =
     let has = runs-are b h in (
       λ x. printed-only (x .2) ∙ ap text (runs-only (b .members) 0 (x .0) (runs b) (x .1) has),
@@ -97,7 +101,7 @@ none-parsed : parse [] ≡ notList
 unfolding parse reads parsed token empty
 none-parsed = refl
 
-pub text-of : (b : Bits) → Bounded b → b .count ≤ limit → TextOf b
+pub text-of : TextMeans
 text-of b h small = record {
   empty = prints-nothing b h small;
   refused = λ c old. (NotList, list-is [] c old notList none-plain none-parsed, refl);
@@ -120,54 +124,76 @@ module _ (ws : List ℕ) (n : ℕ) (out : List ℕ) (r : Number) (out' : List �
       q : leb (length t) (length out) ≡ true
       q = le-leb (length t) (length out) l
 
-  pub prints-text : PrintsText ws n out r out'
+  stopped : (e : Refusal) → r ≡ Number.Refused e → out' ≡ out → NotPrinted out (numberNumber r) (numberValue r) out' (numberOf e)
+  stopped e q w = record { hands = (ap numberNumber q, ap numberValue q); bytes = w }
+
+  lacking : length ws ≤ limit → n ≤ length ws → length out < length t → NotPrinted out (numberNumber r) (numberValue r) out' 6
   unfolding reading
-  prints-text = record {
-    long = λ h. (
-      ap numberNumber (p .answers ∙ checked-long (length ws) n Number.Refused (fitted t out) h),
-      p .leaves ∙ checked-long (length ws) n (λ e. out) (replaced t out) h,
+  lacking h k l =
+      stopped NoSpace
+      (p .answers ∙ checked-ok (length ws) n Number.Refused (fitted t out) h k ∙ ap (λ (x : Bool). choose x (Is (length t)) (Number.Refused NoSpace)) q)
+      (p .leaves ∙ checked-ok (length ws) n (λ e. out) (replaced t out) h k ∙ ap (λ (x : Bool). choose x (t ++ drop (length t) out) out) q)
+    where
+      q : leb (length t) (length out) ≡ false
+      q = lt-leb (length t) (length out) l
+
+  pub text-put : length ws ≤ limit → n ≤ length ws → length t ≤ length out → TextPut t out (numberNumber r) (numberValue r) out'
+  text-put h k l =
+      let f = fits h k l in
+      let v : numberValue r ≡ length t = ap numberValue (f .0) in
+      record {
+        number = ap numberNumber (f .0);
+        value = v;
+        front = ap (take (numberValue r)) (f .1) ∙ take-at t (drop (length t) out) (numberValue r) (sym v);
+        past = ap (drop (numberValue r)) (f .1) ∙ drop-at t (drop (length t) out) (numberValue r) (sym v) ∙ ap (λ (m : ℕ). drop m out) (sym v);
+      }
+
+  call-means : PrintsText ws n out (numberNumber r) (numberValue r) out'
+  unfolding reading
+  call-means = record {
+    long = λ h.
+        stopped StoreTooLong (p .answers ∙ checked-long (length ws) n Number.Refused (fitted t out) h)
+        (p .leaves ∙ checked-long (length ws) n (λ e. out) (replaced t out) h);
+    over = λ h k.
+        stopped CountOverStore (p .answers ∙ checked-over (length ws) n Number.Refused (fitted t out) h k)
+        (p .leaves ∙ checked-over (length ws) n (λ e. out) (replaced t out) h k);
+    rest = λ h k. (
+      t,
+      prints-one (view ws n) (bounded-view ws n) t .1 refl,
+      by-lt (length out) (length t) (λ l. inr (l, lacking h k l)) (λ l. inl (l, text-put h k l)),
     );
-    over = λ h k. (
-      ap numberNumber (p .answers ∙ checked-over (length ws) n Number.Refused (fitted t out) h k),
-      p .leaves ∙ checked-over (length ws) n (λ e. out) (replaced t out) h k,
-    );
-    short = λ h k l. (
-      ap numberNumber
-          (p .answers ∙ checked-ok (length ws) n Number.Refused (fitted t out) h k
-          ∙ ap (λ (x : Bool). choose x (Is (length t)) (Number.Refused NoSpace)) (lt-leb (length t) (length out) l)),
-      p .leaves ∙ checked-ok (length ws) n (λ e. out) (replaced t out) h k
-          ∙ ap (λ (x : Bool). choose x (t ++ drop (length t) out) out) (lt-leb (length t) (length out) l),
-    );
-    done = λ h k l.
-        let f = fits h k l in
-        let v : numberValue r ≡ length t = ap numberValue (f .0) in (
-          ap numberNumber (f .0),
-          v,
-          ap (take (numberValue r)) (f .1) ∙ take-at t (drop (length t) out) (numberValue r) (sym v),
-          ap (drop (numberValue r)) (f .1) ∙ drop-at t (drop (length t) out) (numberValue r) (sym v) ∙ ap (λ (m : ℕ). drop m out) (sym v),
-        );
   }
+
+  pub text-fits : length ws ≤ limit → n ≤ length ws → numberNumber r ≡ 0 → length t ≤ length out
+  text-fits h k z = by-lt (length out) (length t) (λ l. absurd (omega (arith, lacking h k l .hands .0))) (λ l. l)
+
+pub prints-text : WriteListMeans
+prints-text ws n out r out' p = call-means ws n out r out' p
 
 -- ---- one call after the other
 
 pub there-and-back : ReadsBack
 unfolding outcome answer store
-there-and-back ws n i len out out' hl hn e p us us' b r ul un space c =
-    let q = prints-text ws n out (Is len) out' p in
-    by-lt (length out) (length (textOf (view ws n)))
-    (λ l. absurd (omega (arith, q .short hl hn l .0)))
-    (λ l.
-    let made : outcome (readingList (take len out')) us (b .count) ≡ done (trimmed (view ws n)) =
-    checked-ok (length us) (b .count) refused (readingList (take len out') (length us) (view us (b .count))) ul un
-    ∙ ap (λ (t : List ℕ). readingList t (length us) (view us (b .count))) (q .done hl hn l .2)
-    ∙ reads-back (view ws n) (bounded-view ws n) (omega (arith, view-count ws n)) i e (length us) (view us (b .count)) (omega (arith, count)) in (
-      c .answers ∙ ap (λ (o : Outcome). answer o b) made ∙ ap (λ (m : ℕ). Done (record { count = m })) count,
+there-and-back ws n i out out' a hl hn e p z us us' b r m ul un fewest space c =
+    let put = text-put ws n out a out' p hl hn (text-fits ws n out a out' p hl hn z) in
+    let made : outcome (readingList (take (numberValue a) out')) us (b .count) ≡ done (trimmed (view ws n)) =
+    checked-ok (length us) (b .count) refused (readingList (take (numberValue a) out') (length us) (view us (b .count))) ul un
+    ∙ ap (λ (t : List ℕ). readingList t (length us) (view us (b .count))) (put .front)
+    ∙ reads-back (view ws n) (bounded-view ws n) (omega (arith, view-count ws n)) i e (length us) (view us (b .count)) (omega (arith, count)) in
+    let answered : r ≡ Done (record { count = trimmed (view ws n) .count }) = c .answers ∙ ap (λ (o : Outcome). answer o b) made in (
+      ap changeNumber answered,
+      ap (λ (x : Change). changeRecord x .count) answered ∙ count,
       λ j.
-          ap (λ (m : ℕ). view us' m .members j) (sym count)
+          ap (λ (k : ℕ). view us' k .members j) (sym count)
           ∙ ap (λ (y : List ℕ). view y (trimmed (view ws n) .count) .members j) (c .leaves ∙ ap (λ (o : Outcome). store o us (b .count)) made)
           ∙ ap (λ (s : Bits). s .members j)
           (view-written us (b .count) (trimmed (view ws n)) (omega (arith, count)) un (bounded-trimmed (view ws n) (bounded-view ws n))),
-    ))
+    )
   where
-    count : trimmedCount (view ws n .members) (view ws n .count) ≡ trimmedCount (view ws n .members) n
-    count = ap (trimmedCount (view ws n .members)) (view-count ws n)
+    its : LeastCount (view ws n .members) n (trimmedCount (view ws n .members) n)
+    its = least-count (view ws n .members) n
+
+    count : trimmedCount (view ws n .members) (view ws n .count) ≡ m
+    count =
+        ap (trimmedCount (view ws n .members)) (view-count ws n)
+        ∙ omega (arith, its .least m (fewest .holds), fewest .least (trimmedCount (view ws n .members) n) (its .holds))

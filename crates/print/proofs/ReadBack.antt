@@ -2,6 +2,7 @@
 use mathlib.Core.Path.{_≡_, refl, sym, ap, _∙_, subst, fun-ext}
 use mathlib.Core.Bool.{Bool, true, false, _&&_, false≢true}
 use mathlib.Core.List.{List, [], _∷_, _++_, append-nil}
+use mathlib.Core.Logic.{inl}
 use Prim.Native.Nat.{ℕ, _+_, _*_, _/_, _%_, _≤_, _<_, max}
 use native.Mathlib.Omega.{arith}
 use lib.Dec.{ltb, eqb}
@@ -13,13 +14,13 @@ use Rattle.storage.specs.Stores as stores
 use Rattle.storage.specs.Stores.{Bits, Bounded, done, trimmedCount, trimmed}
 use Rattle.storage.proofs.Checks.{within-ok}
 use Rattle.storage.proofs.Trims.{trimmed-is}
-use Rattle.text.specs.Lists as g
 use Rattle.text.specs.Lists.{comma, joiner, limit, plain, Range, range, highest}
+use Rattle.text.specs.Grammar as g
 use Rattle.text.specs.Readings.{ranges, union, readingList}
 use Rattle.print.specs.Texts.{runs, decimal, printed, others, text, textOf}
 use Rattle.print.specs.Promises.{Runs, none, more}
 use Rattle.print.proofs.Decimals.{decimal-digits}
-use Rattle.text.proofs.Accepts.{digit-low, blank-low, complete}
+use Rattle.text.proofs.Accepts.{blank-low, complete}
 use Rattle.print.proofs.Runs.{runs-are, runs-cover}
 use Rattle.text.proofs.Taken.{list-is}
 
@@ -44,7 +45,7 @@ printed-token r h l = go (eqb (r .low) (r .high)) refl
 
 -- a blank before a token
 blank-number : {t : List ℕ} {v : ℕ} → g.Number t v → g.Number (32 ∷ t) v
-blank-number (g.number b d w h) = g.number (g.cons refl b) d w h
+blank-number (g.number b d w h) = g.number (g.cons (inl refl) b) d w h
 
 blank-token : {t : List ℕ} {r : Range} → g.Token t r → g.Token (32 ∷ t) r
 blank-token (g.single x) = g.single (blank-number x)
@@ -88,8 +89,8 @@ plain-blanks g.nil = plain-nil
 plain-blanks (g.cons {c = c} {t = t} e b) = plain-cons c t (omega (arith, blank-low c e)) (plain-blanks b)
 
 plain-digits : {t : List ℕ} {v : ℕ} → g.Digits t v → plain t ≡ true
-plain-digits (g.one {c = c} e) = plain-cons c [] (omega (arith, digit-low c e)) plain-nil
-plain-digits (g.more {t = t} c d e) = plain-append t (c ∷ []) (plain-digits d) (plain-cons c [] (omega (arith, digit-low c e)) plain-nil)
+plain-digits (g.one {c = c} e) = plain-cons c [] (omega (arith, e .1)) plain-nil
+plain-digits (g.more {t = t} c d e) = plain-append t (c ∷ []) (plain-digits d) (plain-cons c [] (omega (arith, e .1)) plain-nil)
 
 plain-number : {t : List ℕ} {v : ℕ} → g.Number t v → plain t ≡ true
 plain-number (g.number {u = u} {d = d} {w = w} b x y h) = plain-append (u ++ d) w (plain-append u d (plain-blanks b) (plain-digits x)) (plain-blanks y)

@@ -1,22 +1,21 @@
 -- Every text of the grammar is read, with its ranges. Assumes nothing.
-use mathlib.Core.Path.{_≡_, refl, sym, ap, _∙_, subst}
+use mathlib.Core.Path.{_≡_, refl, sym, ap, ap₂, _∙_, subst}
 use mathlib.Core.Logic.{⊎-elim, _⊎_, inl, inr}
 use mathlib.Core.Bool.{Bool, true, false, _&&_, _||_}
 use mathlib.Core.List.{List, [], _∷_, _++_, append-assoc}
-use Prim.Native.Nat.{ℕ, _+_, _≤_, _<_, min, _-_}
+use Prim.Native.Nat.{ℕ, _+_, _≤_, min, _-_}
 use native.Mathlib.Omega.{arith}
 use lib.Dec.{leb, eqb}
-use borrow.Author.Tests.{le-leb, lt-leb, leb-true, eqb-true, eqb-false}
-use Rattle.word.proofs.Cases.{and-true}
-use Rattle.text.specs.Lists as g
+use borrow.Author.Tests.{le-leb, lt-leb, leb-true, eq-eqb, eqb-true, eqb-false}
+use Rattle.word.proofs.Cases.{and-true, or-true}
 use Rattle.text.specs.Lists.{comma, joiner, limit, blank, digit, Range, zeroDigit}
+use Rattle.text.specs.Grammar as g
 use Rattle.text.specs.Readings.{kind, Number, Unread, Open, Closed, Part, part, fresh, value, unread, empty, ranged, token, byJoiner, step, Reading, reading, tokenEnds, after, next, reads, ranges, textEnds, parsed, parse}
 use Rattle.text.specs.declared.Kind.{Kind}
 use Rattle.text.specs.declared.Value.{Value}
 use Rattle.text.specs.declared.Value.the-variants.{Of, Missing}
 use Rattle.text.specs.declared.Token.the-variants.{Range as Ranging, NoRange}
 use Rattle.text.proofs.Steps.{kind-digit, kind-blank, kind-joiner, kind-comma, chosen, token-at, kind-other}
-use Rattle.text.specs.Lists as g
 use Rattle.text.specs.declared.Kind.the-variants.{Digit, Blank, Joiner, Comma, Other}
 use Rattle.text.specs.declared.Token.{Token}
 
@@ -26,23 +25,39 @@ or-cases : (a b : Bool) → a || b ≡ true → (a ≡ true) ⊎ (b ≡ true)
 or-cases true b e = inl refl
 or-cases false b e = inr e
 
-pub digit-low : (c : ℕ) → digit c ≡ true → (48 ≤ c) × (c ≤ 57)
-digit-low c e = (leb-true 48 c (and-true (leb 48 c) (leb c 57) e .0), leb-true c 57 (and-true (leb 48 c) (leb c 57) e .1))
+-- the bytes from a to b
+between-is : (a b c : ℕ) → leb a c && leb c b ≡ true → (a ≤ c) × (c ≤ b)
+between-is a b c e = let q = and-true (leb a c) (leb c b) e in (leb-true a c (q .0), leb-true c b (q .1))
 
-pub blank-low : (c : ℕ) → blank c ≡ true → c ≤ 32
-blank-low c e =
-    ⊎-elim
-    (λ x. let h : c ≡ 32 = eqb-true c 32 x in omega arith)
-    (λ x. let h : c ≤ 13 = leb-true c 13 (and-true (leb 9 c) (leb c 13) x .1) in omega arith)
-    (or-cases (eqb c 32) (leb 9 c && leb c 13) e)
+is-between : (a b c : ℕ) → (a ≤ c) × (c ≤ b) → leb a c && leb c b ≡ true
+is-between a b c h = ap₂ _&&_ (le-leb a c (h .0)) (le-leb c b (h .1))
 
-no-digit : (c : ℕ) → c < 48 → digit c ≡ false
-no-digit c h = ap (λ (t : Bool). t && leb c 57) (lt-leb 48 c h)
+-- the bytes that the reader takes for digits and for blanks are the grammar's
+pub digit-is : (c : ℕ) → digit c ≡ true → g.Digit c
+digit-is c e = between-is 48 57 c e
+
+pub is-digit : (c : ℕ) → g.Digit c → digit c ≡ true
+is-digit c h = is-between 48 57 c h
+
+pub blank-is : (c : ℕ) → blank c ≡ true → g.Blank c
+blank-is c e = ⊎-elim (λ x. inl (eqb-true c 32 x)) (λ x. inr (between-is 9 13 c x)) (or-cases (eqb c 32) (leb 9 c && leb c 13) e)
+
+pub is-blank : (c : ℕ) → g.Blank c → blank c ≡ true
+is-blank c (inl e) = ap (λ (t : Bool). t || (leb 9 c && leb c 13)) (eq-eqb c 32 e)
+is-blank c (inr h) = ap (λ (t : Bool). eqb c 32 || t) (is-between 9 13 c h) ∙ or-true (eqb c 32)
+
+pub blank-low : (c : ℕ) → g.Blank c → c ≤ 32
+blank-low c (inl e) = omega arith
+blank-low c (inr h) = omega (arith, h .1)
+
+-- a blank is no digit
+blank-kind : (c : ℕ) → g.Blank c → Blank ≡ kind c
+blank-kind c h = kind-blank c (ap (λ (t : Bool). t && leb c 57) (lt-leb 48 c (omega (arith, blank-low c h)))) (is-blank c h)
 
 -- the kinds, with what they say of the byte
 pub data Is (c : ℕ) : Kind → Type 0 where
-  isDigit : digit c ≡ true → Is c (Digit (c - zeroDigit))
-  isBlank : blank c ≡ true → Is c Blank
+  isDigit : g.Digit c → Is c (Digit (c - zeroDigit))
+  isBlank : g.Blank c → Is c Blank
   isJoiner : c ≡ joiner → Is c Joiner
   isComma : c ≡ comma → Is c Comma
   isOther : Is c Other
@@ -51,8 +66,8 @@ pub kind-is : (c : ℕ) → Is c (kind c)
 kind-is c = go (digit c) refl (blank c) refl (eqb c joiner) refl (eqb c comma) refl
   where
     go : (a : Bool) → digit c ≡ a → (b : Bool) → blank c ≡ b → (j : Bool) → eqb c joiner ≡ j → (m : Bool) → eqb c comma ≡ m → Is c (kind c)
-    go true e b f j h m i = subst (Is c) (kind-digit c e) (isDigit e)
-    go false e true f j h m i = subst (Is c) (kind-blank c e f) (isBlank f)
+    go true e b f j h m i = subst (Is c) (kind-digit c e) (isDigit (digit-is c e))
+    go false e true f j h m i = subst (Is c) (kind-blank c e f) (isBlank (blank-is c f))
     go false e false f true h m i = subst (Is c) (kind-joiner c e f (eqb-true c joiner h)) (isJoiner (eqb-true c joiner h))
     go false e false f false h true i = subst (Is c) (kind-comma c e f (eqb-false c joiner h) (eqb-true c comma i)) (isComma (eqb-true c comma i))
     go false e false f false h false i = subst (Is c) (kind-other c e f (eqb-false c joiner h) (eqb-false c comma i)) isOther
@@ -82,25 +97,24 @@ blanks-none : (rs : List Range) (l : Value) {t : List ℕ} → g.Blanks t → re
 unfolding reads step
 blanks-none rs l g.nil = refl
 blanks-none rs l (g.cons {c = c} {t = t} e b) =
-    ap (λ (x : Reading). reads x t) (next-at rs (part l Unread) c (kind-blank c (no-digit c (omega (arith, blank-low c e))) e)) ∙ blanks-none rs l b
+    ap (λ (x : Reading). reads x t) (next-at rs (part l Unread) c (blank-kind c e)) ∙ blanks-none rs l b
 
 blanks-closed : (rs : List Range) (l : Value) (v : ℕ) {t : List ℕ} → g.Blanks t → reads (reading rs (part l (Closed v))) t ≡ reading rs (part l (Closed v))
 unfolding reads step
 blanks-closed rs l v g.nil = refl
 blanks-closed rs l v (g.cons {c = c} {t = t} e b) =
-    ap (λ (x : Reading). reads x t) (next-at rs (part l (Closed v)) c (kind-blank c (no-digit c (omega (arith, blank-low c e))) e)) ∙ blanks-closed rs l v b
+    ap (λ (x : Reading). reads x t) (next-at rs (part l (Closed v)) c (blank-kind c e)) ∙ blanks-closed rs l v b
 
 digits-read : (rs : List Range) (l : Value) {t : List ℕ} {v : ℕ} → g.Digits t v → reads (reading rs (part l Unread)) t ≡ reading rs (part l (Open (min (limit + 1) v)))
 unfolding step
 digits-read rs l (g.one {c = c} e) =
-    let h = digit-low c e in
-    reads-one (reading rs (part l Unread)) c ∙ next-at rs (part l Unread) c (kind-digit c e)
+    reads-one (reading rs (part l Unread)) c ∙ next-at rs (part l Unread) c (kind-digit c (is-digit c e))
     ∙ ap (λ (x : ℕ). reading rs (part l (Open x))) (omega arith)
 digits-read rs l (g.more {t = t} {v = v} c d e) =
     reads-append (reading rs (part l Unread)) t (c ∷ [])
     ∙ ap (λ (x : Reading). reads x (c ∷ [])) (digits-read rs l d)
     ∙ reads-one (reading rs (part l (Open (min (limit + 1) v)))) c
-    ∙ next-at rs (part l (Open (min (limit + 1) v))) c (kind-digit c e)
+    ∙ next-at rs (part l (Open (min (limit + 1) v))) c (kind-digit c (is-digit c e))
     ∙ ap (λ (x : ℕ). reading rs (part l (Open x))) (omega arith)
 
 -- a number that was read: n is what is kept of it
@@ -125,7 +139,7 @@ unfolding reads step
 tail-read rs l v h g.nil = (Open (min (limit + 1) v), refl, value-open v h, refl)
 tail-read rs l v h (g.cons {c = c} {t = t} e b) = (
   Closed (min (limit + 1) v),
-  ap (λ (x : Reading). reads x t) (next-at rs (part l (Open (min (limit + 1) v))) c (kind-blank c (no-digit c (omega (arith, blank-low c e))) e))
+  ap (λ (x : Reading). reads x t) (next-at rs (part l (Open (min (limit + 1) v))) c (blank-kind c e))
       ∙ blanks-closed rs l (min (limit + 1) v) b,
   value-closed v h,
   refl,

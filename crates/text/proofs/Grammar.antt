@@ -8,8 +8,8 @@ use native.Mathlib.Omega.{arith}
 use lib.Dec.{leb}
 use borrow.Author.Tests.{leb-true}
 use Rattle.word.specs.Sets.{choose}
-use Rattle.text.specs.Lists as g
-use Rattle.text.specs.Lists.{comma, joiner, zeroDigit, limit, blank, digit, Range, range}
+use Rattle.text.specs.Lists.{comma, joiner, zeroDigit, limit, Range, range}
+use Rattle.text.specs.Grammar as g
 use Rattle.text.specs.Readings.{kind, grown, Number, Unread, Open, Closed, Part, part, fresh, value, unread, empty, ranged, token, Step, Go, Ends, Stop, byDigit, byBlank, byJoiner, step, Reading, bad, reading, tokenEnds, after, reads, notList, ranges, textEnds, parsed, parse}
 use Rattle.text.specs.declared.Kind.{Kind}
 use Rattle.text.specs.declared.Value.{Value}
@@ -17,7 +17,7 @@ use Rattle.text.specs.declared.Value.the-variants.{Of, Missing}
 use Rattle.text.specs.declared.Token.{Token}
 use Rattle.text.specs.declared.Token.the-variants.{Range as Ranging, Empty, NoRange}
 use Rattle.text.proofs.Tokens.{reads-bad, some}
-use Rattle.text.proofs.Accepts.{digit-low, Is, isDigit, isBlank, isJoiner, isComma, isOther, kind-is, next-at, complete}
+use Rattle.text.proofs.Accepts.{Is, isDigit, isBlank, isJoiner, isComma, isOther, kind-is, next-at, complete}
 
 -- ---- what is read
 
@@ -32,27 +32,26 @@ data Part-of : Value → Number → List ℕ → Type 0 where
   first : {n : Number} {y : List ℕ} → Begun n y → Part-of Missing n y
   second : {a : ℕ} {n : Number} {z : List ℕ} (t y : List ℕ) → g.Number t a → Begun n y → z ≡ t ++ joiner ∷ y → Part-of (Of a) n z
 
-blanks-snoc : {u : List ℕ} (c : ℕ) → g.Blanks u → blank c ≡ true → g.Blanks (u ++ c ∷ [])
+blanks-snoc : {u : List ℕ} (c : ℕ) → g.Blanks u → g.Blank c → g.Blanks (u ++ c ∷ [])
 blanks-snoc c g.nil e = g.cons e g.nil
 blanks-snoc c (g.cons f b) e = g.cons f (blanks-snoc c b e)
 
-begun-digit : (c : ℕ) → digit c ≡ true → (n : Number) (y : List ℕ) → Begun n y → (l : Value) (q : Part) → byDigit l n (c - zeroDigit) ≡ Go q
+begun-digit : (c : ℕ) → g.Digit c → (n : Number) (y : List ℕ) → Begun n y → (l : Value) (q : Part) → byDigit l n (c - zeroDigit) ≡ Go q
     → (q .left ≡ l) × Begun (q .number) (y ++ c ∷ [])
 begun-digit c e Unread y (blanks b) l q h =
     let hl : q .left ≡ l = cc in
     let hn : q .number ≡ Open (c - zeroDigit) = cc in
-    let k = digit-low c e in
     (hl, subst (λ (n : Number). Begun n (y ++ c ∷ [])) (sym hn) (opened y (c ∷ []) (c - zeroDigit) b (g.one e) (omega arith) refl))
 begun-digit c e (Open x) y (opened u d v b s ex ey) l q h =
     let hl : q .left ≡ l = cc in
     let hn : q .number ≡ Open (grown x (c - zeroDigit)) = cc in (
       hl,
       subst (λ (n : Number). Begun n (y ++ c ∷ [])) (sym hn)
-          (opened u (d ++ c ∷ []) (v * 10 + (c - zeroDigit)) b (g.more c s e) (omega arith) (ap (λ (z : List ℕ). z ++ c ∷ []) ey ∙ append-assoc u d (c ∷ []))),
+          (opened u (d ++ c ∷ []) (10 * v + (c - zeroDigit)) b (g.more c s e) (omega arith) (ap (λ (z : List ℕ). z ++ c ∷ []) ey ∙ append-assoc u d (c ∷ []))),
     )
 begun-digit c e (Closed x) y (closed u d w v b s b' ex ey) l q h = let z : _≡_ {A = ℕ} 0 1 = cc in absurd (omega arith)
 
-begun-blank : (c : ℕ) → blank c ≡ true → (n : Number) (y : List ℕ) → Begun n y → (l : Value) (q : Part) → byBlank l n ≡ Go q
+begun-blank : (c : ℕ) → g.Blank c → (n : Number) (y : List ℕ) → Begun n y → (l : Value) (q : Part) → byBlank l n ≡ Go q
     → (q .left ≡ l) × Begun (q .number) (y ++ c ∷ [])
 begun-blank c e Unread y (blanks b) l q h =
     let hl : q .left ≡ l = cc in

@@ -10,12 +10,12 @@ use borrow.Author.Tests.{ltb-true, ltb-false, leb-true}
 use Rattle.word.proofs.Cases.{by-lt, by-test, and-true, or-true}
 use Rattle.storage.specs.Refusals.{numberOf}
 use Rattle.storage.specs.Stores.{Bits, Bounded, Outcome, refused, done}
-use Rattle.storage.specs.Promises.{Sound, Meets}
+use Rattle.storage.specs.Promises.{Sound}
 use Rattle.storage.proofs.Checks.{within-ok, within-no}
-use Rattle.text.specs.Lists as g
 use Rattle.text.specs.Lists.{plain, Range, covers, highest}
+use Rattle.text.specs.Grammar as g
 use Rattle.text.specs.Readings.{Parsed, notList, ranges, parse, union, readingList}
-use Rattle.text.specs.Promises.{ReadsGrammar, Within, Union, High, ListRead, ListRefused}
+use Rattle.text.specs.Promises.{ReadsGrammar, Within, Union, High, ListRead, ListRefused, ReadsList}
 use Rattle.text.proofs.Accepts.{complete}
 use Rattle.text.proofs.Grammar.{sound, reads-exactly}
 use Rattle.text.proofs.Marks.{between, between-in}
@@ -26,15 +26,15 @@ use Rattle.text.proofs.Taken.{list-not-plain, list-is}
 never : {rs : List Range} → notList ≡ ranges rs → ⊥
 never e = let z : _≡_ {A = ℕ} 0 1 = cc in omega arith
 
-pub reads-grammar : (t : List ℕ) → ReadsGrammar t
-reads-grammar t = record {
-  accepted = reads-exactly t;
-  refused = (λ f. go f (parse t) refl, λ e rs x. never (sym e ∙ complete x));
+pub reads-grammar : ReadsGrammar
+reads-grammar = record {
+  accepted = reads-exactly;
+  refused = λ t. (λ f. go t f (parse t) refl, λ e rs x. never (sym e ∙ complete x));
 }
   where
-    go : ((rs : List Range) → g.Listed t rs → ⊥) → (p : Parsed) → parse t ≡ p → parse t ≡ notList
-    go f notList e = e
-    go f (ranges rs) e = absurd (f rs (sound t rs e))
+    go : (t : List ℕ) → ((rs : List Range) → g.Listed t rs → ⊥) → (p : Parsed) → parse t ≡ p → parse t ≡ notList
+    go t f notList e = e
+    go t f (ranges rs) e = absurd (f rs (sound t rs e))
 
 -- ---- the ranges as a set
 
@@ -117,7 +117,7 @@ fate t c b =
     (λ e. subst (Fate t c) (sym (list-not-plain t c b e)) (inl (refl, plain-high t e)))
   where
     low : plain t ≡ true → (High t → ⊥) → (p : Parsed) → parse t ≡ p → Fate t c (readingList t c b)
-    low e h notList f = subst (Fate t c) (sym (list-is t c b notList e f)) (inr (inl (refl, h, reads-grammar t .refused .1 f)))
+    low e h notList f = subst (Fate t c) (sym (list-is t c b notList e f)) (inr (inl (refl, h, reads-grammar .refused t .1 f)))
     low e h (ranges rs) f =
         let x : g.Listed t rs = sound t rs f in
         by-lt c (union rs .count)
@@ -136,7 +136,7 @@ sound-list t = record {
     bounded rs s u =
         record { past = λ i k. by-test (s .members i) (λ e. absurd (omega (arith, u .holds i (u .members i .1 e)))) (λ e. e) }
 
-pub reads-list : (t : List ℕ) → Meets (readingList t) (ListRead t) (ListRefused t)
+pub reads-list : ReadsList
 reads-list t = record {
   made = λ c b s e. subst (Fate t c) e (fate t c b) .0;
   sound = sound-list t;

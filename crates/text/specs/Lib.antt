@@ -1,4 +1,5 @@
 pub mod Lists
+pub mod Grammar
 pub mod Readings
 pub mod Kernels
 pub mod Promises

@@ -6,13 +6,15 @@ use mathlib.Core.List.{List, [], _∷_}
 use mathlib.Core.Logic.{_⊎_, _↔_}
 use lib.ListN.{length, getD}
 use Rattle.storage.specs.Stores.{Bits}
-use Rattle.text.specs.Lists.{Range, Listed}
-use Rattle.text.specs.Readings.{notList, ranges, parse}
+use Rattle.storage.specs.Promises.{Meets}
+use Rattle.text.specs.Lists.{Range}
+use Rattle.text.specs.Grammar.{Listed}
+use Rattle.text.specs.Readings.{notList, ranges, parse, readingList}
 
 -- reading, both ways: a text is read as ranges exactly where the grammar gives it those, and is no list exactly where it gives it none
-pub record ReadsGrammar (t : List ℕ) : Type 0 where
-  pub accepted : (rs : List Range) → Listed t rs ↔ (parse t ≡ ranges rs)
-  pub refused : ((rs : List Range) → Listed t rs → ⊥) ↔ (parse t ≡ notList)
+pub record ReadsGrammar : Type 0 where
+  pub accepted : (t : List ℕ) (rs : List Range) → Listed t rs ↔ (parse t ≡ ranges rs)
+  pub refused : (t : List ℕ) → ((rs : List Range) → Listed t rs → ⊥) ↔ (parse t ≡ notList)
 
 -- i lies in one of the ranges
 abbrev pub Within : List Range → ℕ → Type 0
@@ -43,3 +45,7 @@ ListRead t c b s = (High t → ⊥) × ((rs : List Range) × Listed t rs × Unio
 -- 8, then 7, then 6, each exactly where its condition holds
 abbrev pub ListRefused : List ℕ → ℕ → Bits → ℕ → Type 0
 ListRefused t c b k = ((k ≡ 8) × High t) ⊎ (((k ≡ 7) × (High t → ⊥) × NoList t) ⊎ ((k ≡ 6) × (High t → ⊥) × Past t c))
+
+-- `from_list`
+abbrev pub ReadsList : Type 0
+ReadsList = (t : List ℕ) → Meets (readingList t) (ListRead t) (ListRefused t)

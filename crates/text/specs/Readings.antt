@@ -1,4 +1,4 @@
--- `from_list`, byte by byte. proofs/Grammar: what is read is exactly what the grammar of Lists says.
+-- `from_list`, byte by byte. proofs/Grammar: what is read is exactly what the grammar says.
 use Prim.Native.Nat.{ℕ, _+_, _-_, min}
 use mathlib.Core.Bool.{Bool, true, false, _&&_}
 use mathlib.Core.List.{List, [], _∷_, _++_}
