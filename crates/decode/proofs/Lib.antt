@@ -1,3 +1,4 @@
+pub mod Promises
 pub mod Numbers
 pub mod Payloads
 pub mod Lengths

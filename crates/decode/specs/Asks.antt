@@ -5,11 +5,17 @@ use mathlib.Core.Option.{Option, none, some}
 use lib.ListN.{length}
 use lib.Dec.{eqb}
 use Rattle.word.specs.Sets.{choose}
+use Rattle.storage.specs.Refusals.{numberOf}
 use Rattle.storage.specs.declared.Refusal.the-variants.{BadPayload, NewerKind}
 use Rattle.sheet.specs.Kinds.{sizeIn, ruleOf}
 use Rattle.sheet.specs.declared.Edit.{Edit}
 use Rattle.decode.specs.declared.Asked.{Asked}
 use Rattle.decode.specs.declared.Asked.the-variants.{For, Refused}
+
+-- of an answer its number, 0 for an edit
+abbrev pub askedNumber : Asked → ℕ
+askedNumber (For e) = 0
+askedNumber (Refused e) = numberOf e
 
 -- 12 where a payload is no edit
 abbrev pub asks : Option Edit → Asked

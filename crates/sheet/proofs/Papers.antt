@@ -1,5 +1,5 @@
 -- The table of kinds is the paper's: each line is computed, and the digits follow for any fields. Assumes nothing.
-use Prim.Native.Nat.{ℕ, zero, suc, _+_, _*_, _^_, _/_, _%_, _<_}
+use Prim.Native.Nat.{ℕ, zero, suc, _+_, _*_, _^_, _/_, _%_, _≤_, _<_}
 use mathlib.Core.Path.{_≡_, refl, sym, ap, ap₂, _∙_, subst}
 use mathlib.Core.Bool.{Bool}
 use mathlib.Core.List.{List, [], _∷_, _++_}
@@ -9,16 +9,19 @@ use native.Mathlib.Nat.{mod-eq-of-lt, pow-suc, mul-comm, add-zero, suc-add, zero
 use lib.ListN.{length, take, drop, length-append}
 use lib.Pow.{pow-pos, split, high, mod-pow-add, shr-shr, shl-shr}
 use lib.Dec.{leb}
+use borrow.Author.Tests.{le-leb, lt-leb}
 use Rattle.word.specs.Sets.{choose, val}
 use Rattle.word.specs.Bits.{isOne}
+use Rattle.word.proofs.Cases.{by-lt}
 use Rattle.sheet.specs.Bytes.{bytes}
 use Rattle.sheet.specs.Layout.{Field, widths, packed, InRange}
-use Rattle.sheet.specs.Kinds.{Row, bytesIn, numberIn, rowOf, sizeIn, kindOf, fieldsOf, numbered, bytesBy, fieldsBy, payloadOf, Ranged}
+use Rattle.sheet.specs.Kinds.{Row, bytesIn, numberIn, rowOf, sizeIn, known, knownNumber, knownBytes, kindOf, fieldsOf, numbered, bytesBy, fieldsBy, payloadOf, Ranged}
 use Rattle.sheet.specs.Reads.{editionOf}
 use Rattle.sheet.specs.Paper.{Cell, printed, Allowed, digits, cellDigits, byteDigits}
-use Rattle.sheet.specs.Promises.{AsPrinted, TableAgrees, Laid, PayloadsExact}
+use Rattle.sheet.specs.Promises.{AsPrinted, TableAgrees, HasKind, KnownExact, Laid, PayloadsExact}
 use Rattle.sheet.specs.declared.Edit.{Edit}
 use Rattle.sheet.specs.declared.Edit.the-variants.{Set, Unset, SetRegion, SetField, Shift, Rotate, Resize, Reverse, ToggleRegion, Open, Close}
+use Rattle.sheet.proofs.Turns.{none-some}
 use Rattle.sheet.proofs.Layouts.{Sized, range-sized, packed-small}
 use Rattle.sheet.proofs.Payloads.{octets, fits, good-row, row-for, good, numbered-is, payload-length, ranged, held, Lays, asks-lays}
 use Rattle.sheet.proofs.Rules.{AllBytes, byte-bits, bytes-small}
@@ -157,6 +160,36 @@ table-agrees = record { lines = as-printed; others = others }
         let a = held n k m s in
         let e : Edit = a .row .make [] in
         (e, sym (each-line e .kind) ∙ good-row k (a .row) (a .at) .kind [])
+
+-- ---- the kinds that an edition has
+
+-- a kind of the edition, by a line of the table, and a kind that it lacks
+pub has-size : (n k : ℕ) (e : Edit) → printed e .kind ≡ k → printed e .edition ≤ n → sizeIn n k ≡ some (printed e .bytes)
+has-size n k e q l =
+    ap (sizeIn n) (sym (each-line e .kind ∙ q)) ∙ each-line e .size n
+    ∙ ap (λ (t : Bool). choose t (some (printed e .bytes)) none) (le-leb (printed e .edition) n l)
+
+pub size-has : (n k m : ℕ) → sizeIn n k ≡ some m → HasKind n k
+unfolding editionOf
+size-has n k m s =
+    let (e, q) = table-agrees .others n 0 k m s in
+    by-lt n (printed e .edition)
+    (λ l.
+    let z : _≡_ {A = Option ℕ} none (some m) =
+    sym (ap (sizeIn n) (sym (each-line e .kind ∙ q)) ∙ each-line e .size n
+    ∙ ap (λ (t : Bool). choose t (some (printed e .bytes)) none) (lt-leb (printed e .edition) n l)) ∙ s in
+    absurd (none-some z))
+    (λ l. (e, q, l))
+
+pub known-exact : (n k : ℕ) → KnownExact n k (known (sizeIn n k))
+known-exact n k = record {
+  bytes = λ e q l. let s = has-size n k e q l in (ap (λ (o : Option ℕ). knownNumber (known o)) s, ap (λ (o : Option ℕ). knownBytes (known o)) s);
+  newer = λ h. go h (sizeIn n k) refl;
+}
+  where
+    go : ¬ HasKind n k → (o : Option ℕ) → sizeIn n k ≡ o → (knownNumber (known o) ≡ 13) × (knownBytes (known o) ≡ 0)
+    go h none s = (refl, refl)
+    go h (some m) s = absurd (h (size-has n k m s))
 
 -- ---- digits tell bytes
 

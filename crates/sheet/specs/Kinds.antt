@@ -7,6 +7,8 @@ use lib.ListN.{getD, getElem?}
 use lib.Dec.{leb, eqb}
 use Rattle.word.specs.Sets.{choose, val}
 use Rattle.word.specs.Bits.{isOne}
+use Rattle.storage.specs.Refusals.{numberOf}
+use Rattle.storage.specs.declared.Refusal.the-variants.{NewerKind}
 use Rattle.sheet.specs.Bytes.{number, bytes}
 use Rattle.sheet.specs.Layout.{Field, field, widths, packed, unpacked, inRange, InRange}
 use Rattle.sheet.specs.declared.Known.{Known}
@@ -96,6 +98,15 @@ sizeIn edition kind = sizeBy edition (rowOf kind)
 abbrev pub known : Option ℕ → Known
 known none = Newer
 known (some n) = Bytes n
+
+-- of that answer its number, 0 for a kind that is known, and its bytes, 0 where it is not
+abbrev pub knownNumber : Known → ℕ
+knownNumber (Bytes n) = 0
+knownNumber Newer = numberOf NewerKind
+
+abbrev pub knownBytes : Known → ℕ
+knownBytes (Bytes n) = n
+knownBytes Newer = 0
 
 abbrev pub parseBy : Option Row → ℕ → Option Edit
 parseBy none x = none

@@ -19,7 +19,7 @@ use Rattle.shift.specs.Promises.{RotatedLeft, RotatedRight}
 use Rattle.bitmap.specs.Promises.{WithBit, WithoutBit, WithRegion, WithField}
 use Rattle.shape.specs.Promises.{FlippedFrom, RaisedBy, LoweredBy, ResizedTo}
 use Rattle.gap.specs.Promises.{Opens, Closes}
-use Rattle.sheet.specs.Kinds.{kindOf, payloadOf, Ranged}
+use Rattle.sheet.specs.Kinds.{knownNumber, knownBytes, kindOf, payloadOf, Ranged}
 use Rattle.sheet.specs.Paper.{IsEdition, printed, values, given, Allowed, digits, cellDigits, byteDigits}
 use Rattle.sheet.specs.Reader.{Edition, Turn, stop, next, Item, Answer, done, answerNumber, answerRecord, read}
 use Rattle.sheet.specs.Meaning.{Header, total, start, Whole, Is, Asks, effect, AtRecord, Newer, Applies, Accepted, Due}
@@ -29,6 +29,7 @@ use Rattle.sheet.specs.Plain.{sheetOf, editsIn, editFor, Ask, Typed, Cal
 use Rattle.sheet.specs.declared.Edit.{Edit}
 use Rattle.sheet.specs.declared.Edit.the-variants.{Set, Unset, SetRegion, SetField, Shift, Rotate, Resize, Reverse, ToggleRegion, Open, Close}
 use Rattle.sheet.specs.declared.Fields.{Fields}
+use Rattle.sheet.specs.declared.Known.{Known}
 use Rattle.sheet.specs.declared.Reading.{Reading}
 use Rattle.sheet.specs.declared.Added.{Added}
 
@@ -74,6 +75,15 @@ pub record AsPrinted (e : Edit) : Type 0 where
 pub record TableAgrees : Type 0 where
   pub lines : (e : Edit) → AsPrinted e
   pub others : (n c k m : ℕ) → editionOf c n .size k ≡ some m → (e : Edit) × (printed e .kind ≡ k)
+
+-- an edition has a kind: the table has a line of it, of that edition or an earlier one
+abbrev pub HasKind : ℕ → ℕ → Type 0
+HasKind n k = (e : Edit) × (printed e .kind ≡ k) × (printed e .edition ≤ n)
+
+-- `payload_bytes`: 0 and the bytes of the kind's line, or 13 exactly where the edition has none
+pub record KnownExact (n k : ℕ) (r : Known) : Type 0 where
+  pub bytes : (e : Edit) → printed e .kind ≡ k → printed e .edition ≤ n → (knownNumber r ≡ 0) × (knownBytes r ≡ printed e .bytes)
+  pub newer : ¬ HasKind n k → (knownNumber r ≡ 13) × (knownBytes r ≡ 0)
 
 -- the plain sheet's edit of a kind has its fields where 01's table has them
 abbrev pub FieldsAgree : Type 0
