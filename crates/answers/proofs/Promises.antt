@@ -23,7 +23,29 @@ use Rattle.sheet.specs.declared.Reading.the-variants.{Done, Refused}
 use Rattle.sheet.specs.declared.Added.{Added}
 use Rattle.sheet.specs.declared.Added.the-variants.{Done, Refused}
 use Rattle.answers.specs.Answers.{ChangeOut, SplitOut, FoundOut, NumberOut, FieldOut, TruthOut, ReadingOut, AddedOut}
-use Rattle.answers.specs.Promises.{AtMostLast, RefusedHandsOut, Flags}
+use Rattle.answers.specs.Promises.{Crosses, AtMostLast, RefusedHandsOut, Flags}
+
+pub crosses : Crosses
+crosses = record {
+  change-done = λ b r n. ((λ o. (o .number, o .count)), (λ q. record { number = q .0; count = q .1 }));
+  change-refused = λ e b r n. ((λ o. (o .number, o .count)), (λ q. record { number = q .0; count = q .1 }));
+  split-done = λ h u r n t. ((λ o. (o .number, o .count, o .tail)), (λ q. record { number = q .0; count = q .1; tail = q .2 }));
+  split-refused = λ e b r n t. ((λ o. (o .number, o .count, o .tail)), (λ q. record { number = q .0; count = q .1; tail = q .2 }));
+  found-at = λ p r f v. ((λ o. (o .number, o .found, o .place)), (λ q. record { number = q .0; found = q .1; place = q .2 }));
+  found-nothing = λ r f v. ((λ o. (o .number, o .found, o .place)), (λ q. record { number = q .0; found = q .1; place = q .2 }));
+  found-refused = λ e r f v. ((λ o. (o .number, o .found, o .place)), (λ q. record { number = q .0; found = q .1; place = q .2 }));
+  number-is = λ n r v. ((λ o. (o .number, o .value)), (λ q. record { number = q .0; value = q .1 }));
+  number-refused = λ e r v. ((λ o. (o .number, o .value)), (λ q. record { number = q .0; value = q .1 }));
+  field-is = λ x r v. ((λ o. (o .number, o .value)), (λ q. record { number = q .0; value = q .1 }));
+  field-refused = λ e r v. ((λ o. (o .number, o .value)), (λ q. record { number = q .0; value = q .1 }));
+  truth-true = λ r v. ((λ o. (o .number, o .value)), (λ q. record { number = q .0; value = q .1 }));
+  truth-false = λ r v. ((λ o. (o .number, o .value)), (λ q. record { number = q .0; value = q .1 }));
+  truth-refused = λ e r v. ((λ o. (o .number, o .value)), (λ q. record { number = q .0; value = q .1 }));
+  reading-done = λ k b r at n. ((λ o. (o .number, o .at, o .count)), (λ q. record { number = q .0; at = q .1; count = q .2 }));
+  reading-refused = λ e k r at n. ((λ o. (o .number, o .at, o .count)), (λ q. record { number = q .0; at = q .1; count = q .2 }));
+  added-done = λ m old r n. ((λ o. (o .number, o .length)), (λ q. record { number = q .0; length = q .1 }));
+  added-refused = λ e old r n. ((λ o. (o .number, o .length)), (λ q. record { number = q .0; length = q .1 }));
+}
 
 top : (e : Refusal) → numberOf e ≤ lastNumber
 top e = each-number-once .range e .1
