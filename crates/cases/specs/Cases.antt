@@ -1,13 +1,12 @@
--- The starred cases of 01, "Small books to try": one table of what is asked and what must come out. proofs/Starred: every row holds.
+-- The starred cases of 01, "Small books to try", and the sentences behind them: one table of what is asked and what must come out. proofs/Starred: every row holds.
 use Prim.Native.Nat.{ℕ, zero, suc}
 use mathlib.Core.Bool.{Bool, true, false, _&&_}
 use mathlib.Core.List.{List, [], _∷_, _++_}
 use lib.ListN.{length}
 use lib.Dec.{eqb}
-use Rattle.storage.specs.Refusals.{changeNumber, changeRecord, foundNumber, numberNumber, numberValue, fieldNumber, fieldValue, truthNumber, truthValue}
+use Rattle.storage.specs.Refusals.{changeNumber, changeRecord, foundNumber, foundFlag, foundValue, numberNumber, numberValue, fieldNumber, fieldValue, truthNumber, truthValue}
 use Rattle.storage.specs.Stores.{Outcome, view, reading, answer, store, outcome}
 use Rattle.storage.specs.declared.Found.{Found}
-use Rattle.storage.specs.declared.Found.the-variants.{At, Nothing, Refused}
 use Rattle.storage.specs.declared.Number.{Number}
 use Rattle.storage.specs.declared.Field.{Field}
 use Rattle.storage.specs.declared.Truth.{Truth}
@@ -15,7 +14,7 @@ use Rattle.slice.specs.Slices.{equal, fieldAt, nextClear}
 use Rattle.bits.specs.Bits.{selected}
 use Rattle.shift.specs.Shifts.{rotatingRight}
 use Rattle.bitmap.specs.Bitmaps.{flippingBit}
-use Rattle.shape.specs.Shapes.{tailOutcome, headOutcome}
+use Rattle.shape.specs.Shapes.{tailOutcome, headOutcome, splitAnswer, splitNumber, splitHead, splitTail}
 use Rattle.text.specs.Readings.{readingList}
 use Rattle.print.specs.Texts.{textOf}
 use Rattle.sheet.specs.Reads.{Course, course, readAnswer, readStore, readingNumber, readingRecord, readingCount}
@@ -44,9 +43,7 @@ changed o ws n = let r = answer o (record { count = n }) in changeNumber r ∷ c
 
 -- the number, 1 where something was found, and the place
 abbrev pub found : Found → List ℕ
-found (At p) = 0 ∷ 1 ∷ p ∷ []
-found Nothing = 0 ∷ 0 ∷ 0 ∷ []
-found (Refused e) = foundNumber (Refused e) ∷ 0 ∷ 0 ∷ []
+found r = foundNumber r ∷ foundFlag r ∷ foundValue r ∷ []
 
 abbrev pub counted : Number → List ℕ
 counted r = numberNumber r ∷ numberValue r ∷ []
@@ -57,6 +54,12 @@ fielded r = fieldNumber r ∷ fieldValue r ∷ []
 abbrev pub tested : Truth → List ℕ
 tested r = truthNumber r ∷ truthValue r ∷ []
 
+-- the number, the head's count and every word of its store, the tail's count and every word of its store
+abbrev pub parted : Outcome → Outcome → List ℕ → ℕ → List ℕ → List ℕ
+parted h t ws n ts =
+    let r = splitAnswer h t (record { count = n }) in
+    splitNumber r ∷ splitHead r .count ∷ (store h ws n ++ (splitTail r ∷ store t ts 0))
+
 -- the number, the record, the word count, and the list of the result
 abbrev pub sheeted : Course → ℕ → List ℕ
 sheeted k c =
@@ -65,7 +68,7 @@ sheeted k c =
 
 -- what comes out, by the definitions that the contracts cite
 unfoldable pub outOf : Ask → List ℕ
-unfolding outcome readingList answer store reading nextClear fieldAt selected equal rotatingRight flippingBit headOutcome tailOutcome course view
+unfolding outcome readingList answer store splitAnswer reading nextClear fieldAt selected equal rotatingRight flippingBit headOutcome tailOutcome course view
 outOf (from-list text c) = changed (outcome (readingList text) (zeros c) 0) (zeros c) 0
 outOf (next-clear ws i) = counted (reading ws (length ws) Number.Refused (λ s. Number.Is (nextClear s i)))
 outOf (first-clear ws) = counted (reading ws (length ws) Number.Refused (λ s. Number.Is (nextClear s 0)))
@@ -74,7 +77,9 @@ outOf (select ws r) = found (reading ws (length ws) Found.Refused (selected r))
 outOf (eq ws os) = tested (reading ws (length ws) Truth.Refused (λ s. reading os (length os) Truth.Refused (λ t. Truth.Is (equal s t))))
 outOf (rotate-right ws k) = changed (outcome (rotatingRight k) ws (length ws)) ws (length ws)
 outOf (xori ws n i) = changed (outcome (flippingBit i) ws n) ws n
-outOf (split-off ws at c) = changed (headOutcome at ws (length ws) (zeros c)) ws (length ws) ++ changed (tailOutcome at ws (length ws) (zeros c)) (zeros c) 0
+outOf (split-off ws at c) =
+    let n = length ws in
+    parted (headOutcome at ws n (zeros c)) (tailOutcome at ws n (zeros c)) ws n (zeros c)
 outOf (read e sheet c) = sheeted (course e sheet [] 0 c) c
 
 pub record Row : Type 0 where
@@ -119,17 +124,23 @@ starred =
     ∷ row (from-list (32 ∷ 49 ∷ 32 ∷ 45 ∷ 32 ∷ 51 ∷ 32 ∷ 44 ∷ 32 ∷ 50 ∷ []) 2) (0 ∷ 1 ∷ 14 ∷ 0 ∷ [])
     -- `4294967295` into two words: 6
     ∷ row (from-list (52 ∷ 50 ∷ 57 ∷ 52 ∷ 57 ∷ 54 ∷ 55 ∷ 50 ∷ 57 ∷ 53 ∷ []) 2) (6 ∷ 0 ∷ 0 ∷ 0 ∷ [])
+    -- bytes 31 C2 A0 (hexadecimal): 8
+    ∷ row (from-list (0x31 ∷ 0xc2 ∷ 0xa0 ∷ []) 2) (8 ∷ 0 ∷ 0 ∷ 0 ∷ [])
     -- one word: next_clear(200) is 200
     ∷ row (next-clear (5 ∷ []) 200) (0 ∷ 200 ∷ [])
     -- all ones: first_clear is 64
     ∷ row (first-clear (0xffff_ffff_ffff_ffff ∷ [])) (0 ∷ 64 ∷ [])
     -- bits 60 to 63: get_field(60, 8) is 15
     ∷ row (get-field (0xf000_0000_0000_0000 ∷ []) 60 8) (0 ∷ 15 ∷ [])
+    -- width 64 is read
+    ∷ row (get-field (0xf000_0000_0000_0000 ∷ []) 0 64) (0 ∷ 0xf000_0000_0000_0000 ∷ [])
+    -- 65 gets 3
+    ∷ row (get-field (0xf000_0000_0000_0000 ∷ []) 0 65) (3 ∷ 0 ∷ [])
     -- bits 1 and 4: select(1) is 4, select(2) none
     ∷ row (select (18 ∷ []) 1) (0 ∷ 1 ∷ 4 ∷ [])
     ∷ row (select (18 ∷ []) 2) (0 ∷ 0 ∷ 0 ∷ [])
     -- bits 3, 69, 70, 100 split at 70: {3, 69} and {0, 30}
-    ∷ row (split-off (8 ∷ 68719476832 ∷ []) 70 2) (0 ∷ 2 ∷ 8 ∷ 32 ∷ 0 ∷ 1 ∷ 1073741825 ∷ 0 ∷ [])
+    ∷ row (split-off (8 ∷ 68719476832 ∷ []) 70 2) (0 ∷ 2 ∷ 8 ∷ 32 ∷ 1 ∷ 1073741825 ∷ 0 ∷ [])
     -- [1] and [1, 0] are equal, yet rotating right by 1 puts the bit at 63 and at 127
     ∷ row (eq (1 ∷ []) (1 ∷ 0 ∷ [])) (0 ∷ 1 ∷ [])
     ∷ row (rotate-right (1 ∷ []) 1) (0 ∷ 1 ∷ 0x8000_0000_0000_0000 ∷ [])
