@@ -1,7 +1,6 @@
 -- The promises of specs/Promises. Assumes nothing.
 use mathlib.Core.Path.{_≡_, refl, sym, ap, ap₂, _∙_, subst}
 use mathlib.Core.Bool.{Bool, true, false, not, _&&_, _||_, false≢true}
-use mathlib.Core.List.{List}
 use mathlib.Core.Logic.{_⊎_, inl, inr}
 use Prim.Native.Nat.{ℕ, suc, _+_, _-_, _*_, _/_, _%_, _^_, _<_, max}
 use native.Mathlib.Omega.{arith}
@@ -25,7 +24,7 @@ use Rattle.bitmap.proofs.Sounds.{setting-sound, many-sound, unsetting-s
 use Rattle.bitmap.proofs.Regions.{region-none, region-over, region-put}
 use Rattle.bitmap.proofs.Fields.{zero-digit, no-digits, some-at, field-wide, field-over, field-put}
 
-pub sets : (i : ℕ) → Sets i
+pub sets : Sets
 unfolding setting
 sets i = record {
   made = λ c b s e.
@@ -39,7 +38,7 @@ sets i = record {
   why = λ c b e q. lacks c _ e q;
 }
 
-pub sets-many : (is : List ℕ) → SetsMany is
+pub sets-many : SetsMany
 unfolding settingMany
 sets-many is = record {
   made = λ c b s e.
@@ -65,7 +64,7 @@ removes i b = record {
   others = λ j n. ap (λ (t : Bool). b .members j && not t) (ne-eqb j i n) ∙ and-keep (b .members j);
 }
 
-pub unsets : (i : ℕ) → Unsets i
+pub unsets : Unsets
 unfolding unsetting
 unsets i = record {
   made = λ c b s e. subst (WithoutBit i b) (same e) (removes i b);
@@ -98,7 +97,7 @@ region-rule i v k b = record {
 }
 
 -- 4 exactly where the last index passes 2 ^ 64 - 1, then 6 for lack of space; k 0 does nothing, whatever i
-pub regions : (i : ℕ) (v : Bool) (k : ℕ) → Regions i v k
+pub regions : Regions
 regions i v k some = record {
   made = λ c b s e.
       by-lt (2 ^ 64) (i + k)
@@ -114,7 +113,7 @@ regions i v k some = record {
 pub region-nothing : (i : ℕ) (v : Bool) (c : ℕ) (b : Bits) → settingRegion i v 0 c b ≡ done b
 region-nothing i v c b = region-none i 0 c v b refl
 
-pub region-unchanged : (i : ℕ) (v : Bool) → RegionUnchanged i v
+pub region-unchanged : RegionUnchanged
 region-unchanged i v = meets-nothing (settingRegion i v 0) (region-nothing i v)
 
 -- ---- a field of width > 0
@@ -141,7 +140,7 @@ field-rule i value width b = record {
 }
 
 -- 3, 4 and 6 exactly; width 0 does nothing, whatever i
-pub fields : (i value width : ℕ) → FieldsSet i value width
+pub fields : FieldsSet
 fields i value width n = record {
   made = λ c b s e.
       by-lt 64 width
@@ -172,7 +171,7 @@ pub field-nothing : (i value c : ℕ) (b : Bits) → settingField i value 0 c b 
 unfolding settingField
 field-nothing i value c b = refl
 
-pub field-unchanged : (i value : ℕ) → FieldUnchanged i value
+pub field-unchanged : FieldUnchanged
 field-unchanged i value = meets-nothing (settingField i value 0) (field-nothing i value)
 
 -- ---- one word worked on, and tidied
@@ -204,7 +203,7 @@ tidies k t = record {
     full : (j : ℕ) → j / 64 ≡ k → t .members j ≡ true → wordOf (t .members) k ≡ 0 → ⊥
     full j e m z = false≢true (sym (word-zero (t .members) k (j % 64) z (omega arith)) ∙ ap (t .members) (omega arith) ∙ m)
 
-pub keeps-bit : (i : ℕ) → KeepsBit i
+pub keeps-bit : KeepsBit
 unfolding keepingBit
 keeps-bit i = record {
   made = λ c b s e. (
@@ -222,7 +221,7 @@ keeps-bit i = record {
   why = λ c b e q. never q;
 }
 
-pub drops-bit : (i : ℕ) → DropsBit i
+pub drops-bit : DropsBit
 unfolding droppingBit
 drops-bit i = record {
   made = λ c b s e. (without i b, removes i b, subst (Tidied (i / 64) _) (same e) (tidies (i / 64) _));
@@ -237,7 +236,7 @@ flips i b = record {
   others = λ j n. ap (xorb (b .members j)) (ne-eqb j i n) ∙ xor-false (b .members j);
 }
 
-pub flips-bit : (i : ℕ) → FlipsBit i
+pub flips-bit : FlipsBit
 unfolding flippingBit
 flips-bit i = record {
   made = λ c b s e. (flipped i b, flips i b, subst (Tidied (i / 64) _) (within-done c _ s e .0) (tidies (i / 64) _));

@@ -89,40 +89,40 @@ ThenTidied i rule b s = (t : Bits) × rule b t × Tidied (i / 64) t s
 
 -- What each call promises: what is done, with space, and each refusal where its condition holds. No numbers and no digits change nothing, whatever the index.
 
-abbrev pub Sets : ℕ → Type 0
-Sets i = Meets (setting i) (λ c. WithBit i) (Lacks (λ b. max (b .count) (i / 64 + 1)))
+abbrev pub Sets : Type 0
+Sets = (i : ℕ) → Meets (setting i) (λ c. WithBit i) (Lacks (λ b. max (b .count) (i / 64 + 1)))
 
-abbrev pub SetsMany : List ℕ → Type 0
-SetsMany is = Meets (settingMany is) (λ c. WithListed is) (LacksListed is)
+abbrev pub SetsMany : Type 0
+SetsMany = (is : List ℕ) → Meets (settingMany is) (λ c. WithListed is) (LacksListed is)
 
-abbrev pub Unsets : ℕ → Type 0
-Unsets i = Meets (unsetting i) (λ c. WithoutBit i) Never
+abbrev pub Unsets : Type 0
+Unsets = (i : ℕ) → Meets (unsetting i) (λ c. WithoutBit i) Never
 
 abbrev pub Trims : Type 0
 Trims = Meets trimming (λ c. Fewest) Never
 
-abbrev pub Regions : ℕ → Bool → ℕ → Type 0
-Regions i v k =
-    (k ≡ 0 → ⊥)
+abbrev pub Regions : Type 0
+Regions =
+    (i : ℕ) (v : Bool) (k : ℕ) → (k ≡ 0 → ⊥)
     → Meets (settingRegion i v k) (λ c b s. (i + k ≤ 2 ^ 64) × WithRegion i v k b s)
     (λ c b m. ((m ≡ 4) × (2 ^ 64 < i + k)) ⊎ ((m ≡ 6) × (i + k ≤ 2 ^ 64) × (c < choose v (max (b .count) ((i + k - 1) / 64 + 1)) (b .count))))
 
-abbrev pub RegionUnchanged : ℕ → Bool → Type 0
-RegionUnchanged i v = Meets (settingRegion i v 0) Unchanged Never
+abbrev pub RegionUnchanged : Type 0
+RegionUnchanged = (i : ℕ) (v : Bool) → Meets (settingRegion i v 0) Unchanged Never
 
-abbrev pub FieldsSet : ℕ → ℕ → ℕ → Type 0
-FieldsSet i value width =
-    (width ≡ 0 → ⊥)
+abbrev pub FieldsSet : Type 0
+FieldsSet =
+    (i value width : ℕ) → (width ≡ 0 → ⊥)
     → Meets (settingField i value width) (λ c b s. (width ≤ 64) × (i + width ≤ 2 ^ 64) × WithField i value width b s) (NoField i value width)
 
-abbrev pub FieldUnchanged : ℕ → ℕ → Type 0
-FieldUnchanged i value = Meets (settingField i value 0) Unchanged Never
+abbrev pub FieldUnchanged : Type 0
+FieldUnchanged = (i value : ℕ) → Meets (settingField i value 0) Unchanged Never
 
-abbrev pub KeepsBit : ℕ → Type 0
-KeepsBit i = Meets (keepingBit i) (λ c. ThenTidied i (OnlyBit i)) Never
+abbrev pub KeepsBit : Type 0
+KeepsBit = (i : ℕ) → Meets (keepingBit i) (λ c. ThenTidied i (OnlyBit i)) Never
 
-abbrev pub DropsBit : ℕ → Type 0
-DropsBit i = Meets (droppingBit i) (λ c. ThenTidied i (WithoutBit i)) Never
+abbrev pub DropsBit : Type 0
+DropsBit = (i : ℕ) → Meets (droppingBit i) (λ c. ThenTidied i (WithoutBit i)) Never
 
-abbrev pub FlipsBit : ℕ → Type 0
-FlipsBit i = Meets (flippingBit i) (λ c. ThenTidied i (FlippedBit i)) (LacksResult (ThenTidied i (FlippedBit i)))
+abbrev pub FlipsBit : Type 0
+FlipsBit = (i : ℕ) → Meets (flippingBit i) (λ c. ThenTidied i (FlippedBit i)) (LacksResult (ThenTidied i (FlippedBit i)))

@@ -47,7 +47,7 @@ toggled i c b s q =
     ))
     (λ l. absurd (never (sym q ∙ toggling-past i c b l)))
 
-pub toggles : (i : ℕ) → Toggles i
+pub toggles : Toggles
 toggles i = record {
   made = toggled i;
   sound = record {
@@ -119,12 +119,12 @@ count-clear-bits-means =
     count-call clearSize (λ b. Counted (λ i. not (b .members i)) (64 * b .count))
     (λ b bounded. counted (λ i. not (b .members i)) (64 * b .count) (clearSize b) (omega (arith, count-others (b .members) (64 * b .count))))
 
-pub count-region-means : (i k : ℕ) → CountRegionMeans i k
+pub count-region-means : CountRegionMeans
 unfolding countRegion
 count-region-means i k =
     count-call (countRegion i k) (λ b. Counted (λ j. b .members (i + j)) k) (λ b bounded. counting (λ j. b .members (i + j)) k)
 
-pub rank-means : (i : ℕ) → RankMeans i
+pub rank-means : RankMeans
 unfolding rankOf
 rank-means i = count-call (rankOf i) (λ b. Counted (b .members) i) (λ b bounded. counting (b .members) i)
 
@@ -163,5 +163,5 @@ selects r b bounded =
         let w : len + (e - len) ≡ e = omega arith in
         omega (arith, count-add s len (e - len), ap (countBelow s) w, count-none (λ j. s (len + j)) (e - len) (λ j m. bounded .past (len + j) (omega arith))))
 
-pub select-means : (r : ℕ) → SelectMeans r
+pub select-means : SelectMeans
 select-means r = found-call (selected r) (Selected r) (selects r)

@@ -1,7 +1,7 @@
 -- What the calls of bits.rs promise, for every number. Each is proved in proofs/Promises.
 use Prim.Native.Nat.{ℕ, _+_, _*_, _≤_, _<_}
 use mathlib.Core.Path.{_≡_}
-use mathlib.Core.Bool.{Bool, true, false, not}
+use mathlib.Core.Bool.{true, false, not}
 use Rattle.word.specs.Sets.{Counted}
 use Rattle.storage.specs.Stores.{Bits}
 use Rattle.storage.specs.Promises.{Hands, Finds, NumberCall, FoundCall, Meets, Never}
@@ -24,8 +24,8 @@ abbrev pub Inverts : Type 0
 Inverts = Meets inverting (λ c. Inverted) Never
 
 -- `toggle`: done below the length, 5 exactly from there on
-abbrev pub Toggles : ℕ → Type 0
-Toggles i = Meets (toggling i) (λ c b s. (i < 64 * b .count) × Toggled i b s) (λ c b k. (k ≡ 5) × (64 * b .count ≤ i))
+abbrev pub Toggles : Type 0
+Toggles = (i : ℕ) → Meets (toggling i) (λ c b s. (i < 64 * b .count) × Toggled i b s) (λ c b k. (k ≡ 5) × (64 * b .count ≤ i))
 
 -- `reverse`: the mirror of each number, over the whole length
 pub record Reversed (b s : Bits) : Type 0 where
@@ -41,12 +41,12 @@ abbrev pub CountClearBitsMeans : Type 0
 CountClearBitsMeans = NumberCall (λ s. Number.Is (clearSize s)) (λ b. Hands (Counted (λ i. not (b .members i)) (64 * b .count)))
 
 -- `count_region`: the members among the k numbers from i on
-abbrev pub CountRegionMeans : ℕ → ℕ → Type 0
-CountRegionMeans i k = NumberCall (λ s. Number.Is (countRegion i k s)) (λ b. Hands (Counted (λ j. b .members (i + j)) k))
+abbrev pub CountRegionMeans : Type 0
+CountRegionMeans = (i k : ℕ) → NumberCall (λ s. Number.Is (countRegion i k s)) (λ b. Hands (Counted (λ j. b .members (i + j)) k))
 
 -- `rank`: the members below i
-abbrev pub RankMeans : ℕ → Type 0
-RankMeans i = NumberCall (λ s. Number.Is (rankOf i s)) (λ b. Hands (Counted (b .members) i))
+abbrev pub RankMeans : Type 0
+RankMeans = (i : ℕ) → NumberCall (λ s. Number.Is (rankOf i s)) (λ b. Hands (Counted (b .members) i))
 
 -- a member with exactly r members below it; none only where there are at most r members
 abbrev pub Selected : ℕ → Bits → ℕ → ℕ → ℕ → Type 0
@@ -55,5 +55,5 @@ Selected r b =
     ((e : ℕ) → (v : ℕ) × Counted (b .members) e v × (v ≤ r))
 
 -- `select`
-abbrev pub SelectMeans : ℕ → Type 0
-SelectMeans r = FoundCall (selected r) (Selected r)
+abbrev pub SelectMeans : Type 0
+SelectMeans = (r : ℕ) → FoundCall (selected r) (Selected r)

@@ -35,14 +35,14 @@ use Rattle.slice.proofs.Equals.{size-none, none-of-size, equal-of-same,
 
 -- ---- what a call answers, from what it makes of a bitmap
 
-pub get-means : (i : ℕ) → GetMeans i
+pub get-means : GetMeans
 get-means i =
     truth-call (λ s. Truth.Is (s .members i)) (λ b. Tests (b .members i ≡ true))
     (λ b bounded. tests (b .members i ≡ true) (b .members i) (λ e. e) (λ e. e))
 
 -- ---- scans
 
-pub next-set-means : (i : ℕ) → NextSetMeans i
+pub next-set-means : NextSetMeans
 next-set-means i = found-call (λ s. nextFrom s i) (λ b. NextMember (b .members) i) (λ b bounded. next-member b bounded i)
 
 pub first-set-means : FirstSetMeans
@@ -86,7 +86,7 @@ module _ (b : Bits) (bounded : Bounded b) where
 pub last-set-means : LastSetMeans
 last-set-means = found-call lastSet LastMember last-member
 
-pub next-clear-means : (i : ℕ) → NextClearMeans i
+pub next-clear-means : NextClearMeans
 next-clear-means i = number-call (λ s. Number.Is (nextClear s i)) (λ b. Hands (NextOther b i)) (λ b bounded. (refl, next-other b bounded i))
 
 pub first-clear-means : FirstClearMeans
@@ -121,7 +121,7 @@ field-digits i width b =
     s : ℕ → Bool
     s j = b .members (i + j)
 
-pub get-field-means : (i width : ℕ) → GetFieldMeans i width
+pub get-field-means : GetFieldMeans
 get-field-means i width =
     field-call (fieldAt i width) (FieldDigits i width) (λ b bounded. field-digits i width b)
 
@@ -193,7 +193,7 @@ module _ (i value width : ℕ) (b : Bits) where
       inside z (inl e) = absurd (z e)
       inside z (inr h) = h
 
-pub set-field-strict : (i value width : ℕ) → SetFieldStrict i value width
+pub set-field-strict : SetFieldStrict
 set-field-strict i value width = record {
   made = λ c b. field-made i value width b c;
   sound = record {

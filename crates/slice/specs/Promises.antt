@@ -17,8 +17,8 @@ use Rattle.storage.specs.declared.Truth.the-variants.{Is, Refused}
 use Rattle.slice.specs.Slices.{frontPart, equal, fieldAt, fieldSetting, lastSet, nextClear}
 
 -- `get`: 1 exactly where i is a member
-abbrev pub GetMeans : ℕ → Type 0
-GetMeans i = TruthCall (λ s. Truth.Is (s .members i)) (λ b. Tests (b .members i ≡ true))
+abbrev pub GetMeans : Type 0
+GetMeans = (i : ℕ) → TruthCall (λ s. Truth.Is (s .members i)) (λ b. Tests (b .members i ≡ true))
 
 -- every digit, and 3 exactly over 64 digits
 abbrev pub FieldDigits : ℕ → ℕ → Bits → ℕ → ℕ → Type 0
@@ -27,12 +27,12 @@ FieldDigits i width b x v =
     ⊎ ((x ≡ 3) × (v ≡ 0) × (64 < width))
 
 -- `get_field`
-abbrev pub GetFieldMeans : ℕ → ℕ → Type 0
-GetFieldMeans i width = FieldCall (fieldAt i width) (FieldDigits i width)
+abbrev pub GetFieldMeans : Type 0
+GetFieldMeans = (i width : ℕ) → FieldCall (fieldAt i width) (FieldDigits i width)
 
 -- `next_set`, `first_set`: the least member from i on, and the least
-abbrev pub NextSetMeans : ℕ → Type 0
-NextSetMeans i = FoundCall (λ s. nextFrom s i) (λ b. NextMember (b .members) i)
+abbrev pub NextSetMeans : Type 0
+NextSetMeans = (i : ℕ) → FoundCall (λ s. nextFrom s i) (λ b. NextMember (b .members) i)
 
 abbrev pub FirstSetMeans : Type 0
 FirstSetMeans = FoundCall (λ s. nextFrom s 0) (λ b. NextMember (b .members) 0)
@@ -53,8 +53,8 @@ pub record NextOther (b : Bits) (i p : ℕ) : Type 0 where
   pub past : 64 * b .count ≤ i → p ≡ i
 
 -- `next_clear`, `first_clear`
-abbrev pub NextClearMeans : ℕ → Type 0
-NextClearMeans i = NumberCall (λ s. Number.Is (nextClear s i)) (λ b. Hands (NextOther b i))
+abbrev pub NextClearMeans : Type 0
+NextClearMeans = (i : ℕ) → NumberCall (λ s. Number.Is (nextClear s i)) (λ b. Hands (NextOther b i))
 
 abbrev pub FirstClearMeans : Type 0
 FirstClearMeans = NumberCall (λ s. Number.Is (nextClear s 0)) (λ b. Hands (NextOther b 0))
@@ -83,8 +83,8 @@ abbrev pub FieldRefused : ℕ → ℕ → Bits → ℕ → Type 0
 FieldRefused i width b k = ((k ≡ 3) × (64 < width)) ⊎ ((k ≡ 5) × (0 < width) × (width ≤ 64) × (64 * b .count < i + width))
 
 -- `set_field_strict`
-abbrev pub SetFieldStrict : ℕ → ℕ → ℕ → Type 0
-SetFieldStrict i value width = Meets (fieldSetting i value width) (λ c. FieldWritten i value width) (λ c. FieldRefused i width)
+abbrev pub SetFieldStrict : Type 0
+SetFieldStrict = (i value width : ℕ) → Meets (fieldSetting i value width) (λ c. FieldWritten i value width) (λ c. FieldRefused i width)
 
 -- v members, at the length and from there on
 abbrev pub AllCounted : Bits → ℕ → Type 0
