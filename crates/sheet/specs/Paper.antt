@@ -1,4 +1,4 @@
--- 01's limit of a store, its editions and its table of kinds, typed from the paper and by themselves, and what the table says of a payload, digit by
+-- 01's editions and its table of kinds, typed from the paper and by themselves, and what the table says of a payload, digit by
 -- digit. Nothing is defined by this: Promises says what agrees with it.
 use Prim.Native.Nat.{ℕ, zero, suc, _-_, _^_, _/_, _%_, _≤_}
 use mathlib.Core.Path.{_≡_}
