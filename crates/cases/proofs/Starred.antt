@@ -1,6 +1,8 @@
--- Every starred case holds, by computing the definitions. Assumes nothing.
-use mathlib.Core.Path.{_≡_, refl}
-use mathlib.Core.Bool.{true}
+-- Every starred case holds, by computing what each contract makes of it. Assumes nothing.
+use Prim.Native.Nat.{ℕ}
+use mathlib.Core.Path.{_≡_, refl, ap, ap₂, subst, _∙_}
+use mathlib.Core.List.{List, [], _∷_}
+use lib.ListN.{length}
 use Rattle.word.specs.Sets.{countBelow, leastFrom, topBelow, nth}
 use Rattle.word.specs.Bits.{bit, pack, wordOf, member, tabFrom, wordsOf}
 use Rattle.arch.specs.Scans.{filledWords}
@@ -19,8 +21,75 @@ use Rattle.sheet.specs.Bytes.{number}
 use Rattle.sheet.specs.Kinds.{rowOf, sizeIn, ruleOf}
 use Rattle.sheet.specs.Reader as sheets
 use Rattle.sheet.specs.Reads.{step, editionOf, course}
-use Rattle.cases.specs.Cases.{outOf, hold, starred}
+use Rattle.storage.specs.declared.Number.{Number}
+use Rattle.storage.specs.declared.Number.the-variants.{Is, Refused}
+use Rattle.storage.specs.declared.Field.{Field}
+use Rattle.storage.specs.declared.Field.the-variants.{Refused}
+use Rattle.storage.specs.declared.Found.{Found}
+use Rattle.storage.specs.declared.Found.the-variants.{Refused}
+use Rattle.storage.specs.declared.Truth.{Truth}
+use Rattle.storage.specs.declared.Truth.the-variants.{Is, Refused}
+use Rattle.print.specs.Texts.{textOf, fitted, replaced}
+use Rattle.sheet.specs.Reads.{readAnswer, readStore, readingCount}
+use Rattle.shape.specs.declared.Split.{Split}
+use Rattle.sheet.specs.declared.Reading.{Reading}
+use Rattle.cases.specs.Cases.{Ask, from-list, next-clear, first-clear, get-field, select, eq, rotate-right, xori, split-off, read, zeros, changed, found, counted, fielded, tested, parted, sheeted, Comes, Row, row, Hold, starred, StarredHold}
 
-pub starred-hold : hold starred ≡ true
-unfolding countBelow leastFrom topBelow nth bit pack wordOf member tabFrom wordsOf filledWords andThen checked view reading size combined foundBelow within wordsFor trimmedCount wordAt written zeroed answer store outcome equal fieldAt nextClear selected movedUp movedDown turnedDown rotatingRight settingRegion uniting tidied flippingBit raising lowered truncated tailOutcome headOutcome splitAnswer opening plain covers highest read.kind read.value read.token read.empty read.step read.next read.reads read.parsed read.parse read.readingList runsFrom decimalFrom printed others text number rowOf sizeIn ruleOf sheets.act sheets.records sheets.read step editionOf course outOf hold
-starred-hold = refl
+-- a reading's answer, and its result printed
+printing : Reading → List ℕ → List ℕ
+printing r ws =
+    let n = readingCount r in
+    sheeted r (reading ws n Number.Refused (λ s. fitted (textOf s) (zeros 16))) (reading ws n (λ e. zeros 16) (λ s. replaced (textOf s) (zeros 16)))
+
+-- what the contract of a call makes of it
+outOf : Ask → List ℕ
+outOf (from-list bytes c) = let o = outcome (read.readingList bytes) (zeros c) 0 in changed (answer o (record { count = 0 })) (store o (zeros c) 0)
+outOf (next-clear ws i) = counted (reading ws (length ws) Number.Refused (λ s. Number.Is (nextClear s i)))
+outOf (first-clear ws) = counted (reading ws (length ws) Number.Refused (λ s. Number.Is (nextClear s 0)))
+outOf (get-field ws i width) = fielded (reading ws (length ws) Field.Refused (fieldAt i width))
+outOf (select ws k) = found (reading ws (length ws) Found.Refused (selected k))
+outOf (eq ws os) = tested (reading ws (length ws) Truth.Refused (λ s. reading os (length os) Truth.Refused (λ t. Truth.Is (equal s t))))
+outOf (rotate-right ws k) =
+    let o = outcome (rotatingRight k) ws (length ws) in
+    changed (answer o (record { count = length ws })) (store o ws (length ws))
+outOf (xori ws n i) = let o = outcome (flippingBit i) ws n in changed (answer o (record { count = n })) (store o ws n)
+outOf (split-off ws at c) =
+    let h = headOutcome at ws (length ws) (zeros c) in
+    let t = tailOutcome at ws (length ws) (zeros c) in
+    parted (splitAnswer h t (record { count = length ws })) (store h ws (length ws)) (store t (zeros c) 0)
+outOf (read e sheet c) = let k = course e sheet [] 0 (length (zeros c)) in printing (readAnswer k) (readStore k (zeros c))
+
+comes : (a : Ask) → Comes a (outOf a)
+unfolding printing outOf
+comes (from-list bytes c) = λ r ws h. ap₂ changed (h .answers) (h .leaves)
+comes (next-clear ws i) = λ r h. ap counted h
+comes (first-clear ws) = λ r h. ap counted h
+comes (get-field ws i width) = λ r h. ap fielded h
+comes (select ws k) = λ r h. ap found h
+comes (eq ws os) = λ r h. ap tested h
+comes (rotate-right ws k) = λ r ws' h. ap₂ changed (h .answers) (h .leaves)
+comes (xori ws n i) = λ r ws' h. ap₂ changed (h .answers) (h .leaves)
+comes (split-off ws at c) = λ r ws' ts h.
+    let h₀ = headOutcome at ws (length ws) (zeros c) in
+    let t₀ = tailOutcome at ws (length ws) (zeros c) in
+    ap (λ (x : Split). parted x ws' ts) (h .answers) ∙ ap₂ (parted (splitAnswer h₀ t₀ (record { count = length ws }))) (h .head) (h .tail)
+comes (read e sheet c) = λ r ws p bytes h q.
+    ap₂ (sheeted r) (q .answers) (q .leaves)
+    ∙ ap₂ printing (h .answers) (h .leaves)
+
+again : List Row → List Row
+again [] = []
+again (r ∷ rs) = row (r .asked) (outOf (r .asked)) ∷ again rs
+
+each : (rs : List Row) → Hold (again rs)
+unfolding again
+each [] = tt
+each (r ∷ rs) = (comes (r .asked), each rs)
+
+-- the rows, computed
+computed : again starred ≡ starred
+unfolding countBelow leastFrom topBelow nth bit pack wordOf member tabFrom wordsOf filledWords andThen checked view reading size combined foundBelow within wordsFor trimmedCount wordAt written zeroed answer store outcome equal fieldAt nextClear selected movedUp movedDown turnedDown rotatingRight settingRegion uniting tidied flippingBit raising lowered truncated tailOutcome headOutcome splitAnswer opening plain covers highest read.kind read.value read.token read.empty read.step read.next read.reads read.parsed read.parse read.readingList runsFrom decimalFrom printed others text number rowOf sizeIn ruleOf sheets.act sheets.records sheets.read step editionOf course printing outOf again
+computed = refl
+
+pub starred-hold : StarredHold
+starred-hold = subst Hold computed (each starred)

@@ -1,11 +1,11 @@
 -- The starred cases of 01, "Small books to try", and the sentences behind them: one table of what is asked and what must come out. proofs/Starred: every row holds.
 use Prim.Native.Nat.{ℕ, zero, suc}
-use mathlib.Core.Bool.{Bool, true, false, _&&_}
+use mathlib.Core.Path.{_≡_}
 use mathlib.Core.List.{List, [], _∷_, _++_}
-use lib.ListN.{length}
-use lib.Dec.{eqb}
+use lib.ListN.{length, take}
 use Rattle.storage.specs.Refusals.{changeNumber, changeRecord, foundNumber, foundFlag, foundValue, numberNumber, numberValue, fieldNumber, fieldValue, truthNumber, truthValue}
-use Rattle.storage.specs.Stores.{Outcome, view, reading, answer, store, outcome}
+use Rattle.storage.specs.Stores.{reading, Changes}
+use Rattle.storage.specs.declared.Change.{Change}
 use Rattle.storage.specs.declared.Found.{Found}
 use Rattle.storage.specs.declared.Number.{Number}
 use Rattle.storage.specs.declared.Field.{Field}
@@ -14,10 +14,12 @@ use Rattle.slice.specs.Slices.{equal, fieldAt, nextClear}
 use Rattle.bits.specs.Bits.{selected}
 use Rattle.shift.specs.Shifts.{rotatingRight}
 use Rattle.bitmap.specs.Bitmaps.{flippingBit}
-use Rattle.shape.specs.Shapes.{tailOutcome, headOutcome, splitAnswer, splitNumber, splitHead, splitTail}
+use Rattle.shape.specs.Shapes.{splitNumber, splitHead, splitTail, Splits}
+use Rattle.shape.specs.declared.Split.{Split}
 use Rattle.text.specs.Readings.{readingList}
-use Rattle.print.specs.Texts.{textOf}
-use Rattle.sheet.specs.Reads.{Course, course, readAnswer, readStore, readingNumber, readingRecord, readingCount}
+use Rattle.print.specs.Texts.{Prints}
+use Rattle.sheet.specs.Reads.{readingNumber, readingRecord, readingCount, Reads}
+use Rattle.sheet.specs.declared.Reading.{Reading}
 
 -- what is asked; a bitmap's words are all of its store, but in `xori`, where it is the first of them
 pub data Ask : Type 0 where
@@ -38,8 +40,8 @@ zeros zero = []
 zeros (suc n) = 0 ∷ zeros n
 
 -- the number, the count, and every word of the store
-abbrev pub changed : Outcome → List ℕ → ℕ → List ℕ
-changed o ws n = let r = answer o (record { count = n }) in changeNumber r ∷ changeRecord r .count ∷ store o ws n
+abbrev pub changed : Change → List ℕ → List ℕ
+changed r ws = changeNumber r ∷ changeRecord r .count ∷ ws
 
 -- the number, 1 where something was found, and the place
 abbrev pub found : Found → List ℕ
@@ -55,32 +57,32 @@ abbrev pub tested : Truth → List ℕ
 tested r = truthNumber r ∷ truthValue r ∷ []
 
 -- the number, the head's count and every word of its store, the tail's count and every word of its store
-abbrev pub parted : Outcome → Outcome → List ℕ → ℕ → List ℕ → List ℕ
-parted h t ws n ts =
-    let r = splitAnswer h t (record { count = n }) in
-    splitNumber r ∷ splitHead r .count ∷ (store h ws n ++ (splitTail r ∷ store t ts 0))
+abbrev pub parted : Split → List ℕ → List ℕ → List ℕ
+parted r ws ts = splitNumber r ∷ splitHead r .count ∷ (ws ++ (splitTail r ∷ ts))
 
--- the number, the record, the word count, and the list of the result
-abbrev pub sheeted : Course → ℕ → List ℕ
-sheeted k c =
-    let r = readAnswer k in
-    readingNumber r ∷ readingRecord r ∷ readingCount r ∷ textOf (view (readStore k (zeros c)) (readingCount r))
+-- the number, the record, the word count, and the bytes of the list that was printed
+abbrev pub sheeted : Reading → Number → List ℕ → List ℕ
+sheeted r p bytes = readingNumber r ∷ readingRecord r ∷ readingCount r ∷ take (numberValue p) bytes
 
--- what comes out, by the definitions that the contracts cite
-unfoldable pub outOf : Ask → List ℕ
-unfolding outcome readingList answer store splitAnswer reading nextClear fieldAt selected equal rotatingRight flippingBit headOutcome tailOutcome course view
-outOf (from-list text c) = changed (outcome (readingList text) (zeros c) 0) (zeros c) 0
-outOf (next-clear ws i) = counted (reading ws (length ws) Number.Refused (λ s. Number.Is (nextClear s i)))
-outOf (first-clear ws) = counted (reading ws (length ws) Number.Refused (λ s. Number.Is (nextClear s 0)))
-outOf (get-field ws i width) = fielded (reading ws (length ws) Field.Refused (fieldAt i width))
-outOf (select ws r) = found (reading ws (length ws) Found.Refused (selected r))
-outOf (eq ws os) = tested (reading ws (length ws) Truth.Refused (λ s. reading os (length os) Truth.Refused (λ t. Truth.Is (equal s t))))
-outOf (rotate-right ws k) = changed (outcome (rotatingRight k) ws (length ws)) ws (length ws)
-outOf (xori ws n i) = changed (outcome (flippingBit i) ws n) ws n
-outOf (split-off ws at c) =
-    let n = length ws in
-    parted (headOutcome at ws n (zeros c)) (tailOutcome at ws n (zeros c)) ws n (zeros c)
-outOf (read e sheet c) = sheeted (course e sheet [] 0 c) c
+-- whatever meets the call's contract comes out so; the result of a sheet is printed into sixteen bytes
+abbrev pub Comes : Ask → List ℕ → Type 0
+Comes (from-list text c) out =
+    (r : Change) (ws : List ℕ) → Changes (readingList text) (zeros c) (record { count = 0 }) r ws → changed r ws ≡ out
+Comes (next-clear ws i) out = (r : Number) → r ≡ reading ws (length ws) Number.Refused (λ s. Number.Is (nextClear s i)) → counted r ≡ out
+Comes (first-clear ws) out = (r : Number) → r ≡ reading ws (length ws) Number.Refused (λ s. Number.Is (nextClear s 0)) → counted r ≡ out
+Comes (get-field ws i width) out = (r : Field) → r ≡ reading ws (length ws) Field.Refused (fieldAt i width) → fielded r ≡ out
+Comes (select ws k) out = (r : Found) → r ≡ reading ws (length ws) Found.Refused (selected k) → found r ≡ out
+Comes (eq ws os) out =
+    (r : Truth) → r ≡ reading ws (length ws) Truth.Refused (λ s. reading os (length os) Truth.Refused (λ t. Truth.Is (equal s t)))
+    → tested r ≡ out
+Comes (rotate-right ws k) out =
+    (r : Change) (ws' : List ℕ) → Changes (rotatingRight k) ws (record { count = length ws }) r ws' → changed r ws' ≡ out
+Comes (xori ws n i) out = (r : Change) (ws' : List ℕ) → Changes (flippingBit i) ws (record { count = n }) r ws' → changed r ws' ≡ out
+Comes (split-off ws at c) out =
+    (r : Split) (ws' ts : List ℕ) → Splits at ws (record { count = length ws }) (zeros c) r ws' ts → parted r ws' ts ≡ out
+Comes (read e sheet c) out =
+    (r : Reading) (ws : List ℕ) (p : Number) (bytes : List ℕ)
+    → Reads e sheet [] 0 (zeros c) r ws → Prints ws (readingCount r) (zeros 16) p bytes → sheeted r p bytes ≡ out
 
 pub record Row : Type 0 where
   pub asked : Ask
@@ -88,18 +90,6 @@ pub record Row : Type 0 where
 
 abbrev pub row : Ask → List ℕ → Row
 row a o = record { asked = a; out = o }
-
-abbrev pub same : List ℕ → List ℕ → Bool
-same [] [] = true
-same [] (y ∷ ys) = false
-same (x ∷ xs) [] = false
-same (x ∷ xs) (y ∷ ys) = eqb x y && same xs ys
-
--- every row comes out as it says
-unfoldable pub hold : List Row → Bool
-unfolding outOf
-hold [] = true
-hold (r ∷ rs) = same (outOf (r .asked)) (r .out) && hold rs
 
 -- the sheet of 01
 abbrev pub sheet : List ℕ
@@ -152,3 +142,11 @@ starred =
     ∷ row (read 1 sheet 128) (13 ∷ 3 ∷ 0 ∷ [])
     ∷ row (read 2 sheet 128) (0 ∷ 3 ∷ 1 ∷ 52 ∷ 44 ∷ 32 ∷ 55 ∷ 45 ∷ 56 ∷ [])
     ∷ []
+
+-- every row comes out as it says
+abbrev pub Hold : List Row → Type 0
+Hold [] = Unit {0}
+Hold (r ∷ rs) = Comes (r .asked) (r .out) × Hold rs
+
+abbrev pub StarredHold : Type 0
+StarredHold = Hold starred
