@@ -19,7 +19,8 @@ use Rattle.word.proofs.Bits.{bit-and, bit-or, bit-not, bit-ones, bit-zero, bit-
 use Rattle.word.proofs.Words.{bit-low-mask, low-mask-lt}
 use Rattle.word.proofs.Lists.{Fit, past, length-tab, tab-at, tab-is, member-at}
 use Rattle.word.proofs.Sweep.{Swept, getD-set}
-use Rattle.arch.specs.Scans.{filledWords, filled, placesIn, overlaid}
+use Rattle.arch.specs.Scans.{filledWords, filled}
+use Rattle.arch.specs.Kernels.{placesIn, overlaid}
 
 -- ---- whole words
 

@@ -1,4 +1,5 @@
 pub mod Scans
 pub mod Select
 pub mod Digits
+pub mod Kernels
 pub mod Promises

@@ -6,7 +6,7 @@ use mathlib.Core.List.{List}
 use lib.ListN.{length, getD}
 use lib.Dec.{eqb, ltb, leb}
 use Rattle.word.specs.Sets.{choose, countBelow, leastFrom, topBelow}
-use Rattle.word.specs.Bits.{bit, pack, member, tabFrom, wordsOf}
+use Rattle.word.specs.Bits.{member, tabFrom, wordsOf}
 use Rattle.arch.specs.declared.FoundWord.{FoundWord}
 use Rattle.arch.specs.declared.FoundWord.the-variants.{At, Nothing}
 
@@ -56,11 +56,3 @@ filledWords a e x ws = tabFrom 0 (length ws) (λ k. choose (leb a k && ltb k e) 
 unfoldable pub filled : ℕ → ℕ → Bool → List ℕ → List ℕ
 unfolding wordsOf
 filled from end v ws = wordsOf (λ i. choose (leb from i && ltb i end) v (member ws i)) (length ws)
-
--- the places of a word that lie from `from` on, below `end`, where the word is word k
-unfoldable pub placesIn : ℕ → ℕ → ℕ → ℕ
-placesIn from end k = pack 64 (λ j. leb from (64 * k + j) && ltb (64 * k + j) end)
-
--- the word x with v at the places of the mask
-unfoldable pub overlaid : ℕ → ℕ → Bool → ℕ
-overlaid x mask v = pack 64 (λ j. choose (bit mask j) v (bit x j))

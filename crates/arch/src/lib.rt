@@ -9,7 +9,8 @@ ghost use Prim.Native.Nat.{_+_, _*_, _^_, _≤_, _<_};
 ghost use lib.ListN.{length, getD, set};
 ghost use Rattle.word.specs.Sets.{choose};
 ghost use Rattle.word.specs.Words.{allOnes};
-ghost use Rattle.arch.specs.Scans.{Alike, firstOther, wordFound, nonzeroLen, isZero, countSet, filledWords, filled, placesIn, overlaid};
+ghost use Rattle.arch.specs.Scans.{Alike, firstOther, wordFound, nonzeroLen, isZero, countSet, filledWords, filled};
+ghost use Rattle.arch.specs.Kernels.{placesIn, overlaid};
 
 // A word found in a slice, with its index.
 pub enum FoundWord {

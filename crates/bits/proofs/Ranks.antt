@@ -16,7 +16,8 @@ use Rattle.arch.proofs.Counts.{count-word}
 use Rattle.storage.specs.Stores.{view, foundBelow}
 use Rattle.storage.specs.declared.Found.the-variants.{At, Nothing}
 use Rattle.storage.proofs.Views.{view-count, view-part, view-in}
-use Rattle.bits.specs.Bits.{Passing, selected}
+use Rattle.bits.specs.Bits.{selected}
+use Rattle.bits.specs.Kernels.{Passing}
 use Rattle.bits.proofs.Counts.{whole-words}
 
 pub pass-none : (ws : List ℕ) (r : ℕ) → Passing ws r 0 r

@@ -1,12 +1,8 @@
 -- The calls of bits.rs, on sets: n words are in use, and the count stays.
-use Prim.Native.Nat.{ℕ, suc, _+_, _-_, _*_, _≤_}
-use mathlib.Core.Path.{_≡_}
+use Prim.Native.Nat.{ℕ, suc, _+_, _-_, _*_}
 use mathlib.Core.Bool.{not, _&&_}
-use mathlib.Core.List.{List}
-use lib.ListN.{length}
 use lib.Dec.{ltb, eqb}
 use Rattle.word.specs.Sets.{choose, xorb, countBelow, nth}
-use Rattle.word.specs.Bits.{member}
 use Rattle.storage.specs.Stores.{Bits, refused, done, Op, size, foundBelow}
 use Rattle.storage.specs.declared.Refusal.the-variants.{PastLength}
 use Rattle.storage.specs.declared.Found.{Found}
@@ -40,8 +36,3 @@ rankOf i b = countBelow (b .members) i
 -- the member with exactly r members below it
 unfoldable pub selected : ℕ → Bits → Found
 selected r b = foundBelow (64 * b .count) (nth (b .members) r (64 * b .count) (64 * b .count))
-
--- what is passed of a rank r: `left` of it remains after the words before index `at`
-pub record Passing (ws : List ℕ) (r at left : ℕ) : Type 0 where
-  pub inside : at ≤ length ws
-  pub passed : countBelow (member ws) (64 * at) + left ≡ r

@@ -13,7 +13,8 @@ ghost use lib.ListN.{length, getD};
 ghost use Rattle.word.specs.Sets.{countBelow};
 ghost use Rattle.word.specs.Bits.{bit, member, wordsOf};
 ghost use Rattle.storage.specs.Stores.{limit, reading, Changes};
-ghost use Rattle.bits.specs.Bits.{toggling, inverting, reversing, clearSize, countRegion, rankOf, selected, Passing};
+ghost use Rattle.bits.specs.Bits.{toggling, inverting, reversing, clearSize, countRegion, rankOf, selected};
+ghost use Rattle.bits.specs.Kernels.{Passing};
 
 // Flips bit i; 5 past the length.
 pub fn toggle(words: &mut [u64], b: Bitmap, i: usize) -> Change

@@ -3,7 +3,7 @@ use native.Mathlib.Omega.{arith}
 use borrow.Author.Needs.{needs}
 use lib.Seq.{set-out}
 use lib.ListN.{getD, set}
-use Rattle.arch.specs.Scans.{overlaid}
+use Rattle.arch.specs.Kernels.{overlaid}
 use Rattle.arch.proofs.Regions.{overlaid-set, overlaid-clear}
 use Rattle.arch.proofs.overlay.Statement.{statement}
 use Rattle.arch.proofs.overlay.Tie as tie
