@@ -8,3 +8,4 @@ pub mod Product
 pub mod Lists
 pub mod Sweep
 pub mod Ends
+pub mod Promises

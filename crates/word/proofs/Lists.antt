@@ -35,7 +35,7 @@ unfolding tabFrom
 length-tab i zero f = refl
 length-tab i (suc n) f = ap suc (length-tab (suc i) n f)
 
-getD-tab : (i n : ℕ) (f : ℕ → ℕ) (k : ℕ) → k < n → getD (tabFrom i n f) k 0 ≡ f (i + k)
+pub getD-tab : (i n : ℕ) (f : ℕ → ℕ) (k : ℕ) → k < n → getD (tabFrom i n f) k 0 ≡ f (i + k)
 unfolding tabFrom
 getD-tab i zero f k h = absurd (not-suc-le-zero h)
 getD-tab i (suc n) f zero h = ap f (sym (add-zero i))

@@ -12,8 +12,9 @@ use lib.Pow.{pow-pos, pow-mono, pow-lt, pow-add, split, ones-lt, ones-sub-lt, sh
 use lib.Bits.{bitAnd, bitOr, and-lt, or-lt}
 use Rattle.word.specs.Sets.{choose, val, countBelow, leastFrom, topBelow, Least}
 use Rattle.word.specs.Bits.{isOne, bit}
-use Rattle.word.specs.Words.{lowMask, single, mirrored, withoutLeast, funneled, pairBit, LeastRemoved, Mirrors, FromPlace}
-use Rattle.word.proofs.Cases.{by-lt, by-eq, or-false, and-false, and-keep, and-same}
+use Rattle.word.specs.Words.{lowMask, single, mirrored, withoutLeast, funneled, pairBit}
+use Rattle.word.specs.Promises.{FromPlace}
+use Rattle.word.proofs.Cases.{by-lt, by-eq, or-false, and-keep, and-same}
 use Rattle.word.proofs.Bits.{bit-and, bit-or, bit-zero, bit-shr, bit-past, bit-mod, bit-cat-low, bit-cat-high, bit-shl-mod, bit-ones, bit-not, bit-suc, bits-ext, pack-lt, bit-pack, pack-is, bit-one, no-bits}
 use Rattle.word.proofs.Sets.{count-ext, least, least-suc, least-ext, top-is}
 
@@ -240,30 +241,13 @@ clear-lowest w (suc x) y hx hy e =
         (λ q. absurd (omega (arith, sym e ∙ ap (λ (z : ℕ). z % 2 ^ w) q ∙ mod-self (2 ^ w))))
         (λ n. let q : y + 1 ≡ suc x = sym (mod-eq-of-lt (omega arith)) ∙ e in omega arith)
 
--- it takes away exactly the least place
-pub removed : (w x : ℕ) → 0 < x → x < 2 ^ w → LeastRemoved w x (withoutLeast w x) (leastFrom (bit x) 0 w)
-unfolding withoutLeast
-removed w x p h = record {
-  within = inside;
-  was = here w x p h;
-  least = below w x p h;
-  gone = at t inside ∙ ap (λ (a : Bool). bit x t && not a) (eq-eqb t t refl) ∙ and-false (bit x t);
-  others = λ j n.
-      by-lt j w
-      (λ l. at j l ∙ ap (λ (a : Bool). bit x j && not a) (ne-eqb j t n) ∙ and-keep (bit x j))
-      (λ l. bit-past (withoutLeast w x) w j (pack-lt w (λ i. bit x i && not (eqb i t))) l ∙ sym (bit-past x w j h l));
-}
-  where
-    t : ℕ
-    t = leastFrom (bit x) 0 w
-
-    inside : leastFrom (bit x) 0 w < w
-    inside = least-bit w x p h
-
-    at : (j : ℕ) → j < w → bit (withoutLeast w x) j ≡ bit x j && not (eqb j t)
-    at j l = bit-pack w (λ i. bit x i && not (eqb i t)) j l
-
 -- ---- mirrored
+
+-- y is x mirrored, and mirrored again it is x
+pub record Mirrors (w x y : ℕ) : Type 0 where
+  pub fits : y < 2 ^ w
+  pub place : (i j : ℕ) → i + j + 1 ≡ w → bit y i ≡ bit x j
+  pub back : mirrored w y ≡ x
 
 pub mirrors : (w x : ℕ) → x < 2 ^ w → Mirrors w x (mirrored w x)
 unfolding mirrored

@@ -39,7 +39,7 @@ unfoldable pub nth : (ℕ → Bool) → ℕ → ℕ → ℕ → ℕ
 nth s r none zero = none
 nth s r none (suc m) = let rest = nth s r none m in choose (s m && eqb (countBelow s m) r) m rest
 
--- What these answer, without their recursion. Proved in proofs/Sets.
+-- What these answer, without their recursion. Promised in specs/Promises.
 
 -- p is the least member from i on, below e; or it is e, and no number from i on, below e, is a member
 pub record Least (s : ℕ → Bool) (i e p : ℕ) : Type 0 where

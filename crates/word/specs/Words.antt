@@ -1,7 +1,6 @@
 -- What the functions of word.rs make of a word, as a set of places below the width w.
-use Prim.Native.Nat.{ℕ, suc, _+_, _-_, _*_, _%_, _^_, _<_}
-use mathlib.Core.Path.{_≡_}
-use mathlib.Core.Bool.{Bool, true, false, not, _&&_, _||_}
+use Prim.Native.Nat.{ℕ, suc, _+_, _-_, _*_, _%_, _^_}
+use mathlib.Core.Bool.{Bool, not, _&&_, _||_}
 use lib.Dec.{eqb, ltb, leb}
 use Rattle.word.specs.Sets.{choose, leastFrom}
 use Rattle.word.specs.Bits.{bit, pack}
@@ -37,24 +36,3 @@ funneled w lo hi down up = pack w (λ j. bit lo (down + j) || (leb up j && bit h
 -- place i of two neighbouring words, lo below hi
 unfoldable pub pairBit : ℕ → ℕ → ℕ → ℕ → Bool
 pairBit w lo hi i = choose (ltb i w) (bit lo i) (bit hi (i - w))
-
--- What these promise, without their own words. Proved in proofs/Words.
-
--- y is x without its least place t
-pub record LeastRemoved (w x y t : ℕ) : Type 0 where
-  pub within : t < w
-  pub was : bit x t ≡ true
-  pub least : (j : ℕ) → j < t → bit x j ≡ false
-  pub gone : bit y t ≡ false
-  pub others : (j : ℕ) → (j ≡ t → ⊥) → bit y j ≡ bit x j
-
--- y is x mirrored, and mirrored again it is x
-pub record Mirrors (w x y : ℕ) : Type 0 where
-  pub fits : y < 2 ^ w
-  pub place : (i j : ℕ) → i + j + 1 ≡ w → bit y i ≡ bit x j
-  pub back : mirrored w y ≡ x
-
--- y is the w places of the pair from `place` on
-pub record FromPlace (w lo hi place y : ℕ) : Type 0 where
-  pub fits : y < 2 ^ w
-  pub at : (j : ℕ) → j < w → bit y j ≡ pairBit w lo hi (place + j)
