@@ -12,7 +12,7 @@ use lib.Bits.{bitAnd, bitOr, and-high, or-shifted-r}
 use Rattle.word.specs.Sets.{val}
 use Rattle.word.proofs.Sets.{val-le}
 use Rattle.arch.specs.Select.{byteOf}
-use Rattle.arch.specs.Digits.{num, upTo, atMost, Room}
+use Rattle.arch.specs.Kernels.{num, upTo, atMost, Room}
 use Rattle.arch.proofs.Digits.{Digits, up, num-byte, byte-num, num-ext, num-lt, num-sub, num-same, num-scale, num-and, num-or, product}
 
 -- ---- sums

@@ -9,7 +9,7 @@ use Rattle.word.specs.Sets.{countBelow}
 use Rattle.word.specs.Bits.{bit}
 use Rattle.word.proofs.Cases.{every, every-at}
 use Rattle.arch.specs.Select.{byteOf}
-use Rattle.arch.specs.Digits.{num, setIn}
+use Rattle.arch.specs.Kernels.{num, setIn}
 use Rattle.arch.proofs.Digits.{Digits, up, rest, num-byte, byte-le, num-add, num-sub, num-and}
 
 -- ---- a test at every byte

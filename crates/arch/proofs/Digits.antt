@@ -7,7 +7,7 @@ use lib.Arith.{digits-mod}
 use lib.Pow.{pow-add, high, low, shr-shr, mod-pow-add}
 use lib.Bits.{bitAnd, bitOr, and-block, or-block}
 use Rattle.arch.specs.Select.{byteOf}
-use Rattle.arch.specs.Digits.{num, upTo}
+use Rattle.arch.specs.Kernels.{num, upTo}
 
 -- f's bytes above the lowest
 abbrev pub up : (ℕ → ℕ) → ℕ → ℕ

@@ -12,7 +12,7 @@ use Rattle.word.specs.Sets.{val, countBelow, nth, Nth}
 use Rattle.word.specs.Bits.{bit}
 use Rattle.word.proofs.Sets.{count-le, nth-has}
 use Rattle.arch.specs.Select.{byteOf, selectBy}
-use Rattle.arch.specs.Digits.{num, upTo, setIn, atMost, Room}
+use Rattle.arch.specs.Kernels.{num, upTo, setIn, atMost, Room}
 use Rattle.arch.proofs.Digits.{Digits, num-byte, byte-num, byte-le, byte-suc, byte-zero, product}
 use Rattle.arch.proofs.Before.{upTo-ext, Passes, passes}
 use Rattle.arch.proofs.Table.{count-byte, in-byte, placed, select-placed}

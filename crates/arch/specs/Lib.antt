@@ -1,5 +1,4 @@
 pub mod Scans
 pub mod Select
-pub mod Digits
 pub mod Kernels
 pub mod Promises

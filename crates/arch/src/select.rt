@@ -5,7 +5,7 @@ ghost use Prim.Native.Nat.{_<_};
 ghost use Rattle.word.specs.Sets.{countBelow, nth};
 ghost use Rattle.word.specs.Bits.{bit};
 ghost use Rattle.arch.specs.Select.{selectBy};
-ghost use Rattle.arch.specs.Digits.{num, upTo, setIn, atMost, Room};
+ghost use Rattle.arch.specs.Kernels.{num, upTo, setIn, atMost, Room};
 
 // The lowest bit of each byte.
 const L8: u64 = 0x0101_0101_0101_0101;
