@@ -84,7 +84,7 @@ fn stores() {
     show::end();
 }
 
-pub fn books() {
+pub(crate) fn books() {
     words();
     kernels();
     stores();

@@ -84,7 +84,7 @@ fn half_a_field() {
     );
 }
 
-pub fn books() {
+pub(crate) fn books() {
     append_after_split(70);
     append_after_split(64);
     trim_before_rotation();

@@ -139,7 +139,7 @@ fn length_nothing() {
     show::found(slice::last_set(&store, Bitmap { count: 0 }));
 }
 
-pub fn books() {
+pub(crate) fn books() {
     nothing();
     first_number();
     words_in_use();

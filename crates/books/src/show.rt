@@ -6,26 +6,26 @@ use storage::Field;
 use storage::Found;
 use storage::Number;
 
-pub fn put(text: &[u8]) {
+pub(crate) fn put(text: &[u8]) {
     io::write_all(STDOUT_FILENO, text);
 }
 
-pub fn number(n: usize) {
+pub(crate) fn number(n: usize) {
     put(b" ");
     io::print_decimal(STDOUT_FILENO, n as u64);
 }
 
-pub fn word_of(x: u64) {
+pub(crate) fn word_of(x: u64) {
     put(b" ");
     io::print_hex(STDOUT_FILENO, x, 1);
 }
 
-pub fn end() {
+pub(crate) fn end() {
     put(b"\n");
 }
 
 // Every word, those not in use too.
-pub fn words_of(words: &[u64]) {
+pub(crate) fn words_of(words: &[u64]) {
     put(b" |");
     for k in 0..words.len() {
         word_of(words[k]);
@@ -33,7 +33,7 @@ pub fn words_of(words: &[u64]) {
 }
 
 // Number, word count, words.
-pub fn change(c: Change, words: &[u64]) {
+pub(crate) fn change(c: Change, words: &[u64]) {
     match c {
         Change::Done(b) => {
             number(0);
@@ -49,7 +49,7 @@ pub fn change(c: Change, words: &[u64]) {
 }
 
 // Number and value.
-pub fn counted(n: Number) {
+pub(crate) fn counted(n: Number) {
     match n {
         Number::Is(v) => {
             number(0);
@@ -64,7 +64,7 @@ pub fn counted(n: Number) {
 }
 
 // Number and value.
-pub fn field(f: Field) {
+pub(crate) fn field(f: Field) {
     match f {
         Field::Is(v) => {
             number(0);
@@ -79,7 +79,7 @@ pub fn field(f: Field) {
 }
 
 // Number and place, or none.
-pub fn found(f: Found) {
+pub(crate) fn found(f: Found) {
     match f {
         Found::At(i) => {
             number(0);
@@ -98,7 +98,7 @@ pub fn found(f: Found) {
 }
 
 // The record that a call answers, for the next one.
-pub fn record(c: Change) -> Bitmap {
+pub(crate) fn record(c: Change) -> Bitmap {
     match c {
         Change::Done(b) => b,
         Change::Refused(_, b) => b,

@@ -35,7 +35,7 @@ fn fields() {
     show::field(slice::get_field(&store, b, 18_446_744_073_709_551_615, 0));
 }
 
-pub fn books() {
+pub(crate) fn books() {
     lists();
     fields();
 }

@@ -71,7 +71,7 @@ fn changed(line: &[u64; 1024], h: Head, words: &mut [u64], other: &[u64]) -> Cha
 }
 
 // The calls that differ by their kind alone.
-pub fn on_words(line: &[u64; 1024], words: &mut [u64], other: &[u64]) -> Told {
+pub(crate) fn on_words(line: &[u64; 1024], words: &mut [u64], other: &[u64]) -> Told {
     let h = head_of(line);
     match h.op >> 4 {
         2 => kernels::kernel(h.op, words, h.x, h.y, h.z),
@@ -80,13 +80,13 @@ pub fn on_words(line: &[u64; 1024], words: &mut [u64], other: &[u64]) -> Told {
     }
 }
 
-pub fn set_many(line: &[u64; 1024], words: &mut [u64]) -> Told {
+pub(crate) fn set_many(line: &[u64; 1024], words: &mut [u64]) -> Told {
     let list = store::indexes(line);
     let n = store::at_most(store::at(line, 16), 64);
     told::change(bitmap::set_many(words, store::bitmap_at(line, 10), &list[0..n]))
 }
 
-pub fn split_off(line: &[u64; 1024], words: &mut [u64], tail: &mut [u64]) -> Told {
+pub(crate) fn split_off(line: &[u64; 1024], words: &mut [u64], tail: &mut [u64]) -> Told {
     let at = store::at(line, 2) as usize;
     told::split(shape::split_off(words, store::bitmap_at(line, 10), at, tail))
 }

@@ -35,7 +35,7 @@ fn known(op: u64) -> bool {
 }
 
 // Whether the line has a known call, an odd seed, parts that have room here, and exactly `count` numbers.
-pub fn sound(line: &[u64; 1024], count: usize) -> bool {
+pub(crate) fn sound(line: &[u64; 1024], count: usize) -> bool {
     known(store::at(line, 0))
         && store::at(line, 1) % 2 == 1
         && store::at(line, 9) <= 64
@@ -103,7 +103,7 @@ fn make(line: &[u64; 1024], words: &mut [u64], other: &mut [u64]) -> u64 {
 }
 
 // Replays a sound line: each call has as much of its stores as the line says.
-pub fn replay(line: &[u64; 1024]) -> u64 {
+pub(crate) fn replay(line: &[u64; 1024]) -> u64 {
     let mut a = store::loaded(line, 0);
     let mut b = store::loaded(line, 1);
     let n = store::room(line, 9);

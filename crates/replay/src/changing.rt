@@ -2,7 +2,7 @@
 use storage::Bitmap;
 use storage::Change;
 
-pub fn within(op: u64, words: &mut [u64], b: Bitmap, x: usize) -> Change {
+pub(crate) fn within(op: u64, words: &mut [u64], b: Bitmap, x: usize) -> Change {
     match op {
         0x80 => bits::toggle(words, b, x),
         0x81 => bits::invert(words, b),
@@ -14,7 +14,7 @@ pub fn within(op: u64, words: &mut [u64], b: Bitmap, x: usize) -> Change {
     }
 }
 
-pub fn bit(op: u64, words: &mut [u64], b: Bitmap, x: usize) -> Change {
+pub(crate) fn bit(op: u64, words: &mut [u64], b: Bitmap, x: usize) -> Change {
     match op {
         0x90 => bitmap::trim(words, b),
         0x91 => bitmap::set(words, b, x),
@@ -25,7 +25,7 @@ pub fn bit(op: u64, words: &mut [u64], b: Bitmap, x: usize) -> Change {
     }
 }
 
-pub fn reshape(op: u64, words: &mut [u64], b: Bitmap, x: usize) -> Change {
+pub(crate) fn reshape(op: u64, words: &mut [u64], b: Bitmap, x: usize) -> Change {
     match op {
         0xa0 => shape::toggle(words, b, x),
         0xa1 => shape::shift_left(words, b, x),
@@ -35,7 +35,7 @@ pub fn reshape(op: u64, words: &mut [u64], b: Bitmap, x: usize) -> Change {
     }
 }
 
-pub fn range(op: u64, words: &mut [u64], b: Bitmap, x: usize, y: usize, z: u64) -> Change {
+pub(crate) fn range(op: u64, words: &mut [u64], b: Bitmap, x: usize, y: usize, z: u64) -> Change {
     match op {
         0xb0 => slice::set_field_strict(words, b, x, z, y),
         0xb1 => bitmap::set_field(words, b, x, z, y),
@@ -46,7 +46,7 @@ pub fn range(op: u64, words: &mut [u64], b: Bitmap, x: usize, y: usize, z: u64) 
     }
 }
 
-pub fn pair(op: u64, words: &mut [u64], b: Bitmap, other: &[u64], o: Bitmap) -> Change {
+pub(crate) fn pair(op: u64, words: &mut [u64], b: Bitmap, other: &[u64], o: Bitmap) -> Change {
     match op {
         0xc0 => setops::and(words, b, other, o),
         0xc1 => setops::andnot(words, b, other, o),
@@ -57,7 +57,7 @@ pub fn pair(op: u64, words: &mut [u64], b: Bitmap, other: &[u64], o: Bitmap) -> 
 }
 
 // The store that is written comes first, then the left and the right bitmap.
-pub fn combine(
+pub(crate) fn combine(
     op: u64,
     words: &mut [u64],
     b: Bitmap,

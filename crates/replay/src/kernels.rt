@@ -2,7 +2,7 @@
 use told::Told;
 use word::Word;
 
-pub fn of_word(op: u64, x: u64, y: u64) -> Told {
+pub(crate) fn of_word(op: u64, x: u64, y: u64) -> Told {
     match op {
         0x00 => told::size(Word::count_ones(x)),
         0x01 => told::size(Word::trailing_zeros(x)),
@@ -23,7 +23,7 @@ fn front(words: &[u64]) -> Told {
     told::pair(n as u64, last)
 }
 
-pub fn scan(op: u64, words: &[u64]) -> Told {
+pub(crate) fn scan(op: u64, words: &[u64]) -> Told {
     match op {
         0x10 => told::found_word(arch::first_nonzero(words)),
         0x11 => told::found_word(arch::first_not_ones(words)),
@@ -34,7 +34,7 @@ pub fn scan(op: u64, words: &[u64]) -> Told {
     }
 }
 
-pub fn kernel(op: u64, words: &mut [u64], x: usize, y: usize, z: u64) -> Told {
+pub(crate) fn kernel(op: u64, words: &mut [u64], x: usize, y: usize, z: u64) -> Told {
     match op {
         0x22 => told::size(arch::select::select_u64(z, x)),
         0x24 => told::guard(storage::check(x, y)),

@@ -150,7 +150,7 @@ fn taken(p: Part, c: u64, first: u64) -> Part {
     }
 }
 
-pub fn told(kind: u64, count: usize, at: usize, end: usize) -> Line {
+pub(crate) fn told(kind: u64, count: usize, at: usize, end: usize) -> Line {
     Line {
         kind: kind,
         count: count,
@@ -160,7 +160,7 @@ pub fn told(kind: u64, count: usize, at: usize, end: usize) -> Line {
 }
 
 // Reads a line's numbers, of which at most 1,024 are kept.
-pub fn read(buf: &mut [u8; 65536], from: Line, numbers: &mut [u64; 1024]) -> Line {
+pub(crate) fn read(buf: &mut [u8; 65536], from: Line, numbers: &mut [u64; 1024]) -> Line {
     let mut b = Byte {
         byte: 0,
         at: from.at,

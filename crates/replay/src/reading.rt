@@ -4,7 +4,7 @@ use storage::Found;
 use storage::Number;
 use storage::Truth;
 
-pub fn search(op: u64, words: &[u64], b: Bitmap, x: usize) -> Found {
+pub(crate) fn search(op: u64, words: &[u64], b: Bitmap, x: usize) -> Found {
     match op {
         0x30 => slice::first_set(words, b),
         0x31 => slice::last_set(words, b),
@@ -13,7 +13,7 @@ pub fn search(op: u64, words: &[u64], b: Bitmap, x: usize) -> Found {
     }
 }
 
-pub fn count(op: u64, words: &[u64], b: Bitmap, x: usize, y: usize) -> Number {
+pub(crate) fn count(op: u64, words: &[u64], b: Bitmap, x: usize, y: usize) -> Number {
     match op {
         0x40 => slice::first_clear(words, b),
         0x41 => slice::next_clear(words, b, x),
@@ -24,7 +24,7 @@ pub fn count(op: u64, words: &[u64], b: Bitmap, x: usize, y: usize) -> Number {
     }
 }
 
-pub fn test(op: u64, words: &[u64], b: Bitmap, other: &[u64], o: Bitmap, x: usize) -> Truth {
+pub(crate) fn test(op: u64, words: &[u64], b: Bitmap, other: &[u64], o: Bitmap, x: usize) -> Truth {
     match op {
         0x50 => slice::get(words, b, x),
         0x51 => slice::eq(words, b, other, o),
@@ -33,7 +33,7 @@ pub fn test(op: u64, words: &[u64], b: Bitmap, other: &[u64], o: Bitmap, x: usiz
     }
 }
 
-pub fn pair_count(op: u64, words: &[u64], b: Bitmap, other: &[u64], o: Bitmap) -> Number {
+pub(crate) fn pair_count(op: u64, words: &[u64], b: Bitmap, other: &[u64], o: Bitmap) -> Number {
     match op {
         0x60 => algebra::and_count(words, b, other, o),
         0x61 => algebra::or_count(words, b, other, o),
@@ -42,7 +42,7 @@ pub fn pair_count(op: u64, words: &[u64], b: Bitmap, other: &[u64], o: Bitmap) -
     }
 }
 
-pub fn walk(op: u64, words: &[u64], b: Bitmap, other: &[u64], o: Bitmap, x: usize) -> Found {
+pub(crate) fn walk(op: u64, words: &[u64], b: Bitmap, other: &[u64], o: Bitmap, x: usize) -> Found {
     match op {
         0x70 => walk::iter_and(words, b, other, o, x),
         0x71 => walk::iter_or(words, b, other, o, x),

@@ -18,7 +18,7 @@ const LIST: usize = 4;
 pub const ALL: usize = 5;
 
 // Number i of a line; 0 past the end.
-pub fn at(line: &[u64; 1024], i: usize) -> u64 {
+pub(crate) fn at(line: &[u64; 1024], i: usize) -> u64 {
     if i < 1024 { line[i] } else { 0 }
 }
 
@@ -26,7 +26,7 @@ fn plus(a: usize, b: usize) -> usize {
     std::num::wrapping_add_usize(a, b)
 }
 
-pub fn bitmap_at(line: &[u64; 1024], i: usize) -> Bitmap {
+pub(crate) fn bitmap_at(line: &[u64; 1024], i: usize) -> Bitmap {
     Bitmap {
         count: at(line, i) as usize,
     }
@@ -44,7 +44,7 @@ fn size(line: &[u64; 1024], part: usize) -> usize {
 }
 
 // Where a part begins; all parts end where part 5 would begin.
-pub fn start(line: &[u64; 1024], part: usize) -> usize {
+pub(crate) fn start(line: &[u64; 1024], part: usize) -> usize {
     let mut at = 17;
     if part > 0 {
         at = plus(at, size(line, 0));
@@ -111,7 +111,7 @@ fn after(line: &[u64; 1024], part: usize, k: usize) -> u64 {
 }
 
 // Store `part` before the call.
-pub fn loaded(line: &[u64; 1024], part: usize) -> [u64; 64] {
+pub(crate) fn loaded(line: &[u64; 1024], part: usize) -> [u64; 64] {
     let mut store = [0u64; 64];
     for k in 0..64 {
         store[k] = before(line, part, k);
@@ -120,7 +120,7 @@ pub fn loaded(line: &[u64; 1024], part: usize) -> [u64; 64] {
 }
 
 // Whether the call leaves in store `part` what it is to leave.
-pub fn left(line: &[u64; 1024], part: usize, store: &[u64; 64]) -> bool {
+pub(crate) fn left(line: &[u64; 1024], part: usize, store: &[u64; 64]) -> bool {
     for k in 0..64 {
         if store[k] != after(line, part, k) {
             return false;
@@ -142,7 +142,7 @@ fn byte_of(line: &[u64; 1024], n: usize, k: usize) -> u8 {
 }
 
 // The first n bytes of the list, and a pattern behind them.
-pub fn bytes(line: &[u64; 1024], n: usize) -> [u8; 512] {
+pub(crate) fn bytes(line: &[u64; 1024], n: usize) -> [u8; 512] {
     let mut bytes = [0u8; 512];
     for k in 0..512 {
         bytes[k] = byte_of(line, n, k);
@@ -151,7 +151,7 @@ pub fn bytes(line: &[u64; 1024], n: usize) -> [u8; 512] {
 }
 
 // Whether the bytes are the first n of the list, and the pattern behind them.
-pub fn left_bytes(line: &[u64; 1024], n: usize, bytes: &[u8; 512]) -> bool {
+pub(crate) fn left_bytes(line: &[u64; 1024], n: usize, bytes: &[u8; 512]) -> bool {
     for k in 0..512 {
         if bytes[k] != byte_of(line, n, k) {
             return false;
@@ -161,7 +161,7 @@ pub fn left_bytes(line: &[u64; 1024], n: usize, bytes: &[u8; 512]) -> bool {
 }
 
 // The list as indexes.
-pub fn indexes(line: &[u64; 1024]) -> [usize; 64] {
+pub(crate) fn indexes(line: &[u64; 1024]) -> [usize; 64] {
     let mut list = [0usize; 64];
     for k in 0..64 {
         list[k] = number(line, LIST, k) as usize;
@@ -169,7 +169,7 @@ pub fn indexes(line: &[u64; 1024]) -> [usize; 64] {
     list
 }
 
-pub fn at_most(x: u64, most: usize) -> usize
+pub(crate) fn at_most(x: u64, most: usize) -> usize
     ensures { λ r. ⌜ r ≤ most ⌝ }
 {
     let n = x as usize;
@@ -177,13 +177,13 @@ pub fn at_most(x: u64, most: usize) -> usize
 }
 
 // The capacity that is number i, as far as there is room here.
-pub fn room(line: &[u64; 1024], i: usize) -> usize
+pub(crate) fn room(line: &[u64; 1024], i: usize) -> usize
     ensures { λ r. ⌜ r ≤ 64 ⌝ }
 {
     at_most(at(line, i), 64)
 }
 
 // The length of the list.
-pub fn length(line: &[u64; 1024]) -> usize {
+pub(crate) fn length(line: &[u64; 1024]) -> usize {
     at(line, 16) as usize
 }

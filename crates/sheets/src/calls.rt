@@ -79,7 +79,7 @@ fn filled(s: &[u8], at: usize, counts: &[u64; 170], out: &mut [u8]) -> usize {
 }
 
 // A buffer: its size and seed, from where on the seed's bytes stand, the length of its sheet, and its first bytes.
-pub fn lend(s: &[u8], at: usize, memory: &mut [u8], counts: &mut [u64; 170]) -> usize {
+pub(crate) fn lend(s: &[u8], at: usize, memory: &mut [u8], counts: &mut [u64; 170]) -> usize {
     let p = scan::numbers(s, at, counts, tally::SIZE, tally::CAPACITY);
     let half = memory.len() / 2;
     let size = tally::at_most(counts[tally::SIZE], half);
@@ -167,7 +167,7 @@ fn judge(s: &[u8], at: usize, got: Told, memory: &mut [u8], counts: &mut [u64; 1
 }
 
 // A start or an addition.
-pub fn call(s: &[u8], at: usize, memory: &mut [u8], counts: &mut [u64; 170]) -> usize {
+pub(crate) fn call(s: &[u8], at: usize, memory: &mut [u8], counts: &mut [u64; 170]) -> usize {
     let mut payload: [u8; 65600] = [0; 65600];
     let p = scan::numbers(s, at, counts, tally::PART, NUMBER);
     let body = scan::bytes(s, p, &mut payload);

@@ -96,7 +96,7 @@ fn reading(want: &[u64; 128], memory: &[u8], counts: &mut [u64; 170]) {
 }
 
 // The result's capacity and the old bitmap.
-pub fn old(s: &[u8], at: usize, counts: &mut [u64; 170]) -> usize {
+pub(crate) fn old(s: &[u8], at: usize, counts: &mut [u64; 170]) -> usize {
     let p = scan::numbers(s, at, counts, tally::CAPACITY, tally::PART);
     let words = tally::at_most(counts[tally::WORDS], tally::OLDEST);
     scan::numbers(s, p, counts, tally::OLD, tally::OLD + words)
@@ -111,7 +111,7 @@ fn readable(at: usize, length: u64) -> usize {
 }
 
 // A reading of the buffer's sheet by one edition.
-pub fn edition(s: &[u8], at: usize, memory: &[u8], counts: &mut [u64; 170]) -> usize {
+pub(crate) fn edition(s: &[u8], at: usize, memory: &[u8], counts: &mut [u64; 170]) -> usize {
     let mut want: [u64; 128] = [0; 128];
     let from = readable(at, counts[tally::LENGTH]);
     let p = scan::numbers(s, from, counts, tally::PART, FOLLOW + 1);

@@ -45,7 +45,7 @@ fn digit(c: u8) -> u64
 }
 
 // The place after a byte that must be there.
-pub fn past(s: &[u8], at: usize, b: u8) -> usize {
+pub(crate) fn past(s: &[u8], at: usize, b: u8) -> usize {
     if at >= s.len() {
         return LOST;
     }
@@ -56,7 +56,7 @@ pub fn past(s: &[u8], at: usize, b: u8) -> usize {
 }
 
 // A number of 1 to 16 digits.
-pub fn num(s: &[u8], at: usize) -> Scan {
+pub(crate) fn num(s: &[u8], at: usize) -> Scan {
     let mut v: u64 = 0;
     for k in at..s.len() {
         let d = digit(s[k]);
@@ -78,7 +78,7 @@ pub fn num(s: &[u8], at: usize) -> Scan {
 }
 
 // Numbers into the places of `out` between two: the place after them in the list.
-pub fn numbers(s: &[u8], at: usize, out: &mut [u64], from: usize, to: usize) -> usize {
+pub(crate) fn numbers(s: &[u8], at: usize, out: &mut [u64], from: usize, to: usize) -> usize {
     let mut p = at;
     if to > out.len() {
         return LOST;
@@ -135,7 +135,7 @@ fn repeat(out: &mut [u8], from: usize) {
 }
 
 // A byte string: its length, how many bytes are written out, and these; the later ones repeat the last three. The number is the length.
-pub fn bytes(s: &[u8], at: usize, out: &mut [u8]) -> Scan {
+pub(crate) fn bytes(s: &[u8], at: usize, out: &mut [u8]) -> Scan {
     let n = num(s, at);
     let k = num(s, n.at);
     if n.v > out.len() as u64 {

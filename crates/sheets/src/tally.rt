@@ -61,7 +61,7 @@ fn show(n: u64, text: &[u8]) {
 }
 
 // One more at a place.
-pub fn more(counts: &mut [u64; 170], place: usize) {
+pub(crate) fn more(counts: &mut [u64; 170], place: usize) {
     if place < 170 {
         counts[place] = std::num::wrapping_add_u64(counts[place], 1);
     }
@@ -74,7 +74,7 @@ fn both(counts: &mut [u64; 170], part: usize, place: usize) {
 }
 
 // A number, or the most that it may be.
-pub fn at_most(n: u64, most: usize) -> usize
+pub(crate) fn at_most(n: u64, most: usize) -> usize
     ensures { λ r. ⌜ r ≤ most ⌝ }
 {
     if n > most as u64 {
@@ -84,7 +84,7 @@ pub fn at_most(n: u64, most: usize) -> usize
 }
 
 // Whether the buffer, the old bitmap and the result's store have room.
-pub fn fits(counts: &[u64; 170]) -> bool {
+pub(crate) fn fits(counts: &[u64; 170]) -> bool {
     if counts[SIZE] > BUFFER as u64 {
         return false;
     }
@@ -95,7 +95,7 @@ pub fn fits(counts: &[u64; 170]) -> bool {
 }
 
 // Whether an answer has the number, record and count of the list.
-pub fn same(a: Told, number: u64, record: u64, count: u64) -> bool {
+pub(crate) fn same(a: Told, number: u64, record: u64, count: u64) -> bool {
     if a.number != number {
         return false;
     }
@@ -112,7 +112,7 @@ fn mismatch(line: u64, number: u64) {
 }
 
 // A case of the line's part: the number that is right, whether it and what belongs to it was answered, and whether the lent memory is as it should be.
-pub fn case(counts: &mut [u64; 170], number: u64, answer: bool, memory: bool) {
+pub(crate) fn case(counts: &mut [u64; 170], number: u64, answer: bool, memory: bool) {
     let row = (counts[PART] % 4) as usize;
     both(counts, row, (number % 15) as usize);
     both(counts, row, CASES);
@@ -190,7 +190,7 @@ fn unread(line: u64) {
 }
 
 // A line for each part and for the total, and one more where the list is not whole.
-pub fn report(counts: &[u64; 170]) {
+pub(crate) fn report(counts: &[u64; 170]) {
     summaries(counts);
     if counts[WHOLE] != 1 {
         unread(counts[LINE]);
