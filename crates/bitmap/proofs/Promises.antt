@@ -18,7 +18,7 @@ use Rattle.storage.proofs.Checks.{within-done}
 use Rattle.storage.proofs.Outcomes.{same, never, which, lacks, meets-nothing}
 use Rattle.storage.proofs.Promises.{least-count}
 use Rattle.bitmap.specs.Bitmaps.{trimming, setting, without, unsetting, listed, reachOf, settingMany, settingRegion, settingField, tidied, alone, keepingBit, droppingBit, flippingBit}
-use Rattle.bitmap.specs.Promises.{WithBit, WithListed, WithoutBit, Fewest, WithRegion, WithField, Tidied, FlippedBit, Sets, SetsMany, Unsets, Trims, Regions, RegionUnchanged, FieldsSet, FieldUnchanged, KeepsBit, DropsBit, FlipsBit}
+use Rattle.bitmap.specs.Promises.{WithBit, WithListed, WithoutBit, Fewest, WithRegion, WithField, Tidied, Tidies, FlippedBit, Sets, SetsMany, Unsets, Trims, Regions, RegionUnchanged, FieldsSet, FieldUnchanged, KeepsBit, DropsBit, FlipsBit}
 use Rattle.bitmap.proofs.Many.{reach-in, reach-who, reach-under, listed-at, listed-who}
 use Rattle.bitmap.proofs.Sounds.{setting-sound, many-sound, unsetting-sound, trimming-sound, region-sound, field-sound, keeping-sound, dropping-sound, flipping-sound}
 use Rattle.bitmap.proofs.Regions.{region-none, region-over, region-put}
@@ -176,7 +176,7 @@ field-unchanged i value = meets-nothing (settingField i value 0) (field-nothing 
 
 -- ---- one word worked on, and tidied
 
-pub tidies : (k : ℕ) (t : Bits) → Tidied k t (tidied k t)
+pub tidies : Tidies
 unfolding tidied
 tidies k t = record {
   same = λ j. either-members j test;

@@ -9,7 +9,7 @@ use Rattle.word.specs.Sets.{choose}
 use Rattle.word.specs.Bits.{bit}
 use Rattle.storage.specs.Stores.{Bits}
 use Rattle.storage.specs.Promises.{LeastCount, Meets, Unchanged, Never, Lacks, LacksResult}
-use Rattle.bitmap.specs.Bitmaps.{trimming, setting, unsetting, settingMany, settingRegion, settingField, keepingBit, droppingBit, flippingBit}
+use Rattle.bitmap.specs.Bitmaps.{trimming, setting, unsetting, settingMany, settingRegion, settingField, tidied, keepingBit, droppingBit, flippingBit}
 
 -- `set`: i is a member, every other number is as it was, and the words reach to i's
 pub record WithBit (i : ℕ) (b s : Bits) : Type 0 where
@@ -70,6 +70,9 @@ pub record Tidied (k : ℕ) (t s : Bits) : Type 0 where
   pub trims : suc k ≡ t .count → ((j : ℕ) → j / 64 ≡ k → t .members j ≡ false) → LeastCount (t .members) (t .count) (s .count)
   pub not-last : (suc k ≡ t .count → ⊥) → s .count ≡ t .count
   pub not-empty : (j : ℕ) → j / 64 ≡ k → t .members j ≡ true → s .count ≡ t .count
+
+abbrev pub Tidies : Type 0
+Tidies = (k : ℕ) (t : Bits) → Tidied k t (tidied k t)
 
 -- `andi`, `andnoti`, `xori`: t is the set before any word is dropped, i's word is the one worked on
 pub record OnlyBit (i : ℕ) (b t : Bits) : Type 0 where

@@ -126,11 +126,11 @@ module _ {A S : Type 0} (E F : Edition A S) (h : Holds E F) where
             on (inr k) = inr k
 
 -- and it names the first duty record of a kind that it lacks
-pub any-two : {A S : Type 0} (E F : Edition A S) → Holds E F → (sheet : List ℕ) (old : Turn S) → AnyTwo E F sheet old
-any-two {S = S} E F h sheet old = record { same = go (same-or-newer E F h sheet old); kept = λ k s e. stays k s e (same-or-newer E F h sheet old) }
+pub any-two : AnyTwo
+any-two A S E F h sheet old = record { same = go (same-or-newer E F h sheet old); kept = λ k s e. stays k s e (same-or-newer E F h sheet old) }
   where
     named : (k : ℕ) → AtRecord E sheet old k (Newer E sheet) → read E sheet old ≡ refused NewerKind k
-    named k a = exact E sheet old (refused NewerKind k) .1 (newer a refl)
+    named k a = exact A S E sheet old (refused NewerKind k) .1 (newer a refl)
 
     go : SameOr E F h sheet old (read E sheet old) (read F sheet old)
         → (read E sheet old ≡ read F sheet old) ⊎ ((answerNumber (read E sheet old) ≡ 13) × AtRecord E sheet old (answerRecord (read E sheet old)) (Newer E sheet))

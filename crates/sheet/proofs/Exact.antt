@@ -2,6 +2,7 @@
 use Prim.Native.Nat.{ℕ, zero, suc, _+_, _-_, _≤_, _<_}
 use mathlib.Core.Path.{_≡_, refl, sym, ap, _∙_, subst}
 use mathlib.Core.List.{List, [], _++_}
+use mathlib.Core.Logic.{_↔_}
 use mathlib.Core.Option.{Option, none, some}
 use native.Mathlib.Omega.{arith}
 use native.Mathlib.Decide.{decLe}
@@ -220,6 +221,9 @@ module _ {A S : Type 0} (E : Edition A S) (sheet : List ℕ) where
             subst (Due E sheet old) (sym (take-true _ _ (headed-true sheet h) ∙ ap (copied E sheet) e))
             (forward old h s₀ e (total sheet) 0 s₀ (zero-add (total sheet)) ([], begin, refl))
 
-    -- the reader's answer is the one that is due, and no other
-    pub exact : ReadExact E sheet old
-    exact a = ((λ e. subst (Due E sheet old) e due), backward a)
+    both : (a : Answer S) → (read E sheet old ≡ a) ↔ Due E sheet old a
+    both a = ((λ e. subst (Due E sheet old) e due), backward a)
+
+-- the reader's answer is the one that is due, and no other
+pub exact : ReadExact
+exact A S E sheet old = both E sheet old

@@ -181,7 +181,7 @@ size-has n k m s =
     absurd (none-some z))
     (λ l. (e, q, l))
 
-pub known-exact : (n k : ℕ) → KnownExact n k (known (sizeIn n k))
+pub known-exact : KnownExact
 known-exact n k = record {
   bytes = λ e q l. let s = has-size n k e q l in (ap (λ (o : Option ℕ). knownNumber (known o)) s, ap (λ (o : Option ℕ). knownBytes (known o)) s);
   newer = λ h. go h (sizeIn n k) refl;

@@ -28,7 +28,7 @@ use Rattle.sheet.specs.Reader.{Turn, stop, next, Answer, refused, done, 
 use Rattle.sheet.specs.Meaning.{AtRecord, Newer, Fails, Applies, not-sheet, unfit, cut, newer, bad, fails, remain, Accepted, Due, Holds}
 use Rattle.sheet.specs.Paper.{IsEdition}
 use Rattle.sheet.specs.Reads.{editionOf, latest, isEdition, fitting, Course, stopped, went, course, readAnswer, readStore, Reads, readingNumber, readingRecord, readingCount}
-use Rattle.sheet.specs.Promises.{Passes, Stops, no-edition, long, over, result-long, Gets, stops, applies, accepted, NamesNewer, Made, ReadingMeans, Alike, KeepsMeaning}
+use Rattle.sheet.specs.Promises.{Passes, Stops, no-edition, long, over, result-long, Gets, stops, applies, accepted, NamesNewer, Made, ReadingMeans, ReadsMean, Alike, KeepsMeaning}
 use Rattle.sheet.specs.declared.Reading.{Reading}
 use Rattle.sheet.proofs.Turns.{none-some, stop-next, stop-inj, next-inj, take-true, take-false}
 use Rattle.sheet.proofs.Exact.{refusal-of, exact}
@@ -174,7 +174,7 @@ module _ (n : ℕ) (sheet ws : List ℕ) (m : ℕ) (res : List ℕ) (r : Reading
   due = go (which-way n ws m c)
     where
       is-answer : (x : Answer Bits) → answer ≡ x → Due (editionOf c n) sheet (fitting c (view ws m)) x
-      is-answer x a = exact (editionOf c n) sheet (fitting c (view ws m)) x .0 a
+      is-answer x a = exact _ _ (editionOf c n) sheet (fitting c (view ws m)) x .0 a
 
       on : Passes n ws m c → (x : Answer Bits) → answer ≡ x → Gets n sheet ws m c (readingNumber r) (readingRecord r) (readingCount r)
       on p (refused e k) a = let (x, y, z) = says-refused e k p a in rw (x, y, z) (applies p (is-answer (refused e k) a) refl)
@@ -190,10 +190,10 @@ module _ (n : ℕ) (sheet ws : List ℕ) (m : ℕ) (res : List ℕ) (r : Reading
   said x k t (applies p a y) =
       let (e, q) = refusal-of (editionOf c n) sheet (fitting c (view ws m)) x k a in
       let g : Applies (editionOf c n) sheet (fitting c (view ws m)) (numberOf e) k = subst (λ (x : ℕ). Applies (editionOf c n) sheet (fitting c (view ws m)) x k) (sym q) a in
-      let (u, v, w) = says-refused e k p (exact (editionOf c n) sheet (fitting c (view ws m)) (refused e k) .1 g) in
+      let (u, v, w) = says-refused e k p (exact _ _ (editionOf c n) sheet (fitting c (view ws m)) (refused e k) .1 g) in
       (u ∙ q, v, w ∙ sym y)
   said x k t (accepted p s a z y) =
-      let (u, v, w) = says-done k s p (exact (editionOf c n) sheet (fitting c (view ws m)) (done k s) .1 a) in
+      let (u, v, w) = says-done k s p (exact _ _ (editionOf c n) sheet (fitting c (view ws m)) (done k s) .1 a) in
       (u ∙ sym z, v, w ∙ sym y)
 
   answer-exact : (x k t : ℕ) → Says r x k t ↔ Gets n sheet ws m c x k t
@@ -206,7 +206,7 @@ module _ (n : ℕ) (sheet ws : List ℕ) (m : ℕ) (res : List ℕ) (r : Reading
       on p (refused e k) a = absurd (positive e (sym (says-refused e k p a .0) ∙ q))
       on p (done k s) a =
           let (u, v, w) = says-done k s p a in
-          let t = exact (editionOf c n) sheet (fitting c (view ws m)) (done k s) .0 a in
+          let t = exact _ _ (editionOf c n) sheet (fitting c (view ws m)) (done k s) .0 a in
           let start = kept-start ws m c (t .reached .from) (t .reached .fits) in
           let kept : Kept c s = subst (Kept c) (t .makes) (effect-kept c n _ (t .reached .from) (t .reached .state) start (t .reached .applied)) in
           let stored : res' ≡ written res c s = left p ∙ ap (λ (x : Answer Bits). readStore (went x) res) a in
@@ -277,9 +277,8 @@ module _ (n : ℕ) (sheet ws : List ℕ) (m : ℕ) (res : List ℕ) (r : Reading
           (l, λ j. by-lt j c (λ u. ap (λ (x : List ℕ). getD x j 0) w ∙ zeroed-in 0 c res j (omega arith) u) (λ u. past res' j (omega arith)))
       go (done k s) a = absurd (omega (arith, says-done k s p a .0))
 
-  -- (a) and (c): what a reading answers and leaves
-  pub reading-means : ReadingMeans n sheet ws m res r res'
-  reading-means = record {
+  means : ReadingMeans n sheet ws m res r res'
+  means = record {
     made = makes;
     exact = answer-exact;
     fits = fits-old ws m c;
@@ -288,6 +287,10 @@ module _ (n : ℕ) (sheet ws : List ℕ) (m : ℕ) (res : List ℕ) (r : Reading
     untouched = untouched;
     cleared = cleared;
   }
+
+-- (a) and (c): what a reading answers and leaves
+pub reading-means : ReadsMean
+reading-means = means
 
 -- ---- two editions
 
@@ -379,4 +382,4 @@ keeps-meaning e f ge gf l sheet ws m res₁ res₂ size words r₁ r₂ res₁' 
           (a ∙ sym a′, b ∙ sym b′, d ∙ sym d′),
           untouched e sheet ws m res₁ r₁ res₁' h₁ x s ∙ words x s ∙ sym (untouched f sheet ws m res₂ r₂ res₂' h₂ x (also x s)),
         )
-    go (inr p) = compare p (any-two (editionOf c e) (editionOf c f) (later-holds c e f l) sheet (fitting c (view ws m)) .same)
+    go (inr p) = compare p (any-two _ _ (editionOf c e) (editionOf c f) (later-holds c e f l) sheet (fitting c (view ws m)) .same)

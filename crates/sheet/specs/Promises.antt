@@ -19,10 +19,10 @@ use Rattle.shift.specs.Promises.{RotatedLeft, RotatedRight}
 use Rattle.bitmap.specs.Promises.{WithBit, WithoutBit, WithRegion, WithField}
 use Rattle.shape.specs.Promises.{FlippedFrom, RaisedBy, LoweredBy, ResizedTo}
 use Rattle.gap.specs.Promises.{Opens, Closes}
-use Rattle.sheet.specs.Kinds.{knownNumber, knownBytes, kindOf, payloadOf, Ranged}
+use Rattle.sheet.specs.Kinds.{sizeIn, known, knownNumber, knownBytes, kindOf, payloadOf, Ranged}
 use Rattle.sheet.specs.Paper.{IsEdition, printed, values, given, Allowed, digits, cellDigits, byteDigits}
 use Rattle.sheet.specs.Reader.{Edition, Turn, stop, next, Item, Answer, done, answerNumber, answerRecord, read}
-use Rattle.sheet.specs.Meaning.{Header, total, start, Whole, Is, Asks, effect, AtRecord, Newer, Applies, Accepted, Due}
+use Rattle.sheet.specs.Meaning.{Header, total, start, Whole, Is, Asks, effect, AtRecord, Newer, Applies, Accepted, Due, Holds}
 use Rattle.sheet.specs.Reads.{editionOf, latest, fitting, Reads, readingNumber, readingRecord, readingCount}
 use Rattle.sheet.specs.Writer.{Request, duty, remark, Entry, edit, note, Starts, Adds, addedNumber, addedLength}
 use Rattle.sheet.specs.Plain.{sheetOf, editsIn, editFor, Ask, Typed, Call, InRow, answers, lastLength, lastBuffer, plainAnswers, lastPlain}
@@ -81,9 +81,12 @@ abbrev pub HasKind : ℕ → ℕ → Type 0
 HasKind n k = (e : Edit) × (printed e .kind ≡ k) × (printed e .edition ≤ n)
 
 -- `payload_bytes`: 0 and the bytes of the kind's line, or 13 exactly where the edition has none
-pub record KnownExact (n k : ℕ) (r : Known) : Type 0 where
+pub record KnownIn (n k : ℕ) (r : Known) : Type 0 where
   pub bytes : (e : Edit) → printed e .kind ≡ k → printed e .edition ≤ n → (knownNumber r ≡ 0) × (knownBytes r ≡ printed e .bytes)
   pub newer : ¬ HasKind n k → (knownNumber r ≡ 13) × (knownBytes r ≡ 0)
+
+abbrev pub KnownExact : Type 0
+KnownExact = (n k : ℕ) → KnownIn n k (known (sizeIn n k))
 
 -- the plain sheet's edit of a kind has its fields where 01's table has them
 abbrev pub FieldsAgree : Type 0
@@ -156,6 +159,10 @@ pub record ReadingMeans (n : ℕ) (sheet ws : List ℕ) (m : ℕ) (res : List �
   pub untouched : (x : ℕ) → Stops n ws m (length res) x → res' ≡ res
   pub cleared : Passes n ws m (length res) → 0 < readingNumber r → (length res' ≡ length res) × ((j : ℕ) → getD res' j 0 ≡ 0)
 
+abbrev pub ReadsMean : Type 0
+ReadsMean =
+    (n : ℕ) (sheet ws : List ℕ) (m : ℕ) (res : List ℕ) (r : Reading) (res' : List ℕ) → Reads n sheet ws m res r res' → ReadingMeans n sheet ws m res r res'
+
 -- two readings with one number, record and word count
 abbrev pub Alike : Reading → Reading → Type 0
 Alike r s = (readingNumber r ≡ readingNumber s) × (readingRecord r ≡ readingRecord s) × (readingCount r ≡ readingCount s)
@@ -170,14 +177,18 @@ KeepsMeaning =
     → (Alike r₁ r₂ × (res₁' ≡ res₂')) ⊎ ((readingNumber r₁ ≡ 13) × NamesNewer e sheet ws m (length res₁) (readingRecord r₁))
 
 -- of any edition, whatever its edits and states: a reading gives the answer that is due, and no other
-abbrev pub ReadExact : {A S : Type 0} → Edition A S → List ℕ → Turn S → Type 0
-ReadExact {S = S} E sheet old = (a : Answer S) → (read E sheet old ≡ a) ↔ Due E sheet old a
+abbrev pub ReadExact : Type 1
+ReadExact = (A S : Type 0) (E : Edition A S) (sheet : List ℕ) (old : Turn S) (a : Answer S) → (read E sheet old ≡ a) ↔ Due E sheet old a
 
--- (b) of any two editions of which the later holds the earlier, whatever their edits and states; what the earlier accepts keeps its meaning
-pub record AnyTwo {A S : Type 0} (E F : Edition A S) (sheet : List ℕ) (old : Turn S) : Type 0 where
+-- the edition E gives F's answer or names a newer kind; what it accepts keeps its meaning
+pub record EarlierKeeps {A S : Type 0} (E F : Edition A S) (sheet : List ℕ) (old : Turn S) : Type 0 where
   pub same : (read E sheet old ≡ read F sheet old)
       ⊎ ((answerNumber (read E sheet old) ≡ 13) × AtRecord E sheet old (answerRecord (read E sheet old)) (Newer E sheet))
   pub kept : (k : ℕ) (s : S) → read E sheet old ≡ done k s → read F sheet old ≡ done k s
+
+-- (b) of any two editions of which the later holds the earlier, whatever their edits and states
+abbrev pub AnyTwo : Type 1
+AnyTwo = (A S : Type 0) (E F : Edition A S) → Holds E F → (sheet : List ℕ) (old : Turn S) → EarlierKeeps E F sheet old
 
 -- (d): 9, 10 or 11 of a sheet that is given to the writer, or 0 for nothing
 pub data SheetGets (sheet : List ℕ) (x : ℕ) : Type 0 where

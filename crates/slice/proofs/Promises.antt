@@ -215,12 +215,12 @@ one-more s t p (suc m) l out has same =
     (arith, ap val (sym (ap s e) ∙ has), ap val (sym (ap t e) ∙ out), count-ext s t m (λ q h. same q (omega arith))))
     (λ e. omega (arith, ap val (same m (λ q. e (sym q))), one-more s t p m (omega arith) out has same))
 
-pub counts-members : (b : Bits) → Bounded b → CountsMembers b
+pub counts-members : CountsMembers
 unfolding size
-counts-members b bounded = record {
-  empty = λ e i. by-lt i (64 * b .count) (λ l. none-of-size b e i l) (λ l. bounded .past i l);
-  zero = λ h. size-none b (λ i l. h i);
-  more = λ s p e l out has same.
+counts-members = record {
+  empty = λ b bounded e i. by-lt i (64 * b .count) (λ l. none-of-size b e i l) (λ l. bounded .past i l);
+  zero = λ b h. size-none b (λ i l. h i);
+  more = λ b s p e l out has same.
       ap (λ (n : ℕ). countBelow (s .members) (64 * n)) e ∙ one-more (s .members) (b .members) p (64 * b .count) l out has same;
 }
 

@@ -8,7 +8,7 @@ use lib.ListN.{length, getD, take}
 use Rattle.word.specs.Sets.{Counted}
 use Rattle.word.specs.Bits.{bit}
 use Rattle.storage.specs.Refusals.{truthNumber, truthValue}
-use Rattle.storage.specs.Stores.{Bits, view, reading, size, nextFrom}
+use Rattle.storage.specs.Stores.{Bits, Bounded, view, reading, size, nextFrom}
 use Rattle.storage.specs.Promises.{Guarded, HandsNone, Hands, Tests, Finds, NextMember, NumberCall, FieldCall, TruthCall, FoundCall, Meets}
 use Rattle.storage.specs.declared.Number.{Number}
 use Rattle.storage.specs.declared.Number.the-variants.{Is}
@@ -95,10 +95,10 @@ abbrev pub CountSetBitsMeans : Type 0
 CountSetBitsMeans = NumberCall (λ s. Number.Is (size s)) (λ b. Hands (AllCounted b))
 
 -- the size is 0 exactly where there is no member, and one more with each number that becomes one
-pub record CountsMembers (b : Bits) : Type 0 where
-  pub empty : size b ≡ 0 → (i : ℕ) → b .members i ≡ false
-  pub zero : ((i : ℕ) → b .members i ≡ false) → size b ≡ 0
-  pub more : (s : Bits) (p : ℕ) → s .count ≡ b .count → p < 64 * b .count → b .members p ≡ false → s .members p ≡ true
+pub record CountsMembers : Type 0 where
+  pub empty : (b : Bits) → Bounded b → size b ≡ 0 → (i : ℕ) → b .members i ≡ false
+  pub zero : (b : Bits) → ((i : ℕ) → b .members i ≡ false) → size b ≡ 0
+  pub more : (b s : Bits) (p : ℕ) → s .count ≡ b .count → p < 64 * b .count → b .members p ≡ false → s .members p ≡ true
       → ((q : ℕ) → (q ≡ p → ⊥) → s .members q ≡ b .members q) → size s ≡ suc (size b)
 
 -- a front part, whose last word is not 0, with only zero words after it

@@ -15,7 +15,7 @@ use Rattle.word.proofs.Sets.{least}
 use Rattle.word.proofs.Lists.{determined, at-place, member-at}
 use Rattle.storage.specs.Refusals.{lastNumber, numberOf, changeNumber, changeRecord, guardNumber, foundNumber, foundFlag, foundValue, numberNumber, numberValue, fieldNumber, fieldValue, truthNumber, truthValue}
 use Rattle.storage.specs.Stores.{Bits, Bounded, Outcome, refused, done, Op, limit, checked, view, beside, reading, trimmedCount, trimmed, combined, written, zeroed, answer, store, outcome, Leaves, foundBelow, nextFrom}
-use Rattle.storage.specs.Promises.{EachNumberOnce, Guarded, CheckMeans, RefusalKeeps, GrowMeans, WordsAndSets, SpaceRules, SpaceExact, LeastCount, Combines, Unites, HandsNone, FindsNone, Tests, Finds, NextMember, NumberCall, FieldCall, TruthCall, FoundCall, Meets, Kept, Made, Ends, EndsAs, ChangeMeans, BesideMeans, Chains}
+use Rattle.storage.specs.Promises.{EachNumberOnce, Guarded, CheckMeans, RefusalKeeps, GrowMeans, WordsAndSets, SpaceRules, WrittenMeans, SpaceExact, LeastCount, TrimmedCountMeans, Combines, Unites, HandsNone, FindsNone, Tests, Finds, NextMember, NextFromMeans, NumberCall, FieldCall, TruthCall, FoundCall, Meets, Kept, Made, Ends, EndsAs, ChangeMeans, BesideMeans, Chains}
 use Rattle.storage.specs.declared.Bitmap.{Bitmap}
 use Rattle.storage.specs.declared.Refusal.{Refusal}
 use Rattle.storage.specs.declared.Refusal.the-variants.{StoreTooLong, CountOverStore, WidthOver, IndexOver, PastLength, NoSpace, NotList, NotAscii, NotSheet, CutRecord, BytesRemain, BadPayload, NewerKind, NoEdition}
@@ -140,7 +140,7 @@ found-call f Rest =
 pub words-and-sets : WordsAndSets
 words-and-sets = record { words = determined; back = view-written; same = written-view }
 
-pub space-rules : (ws : List ℕ) (n : ℕ) (b : Bits) → b .count ≤ length ws → n ≤ length ws → SpaceRules ws n b (written ws n b)
+pub space-rules : WrittenMeans
 space-rules ws n b h hn =
     let s : Stored ws n b (written ws n b) = written-stored ws n b h hn in
     record {
@@ -152,10 +152,10 @@ space-rules ws n b h hn =
       kept = s .kept;
     }
 
-pub space-exact : (c : ℕ) (b : Bits) → SpaceExact c b
-space-exact c b = record { enough = within-ok c b; lacking = λ h. (NoSpace, within-no c b h, refl) }
+pub space-exact : SpaceExact
+space-exact = record { enough = within-ok; lacking = λ c b h. (NoSpace, within-no c b h, refl) }
 
-pub least-count : (s : ℕ → Bool) (n : ℕ) → LeastCount s n (trimmedCount s n)
+pub least-count : TrimmedCountMeans
 least-count s n = record { low = trimmed-le s n; holds = trimmed-holds s n; least = trimmed-least s n }
 
 -- ---- what a changing call answers and leaves
@@ -315,8 +315,7 @@ chains op ws ws' b r sound l z =
 
 -- ---- the least member from a place on
 
-pub next-member : (b : Bits) → Bounded b → (i : ℕ)
-    → NextMember (b .members) i (foundNumber (nextFrom b i)) (foundFlag (nextFrom b i)) (foundValue (nextFrom b i))
+pub next-member : NextFromMeans
 unfolding nextFrom foundBelow
 next-member b bounded i =
     by-lt p e

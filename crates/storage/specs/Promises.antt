@@ -7,7 +7,7 @@ use mathlib.Core.Logic.{_⊎_}
 use lib.ListN.{length, getD}
 use Rattle.word.specs.Bits.{member}
 use Rattle.storage.specs.Refusals.{lastNumber, numberOf, foundNumber, foundFlag, foundValue, numberNumber, numberValue, fieldNumber, fieldValue, truthNumber, truthValue, changeNumber, changeRecord, guardNumber}
-use Rattle.storage.specs.Stores.{Bits, Bounded, refused, done, Op, checked, view, beside, reading, within, written, zeroed, Changes}
+use Rattle.storage.specs.Stores.{Bits, Bounded, refused, done, Op, checked, view, beside, reading, nextFrom, within, trimmedCount, written, zeroed, Changes}
 use Rattle.storage.specs.declared.Bitmap.{Bitmap}
 use Rattle.storage.specs.declared.Refusal.{Refusal}
 use Rattle.storage.specs.declared.Change.{Change}
@@ -75,16 +75,22 @@ pub record SpaceRules (ws : List ℕ) (n : ℕ) (b : Bits) (ws' : List ℕ) : Ty
   pub dropped : (k : ℕ) → b .count ≤ k → k < n → getD ws' k 0 ≡ 0
   pub kept : (k : ℕ) → b .count ≤ k → n ≤ k → getD ws' k 0 ≡ getD ws k 0
 
+abbrev pub WrittenMeans : Type 0
+WrittenMeans = (ws : List ℕ) (n : ℕ) (b : Bits) → b .count ≤ length ws → n ≤ length ws → SpaceRules ws n b (written ws n b)
+
 -- demand 2: 6 exactly where the result has more words than there are
-pub record SpaceExact (c : ℕ) (b : Bits) : Type 0 where
-  pub enough : b .count ≤ c → within c b ≡ done b
-  pub lacking : c < b .count → (e : Refusal) × (within c b ≡ refused e) × (numberOf e ≡ 6)
+pub record SpaceExact : Type 0 where
+  pub enough : (c : ℕ) (b : Bits) → b .count ≤ c → within c b ≡ done b
+  pub lacking : (c : ℕ) (b : Bits) → c < b .count → (e : Refusal) × (within c b ≡ refused e) × (numberOf e ≡ 6)
 
 -- demand 2: the trimmed count holds all members, and is the least that does
 pub record LeastCount (s : ℕ → Bool) (n m : ℕ) : Type 0 where
   pub low : m ≤ n
   pub holds : (i : ℕ) → i < 64 * n → s i ≡ true → i < 64 * m
   pub least : (k : ℕ) → ((i : ℕ) → i < 64 * n → s i ≡ true → i < 64 * k) → m ≤ k
+
+abbrev pub TrimmedCountMeans : Type 0
+TrimmedCountMeans = (s : ℕ → Bool) (n : ℕ) → LeastCount s n (trimmedCount s n)
 
 -- demand 2: a set operation of b and o, in the fewest words that hold the result
 pub record Combines (f : Bool → Bool → Bool) (o b s : Bits) : Type 0 where
@@ -123,6 +129,12 @@ Finds rule none x f v = (x ≡ 0) × (((f ≡ 1) × rule v) ⊎ ((f ≡ 0) × (v
 abbrev pub NextMember : (ℕ → Bool) → ℕ → ℕ → ℕ → ℕ → Type 0
 NextMember s i =
     Finds (λ p. (i ≤ p) × (s p ≡ true) × ((q : ℕ) → i ≤ q → q < p → s q ≡ false)) ((q : ℕ) → i ≤ q → s q ≡ false)
+
+abbrev pub NextFromMeans : Type 0
+NextFromMeans =
+    (b : Bits) → Bounded b → (i : ℕ)
+    → let r = nextFrom b i in
+    NextMember (b .members) i (foundNumber r) (foundFlag r) (foundValue r)
 
 -- A call that only reads, by its contract: 1 and 2 of the store, then what holds of the bitmap, the number and the value, and of a search the flag.
 
