@@ -1,30 +1,30 @@
 -- The promises of specs/Promises. Assumes nothing.
-use mathlib.Core.Path.{_≡_, refl, sym, ap, _∙_, subst}
-use mathlib.Core.Bool.{Bool, true, false, _||_}
+use mathlib.Core.Path.{_≡_, refl, sym, ap, ap₂, _∙_, subst}
+use mathlib.Core.Bool.{Bool, true, false, _&&_, _||_, false≢true}
 use mathlib.Core.List.{List, [], _∷_}
 use mathlib.Core.Logic.{_⊎_, inl, inr}
-use Prim.Native.Nat.{ℕ, suc, _+_, _-_, _*_, _/_, _%_, _≤_, _<_, max}
+use Prim.Native.Nat.{ℕ, suc, _+_, _-_, _*_, _/_, _%_, _^_, _≤_, _<_, max}
 use native.Mathlib.Omega.{arith}
 use lib.ListN.{length, getD}
-use lib.Dec.{eqb, eqb→eq}
-use borrow.Author.Tests.{lt-ltb, le-ltb}
+use lib.Dec.{ltb, leb, eqb, eqb→eq}
+use borrow.Author.Tests.{lt-ltb, le-ltb, ltb-true, le-leb, leb-true}
 use Rattle.word.specs.Sets.{choose, leastFrom, Least}
 use Rattle.word.specs.Bits.{member}
-use Rattle.word.proofs.Cases.{by-lt, every-at, or-true}
-use Rattle.word.proofs.Sets.{least}
+use Rattle.word.proofs.Cases.{by-lt, every-at, or-true, and-true}
+use Rattle.word.proofs.Sets.{least, counted}
 use Rattle.word.proofs.Lists.{determined, at-place, member-at}
 use Rattle.storage.specs.Refusals.{lastNumber, numberOf, changeNumber, changeRecord, guardNumber, foundNumber, foundFlag, foundValue, numberNumber, numberValue, fieldNumber, fieldValue, truthNumber, truthValue}
-use Rattle.storage.specs.Stores.{Bits, Bounded, Outcome, refused, done, Op, limit, checked, view, beside, reading, trimmedCount, trimmed, combined, written, zeroed, answer, store, outcome, Leaves, foundBelow, nextFrom}
-use Rattle.storage.specs.Promises.{EachNumberOnce, Guarded, CheckMeans, RefusalKeeps, GrowMeans, WordsAndSets, SpaceRules, WrittenMeans, SpaceExact, LeastCount, TrimmedCountMeans, Combines, Unites, HandsNone, FindsNone, Tests, Finds, NextMember, NextFromMeans, NumberCall, FieldCall, TruthCall, FoundCall, Meets, Kept, Made, Ends, EndsAs, ChangeMeans, BesideMeans, Chains}
+use Rattle.storage.specs.Stores.{Bits, Bounded, Outcome, refused, done, Op, limit, checked, view, beside, reading, trimmedCount, trimmed, combined, written, zeroed, answer, store, outcome, Leaves, foundBelow, nextFrom, size, wordsFor}
+use Rattle.storage.specs.Promises.{EachNumberOnce, Guarded, CheckMeans, RefusalKeeps, GrowMeans, WordsAndSets, SpaceRules, WrittenMeans, SpaceExact, LeastCount, TrimmedCountMeans, Combines, CombinedMeans, Unites, UnitedMeans, AndNotMeans, SizeMeans, PlacesMean, HandsNone, FindsNone, AnswersTell, Tests, Finds, NextMember, NextFromMeans, NumberCall, FieldCall, TruthCall, FoundCall, Meets, Kept, Made, Ends, EndsAs, ChangeMeans, MakeMeans, BesideMeans, Chains}
 use Rattle.storage.specs.declared.Bitmap.{Bitmap}
 use Rattle.storage.specs.declared.Refusal.{Refusal}
 use Rattle.storage.specs.declared.Refusal.the-variants.{StoreTooLong, CountOverStore, WidthOver, IndexOver, PastLength, NoSpace, NotList, NotAscii, NotSheet, CutRecord, BytesRemain, BadPayload, NewerKind, NoEdition}
 use Rattle.storage.specs.declared.Found.{Found}
 use Rattle.storage.specs.declared.Found.the-variants.{At, Nothing, Refused}
 use Rattle.storage.specs.declared.Number.{Number}
-use Rattle.storage.specs.declared.Number.the-variants.{Refused}
+use Rattle.storage.specs.declared.Number.the-variants.{Is, Refused}
 use Rattle.storage.specs.declared.Field.{Field}
-use Rattle.storage.specs.declared.Field.the-variants.{Refused}
+use Rattle.storage.specs.declared.Field.the-variants.{Is, Refused}
 use Rattle.storage.specs.declared.Truth.{Truth}
 use Rattle.storage.specs.declared.Truth.the-variants.{Is, Refused}
 use Rattle.storage.specs.declared.Guard.the-variants.{Pass, Stop}
@@ -134,6 +134,40 @@ pub found-call : (f : Bits → Found) (Rest : Bits → ℕ → ℕ → ℕ → T
 found-call f Rest =
     reading-means Found.Refused f (λ r. FindsNone (foundNumber r) (foundFlag r) (foundValue r))
     (λ b r. Rest b (foundNumber r) (foundFlag r) (foundValue r)) (λ e. (refl, refl, refl))
+
+pub answers-tell : AnswersTell
+answers-tell = record {
+  place = λ p. (refl, refl, refl);
+  no-place = (refl, refl, refl);
+  number = λ n. (refl, refl);
+  field = λ v. (refl, refl);
+  holds = (refl, refl);
+  fails = (refl, refl);
+  change = λ b. (refl, refl);
+  no-found = λ e. (refl, refl, refl);
+  no-number = λ e. (refl, refl);
+  no-field = λ e. (refl, refl);
+  no-truth = λ e. (refl, refl);
+  no-change = λ e b. (refl, refl);
+}
+
+-- ---- words and regions
+
+pub places-mean : PlacesMean
+unfolding wordsFor
+places-mean = record {
+  up-to = λ i n. ((λ h. omega arith), (λ h. omega arith));
+  words-for = λ k n. ((λ h. omega arith), (λ h. omega arith));
+  in-region = λ a k i. (
+    (λ e. let (x, y) = and-true (leb a i) (ltb i (a + k)) e in (leb-true a i x, ltb-true i (a + k) y)),
+    (λ h. ap₂ _&&_ (le-leb a i (h .0)) (lt-ltb i (a + k) (h .1))),
+  );
+  passing = λ i k last e. ((λ t. omega (arith, ltb-true (2 ^ 64) (i + k) t)), (λ h. lt-ltb (2 ^ 64) (i + k) (omega arith)));
+}
+
+pub size-means : SizeMeans
+unfolding size
+size-means b = counted (b .members) (64 * b .count) (size b) refl
 
 -- ---- words and sets
 
@@ -247,6 +281,9 @@ change-means op rule why meets ws ws' b r l =
     guarded-map (λ h k. leaves-ends op rule why meets ws ws' b r k)
     (leaves-guarded (length ws) (b .count) (op (length ws) (view ws (b .count))) ws ws' b r l)
 
+pub make-means : MakeMeans
+make-means op rule why meets ws ws' r l = change-means op rule why meets ws ws' (record { count = 0 }) r l
+
 pub beside-means : BesideMeans
 unfolding outcome beside
 beside-means op rule why meets os ws ws' n b r l =
@@ -269,11 +306,11 @@ grow-means old new ws = record {
 
 -- ---- set operations of two bitmaps
 
-pub combined-fewest : (f : Bool → Bool → Bool) (b o : Bits) → Combines f o b (trimmed (combined f b o))
+pub combined-fewest : CombinedMeans
 unfolding combined
 combined-fewest f b o = record { each = λ i. refl; count = least-count (λ i. f (b .members i) (o .members i)) (max (b .count) (o .count)) }
 
-pub combined-either : (b o : Bits) → Unites o b (combined _||_ b o)
+pub combined-either : UnitedMeans
 unfolding combined
 combined-either b o = record {
   first = λ i t. ap (λ (x : Bool). x || o .members i) t;
@@ -285,6 +322,11 @@ combined-either b o = record {
     either : (x y : Bool) → x || y ≡ true → (x ≡ true) ⊎ (y ≡ true)
     either true y t = inl refl
     either false y t = inr t
+
+pub and-not-means : AndNotMeans
+and-not-means true true = ((λ e. absurd (false≢true e)), (λ h. sym (h .1)))
+and-not-means true false = ((λ e. (refl, refl)), (λ h. refl))
+and-not-means false q = ((λ e. absurd (false≢true e)), (λ h. h .0))
 
 -- ---- calls in a row
 

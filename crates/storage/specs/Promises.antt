@@ -1,24 +1,26 @@
 -- What the definitions promise, in words of their own. Each is proved in proofs/Promises.
-use Prim.Native.Nat.{ℕ, _*_, _≤_, _<_, _^_, max}
+use Prim.Native.Nat.{ℕ, suc, _+_, _*_, _≤_, _<_, _^_, max}
 use mathlib.Core.Path.{_≡_}
-use mathlib.Core.Bool.{Bool, true, false}
+use mathlib.Core.Bool.{Bool, true, false, _||_}
 use mathlib.Core.List.{List}
-use mathlib.Core.Logic.{_⊎_}
+use mathlib.Core.Logic.{_↔_, _⊎_}
 use lib.ListN.{length, getD}
+use Rattle.word.specs.Sets.{Counted}
 use Rattle.word.specs.Bits.{member}
 use Rattle.storage.specs.Refusals.{lastNumber, numberOf, foundNumber, foundFlag, foundValue, numberNumber, numberValue, fieldNumber, fieldValue, truthNumber, truthValue, changeNumber, changeRecord, guardNumber}
-use Rattle.storage.specs.Stores.{Bits, Bounded, refused, done, Op, checked, view, beside, reading, nextFrom, within, trimmedCount, written, zeroed, Changes}
+use Rattle.storage.specs.Stores.{Bits, Bounded, refused, done, Op, checked, view, beside, reading, size, combined, andNot, nextFrom, within, upTo, inRegion, passes, wordsFor, trimmedCount, trimmed, written, zeroed, Changes, Makes}
 use Rattle.storage.specs.declared.Bitmap.{Bitmap}
 use Rattle.storage.specs.declared.Refusal.{Refusal}
 use Rattle.storage.specs.declared.Change.{Change}
+use Rattle.storage.specs.declared.Change.the-variants.{Done, Refused}
 use Rattle.storage.specs.declared.Found.{Found}
-use Rattle.storage.specs.declared.Found.the-variants.{Refused}
+use Rattle.storage.specs.declared.Found.the-variants.{At, Nothing, Refused}
 use Rattle.storage.specs.declared.Number.{Number}
-use Rattle.storage.specs.declared.Number.the-variants.{Refused}
+use Rattle.storage.specs.declared.Number.the-variants.{Is, Refused}
 use Rattle.storage.specs.declared.Field.{Field}
-use Rattle.storage.specs.declared.Field.the-variants.{Refused}
+use Rattle.storage.specs.declared.Field.the-variants.{Is, Refused}
 use Rattle.storage.specs.declared.Truth.{Truth}
-use Rattle.storage.specs.declared.Truth.the-variants.{Refused}
+use Rattle.storage.specs.declared.Truth.the-variants.{Is, Refused}
 use Rattle.storage.specs.declared.Guard.the-variants.{Pass, Stop}
 
 -- demand 1: the numbers from 1 to the last, each for one refusal
@@ -97,12 +99,35 @@ pub record Combines (f : Bool → Bool → Bool) (o b s : Bits) : Type 0 where
   pub each : (i : ℕ) → s .members i ≡ f (b .members i) (o .members i)
   pub count : LeastCount (s .members) (max (b .count) (o .count)) (s .count)
 
+abbrev pub CombinedMeans : Type 0
+CombinedMeans = (f : Bool → Bool → Bool) (b o : Bits) → Combines f o b (trimmed (combined f b o))
+
 -- demand 2: the members of either, in as many words as the longer
 pub record Unites (o b s : Bits) : Type 0 where
   pub first : (i : ℕ) → b .members i ≡ true → s .members i ≡ true
   pub second : (i : ℕ) → o .members i ≡ true → s .members i ≡ true
   pub only : (i : ℕ) → s .members i ≡ true → (b .members i ≡ true) ⊎ (o .members i ≡ true)
   pub count : s .count ≡ max (b .count) (o .count)
+
+abbrev pub UnitedMeans : Type 0
+UnitedMeans = (b o : Bits) → Unites o b (combined _||_ b o)
+
+-- a member of the first and not of the second
+abbrev pub AndNotMeans : Type 0
+AndNotMeans = (p q : Bool) → (andNot p q ≡ true) ↔ ((p ≡ true) × (q ≡ false))
+
+-- the members in the words in use, whatever counts them
+abbrev pub SizeMeans : Type 0
+SizeMeans = (b : Bits) → Counted (b .members) (64 * b .count) (size b)
+
+-- words and regions, in numbers
+pub record PlacesMean : Type 0 where
+  -- n words have bit i exactly where it is below their bits, and k bits where those are no fewer
+  pub up-to : (i n : ℕ) → (upTo i ≤ n) ↔ (i < 64 * n)
+  pub words-for : (k n : ℕ) → (wordsFor k ≤ n) ↔ (k ≤ 64 * n)
+  -- the numbers of a region, and where its last one is no index
+  pub in-region : (a k i : ℕ) → (inRegion a k i ≡ true) ↔ ((a ≤ i) × (i < a + k))
+  pub passing : (i k last : ℕ) → suc last ≡ i + k → (passes i k ≡ true) ↔ (18_446_744_073_709_551_615 < last)
 
 -- What a call hands out, by the number x that it answers, the flag f and the value v.
 
@@ -112,6 +137,21 @@ HandsNone x v k = (x ≡ k) × (v ≡ 0)
 
 abbrev pub FindsNone : ℕ → ℕ → ℕ → ℕ → Type 0
 FindsNone x f v k = (x ≡ k) × (f ≡ 0) × (v ≡ 0)
+
+-- what is told of each answer: 0 and its value, or its number and 0
+pub record AnswersTell : Type 0 where
+  pub place : (p : ℕ) → (foundNumber (At p) ≡ 0) × (foundFlag (At p) ≡ 1) × (foundValue (At p) ≡ p)
+  pub no-place : FindsNone (foundNumber Nothing) (foundFlag Nothing) (foundValue Nothing) 0
+  pub number : (n : ℕ) → (numberNumber (Number.Is n) ≡ 0) × (numberValue (Number.Is n) ≡ n)
+  pub field : (v : ℕ) → (fieldNumber (Field.Is v) ≡ 0) × (fieldValue (Field.Is v) ≡ v)
+  pub holds : (truthNumber (Truth.Is true) ≡ 0) × (truthValue (Truth.Is true) ≡ 1)
+  pub fails : (truthNumber (Truth.Is false) ≡ 0) × (truthValue (Truth.Is false) ≡ 0)
+  pub change : (b : Bitmap) → (changeNumber (Done b) ≡ 0) × (changeRecord (Done b) ≡ b)
+  pub no-found : (e : Refusal) → FindsNone (foundNumber (Found.Refused e)) (foundFlag (Found.Refused e)) (foundValue (Found.Refused e)) (numberOf e)
+  pub no-number : (e : Refusal) → HandsNone (numberNumber (Number.Refused e)) (numberValue (Number.Refused e)) (numberOf e)
+  pub no-field : (e : Refusal) → HandsNone (fieldNumber (Field.Refused e)) (fieldValue (Field.Refused e)) (numberOf e)
+  pub no-truth : (e : Refusal) → HandsNone (truthNumber (Truth.Refused e)) (truthValue (Truth.Refused e)) (numberOf e)
+  pub no-change : (e : Refusal) (b : Bitmap) → (changeNumber (Change.Refused e b) ≡ numberOf e) × (changeRecord (Change.Refused e b) ≡ b)
 
 -- a number of which the rule holds
 abbrev pub Hands : (ℕ → Type 0) → ℕ → ℕ → Type 0
@@ -225,6 +265,15 @@ ChangeMeans =
     → let x = changeNumber r in
     let m = changeRecord r .count in
     Guarded (length ws) (b .count) (Kept (b .count) ws x m ws') (EndsAs rule why (view ws (b .count)) ws x m ws')
+
+-- a call that makes a bitmap: no word was in use, and a refusal answers count 0
+abbrev pub MakeMeans : Type 1
+MakeMeans =
+    (op : Op) (rule : ℕ → Bits → Bits → Type 0) (why : ℕ → Bits → ℕ → Type 0) → Meets op rule why
+    → (ws ws' : List ℕ) (r : Change) → Makes op ws r ws'
+    → let x = changeNumber r in
+    let m = changeRecord r .count in
+    Guarded (length ws) 0 (Kept 0 ws x m ws') (EndsAs rule why (view ws 0) ws x m ws')
 
 -- and with a second bitmap, whose store is looked at after the first
 abbrev pub BesideMeans : Type 1
