@@ -107,8 +107,12 @@ regions i v k some = record {
   why = λ c b e q.
       by-lt (2 ^ 64) (i + k)
       (λ h. inl (ap numberOf (which (sym q ∙ region-over i k c v b some h)), h))
-      (λ h. let l = lacks c _ e (sym (region-put i k c v b some h) ∙ q) in inr (l .0, h, l .1));
+      (λ h. let l = lacks c _ e (sym (region-put i k c v b some h) ∙ q) in inr (l .0, h, short c b v (l .1)));
 }
+  where
+    short : (c : ℕ) (b : Bits) (t : Bool) → c < choose t (max (b .count) ((i + k - 1) / 64 + 1)) (b .count) → (c < b .count) ⊎ ((t ≡ true) × (64 * c < i + k))
+    short c b true h = by-lt c (b .count) (λ l. inl l) (λ l. inr (refl, omega arith))
+    short c b false h = inl h
 
 pub region-nothing : (i : ℕ) (v : Bool) (c : ℕ) (b : Bits) → settingRegion i v 0 c b ≡ done b
 region-nothing i v c b = region-none i 0 c v b refl

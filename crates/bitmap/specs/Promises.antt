@@ -1,11 +1,10 @@
 -- What the calls of bitmap.rs promise, for every number. Each is proved in proofs/Promises.
-use Prim.Native.Nat.{ℕ, suc, _+_, _-_, _*_, _/_, _^_, _≤_, _<_, max}
+use Prim.Native.Nat.{ℕ, suc, _+_, _*_, _/_, _^_, _≤_, _<_, max}
 use mathlib.Core.Path.{_≡_}
 use mathlib.Core.Bool.{Bool, true, false, not}
 use mathlib.Core.List.{List}
 use mathlib.Core.Logic.{_⊎_}
 use lib.ListN.{length, getD}
-use Rattle.word.specs.Sets.{choose}
 use Rattle.word.specs.Bits.{bit}
 use Rattle.storage.specs.Stores.{Bits}
 use Rattle.storage.specs.Promises.{LeastCount, Meets, Unchanged, Never, Lacks, LacksResult}
@@ -48,6 +47,11 @@ pub record WithRegion (i : ℕ) (v : Bool) (k : ℕ) (b s : Bits) : Type 0 where
   pub after : (j : ℕ) → i + k ≤ j → s .members j ≡ b .members j
   pub grown : (last : ℕ) → suc last ≡ i + k → v ≡ true → s .count ≡ max (b .count) (last / 64 + 1)
   pub kept : v ≡ false → s .count ≡ b .count
+
+-- 4 where the last index passes 2 ^ 64 - 1, then 6 where the words in use, or the last one's word for true, are past the capacity
+abbrev pub NoRegion : ℕ → Bool → ℕ → ℕ → Bits → ℕ → Type 0
+NoRegion i v k c b m =
+    ((m ≡ 4) × (2 ^ 64 < i + k)) ⊎ ((m ≡ 6) × (i + k ≤ 2 ^ 64) × ((c < b .count) ⊎ ((v ≡ true) × (64 * c < i + k))))
 
 -- `set_field`, of width > 0: the numbers from i on have the value's digits and no others change; zeros keep the count, a digit 1 grows to the last one's word
 pub record WithField (i value width : ℕ) (b s : Bits) : Type 0 where
@@ -107,8 +111,7 @@ Trims = Meets trimming (λ c. Fewest) Never
 abbrev pub Regions : Type 0
 Regions =
     (i : ℕ) (v : Bool) (k : ℕ) → (k ≡ 0 → ⊥)
-    → Meets (settingRegion i v k) (λ c b s. (i + k ≤ 2 ^ 64) × WithRegion i v k b s)
-    (λ c b m. ((m ≡ 4) × (2 ^ 64 < i + k)) ⊎ ((m ≡ 6) × (i + k ≤ 2 ^ 64) × (c < choose v (max (b .count) ((i + k - 1) / 64 + 1)) (b .count))))
+    → Meets (settingRegion i v k) (λ c b s. (i + k ≤ 2 ^ 64) × WithRegion i v k b s) (NoRegion i v k)
 
 abbrev pub RegionUnchanged : Type 0
 RegionUnchanged = (i : ℕ) (v : Bool) → Meets (settingRegion i v 0) Unchanged Never

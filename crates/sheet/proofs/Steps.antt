@@ -1,11 +1,10 @@
 -- What each step makes of a bitmap, and where it is refused, by the promises of the operations: a step is refused exactly where its result has no space.
 -- Positions and amounts have 32 bits, and 1 bounds the store, so no index passes 2 ^ 64 - 1.
-use Prim.Native.Nat.{ℕ, _+_, _-_, _*_, _/_, _^_, _≤_, _<_, max}
+use Prim.Native.Nat.{ℕ, _+_, _-_, _*_, _^_, _≤_, _<_}
 use mathlib.Core.Path.{_≡_, refl, sym, ap, _∙_, subst}
 use mathlib.Core.Bool.{Bool, true, false, false≢true}
-use mathlib.Core.Logic.{_↔_, inl, inr}
+use mathlib.Core.Logic.{_↔_, _⊎_, inl, inr}
 use native.Mathlib.Omega.{arith}
-use Rattle.word.specs.Sets.{choose}
 use Rattle.word.proofs.Cases.{by-lt, by-eq}
 use Rattle.storage.specs.Refusals.{numberOf}
 use Rattle.storage.specs.Stores.{Bits, Bounded, Outcome, refused, done, limit}
@@ -74,14 +73,14 @@ member-low b h k i m = by-lt i (64 * b .count) (λ u. omega arith) (λ u. absurd
 
 -- a region that becomes empty keeps the count, so only a full one lacks space
 region-lacks : (v : Bool) (p n c : ℕ) (b : Bits) (k : ℕ) → (n ≡ 0 → ⊥) → Given (SetRegion v p n) c b → k ≡ 6
-    → c < choose v (max (b .count) ((p + n - 1) / 64 + 1)) (b .count) → Lacking (SetRegion v p n) c b k
+    → (c < b .count) ⊎ ((v ≡ true) × (64 * c < p + n)) → Lacking (SetRegion v p n) c b k
 unfolding Ranged
-region-lacks true p n c b k z g e l = record {
+region-lacks v p n c b k z g e (inl l) = absurd (omega (arith, g .space))
+region-lacks v p n c b k z g e (inr (t, l)) = record {
   six = e;
   low = omega (arith, g .ranged, g .short);
-  over = λ s m. omega (arith, m .1 z .grown (p + n - 1) (omega arith) refl);
+  over = λ s m. omega (arith, m .1 z .grown (p + n - 1) (omega arith) t);
 }
-region-lacks false p n c b k z g e l = absurd (omega (arith, g .space))
 
 step-meets : (e : Edit) → StepMeets e
 unfolding step Ranged
