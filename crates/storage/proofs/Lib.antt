@@ -6,4 +6,5 @@ pub mod Trims
 pub mod Grown
 pub mod Sizes
 pub mod Outcomes
+pub mod Once
 pub mod Promises

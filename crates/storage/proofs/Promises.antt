@@ -14,8 +14,8 @@ use Rattle.word.proofs.Cases.{by-lt, every-at, or-true, and-true}
 use Rattle.word.proofs.Sets.{least, counted}
 use Rattle.word.proofs.Lists.{determined, at-place, member-at}
 use Rattle.storage.specs.Refusals.{lastNumber, numberOf, changeNumber, changeRecord, guardNumber, foundNumber, foundFlag, foundValue, numberNumber, numberValue, fieldNumber, fieldValue, truthNumber, truthValue}
-use Rattle.storage.specs.Stores.{Bits, Bounded, Outcome, refused, done, Op, limit, checked, view, beside, reading, trimmedCount, trimmed, combined, written, zeroed, answer, store, outcome, Leaves, foundBelow, nextFrom, size, wordsFor}
-use Rattle.storage.specs.Promises.{EachNumberOnce, Guarded, CheckMeans, RefusalKeeps, GrowMeans, WordsAndSets, SpaceRules, WrittenMeans, SpaceExact, LeastCount, TrimmedCountMeans, Combines, CombinedMeans, Unites, UnitedMeans, AndNotMeans, SizeMeans, PlacesMean, HandsNone, FindsNone, AnswersTell, Tests, Finds, NextMember, NextFromMeans, NumberCall, FieldCall, TruthCall, FoundCall, Meets, Kept, Made, Ends, EndsAs, ChangeMeans, MakeMeans, BesideMeans, Chains}
+use Rattle.storage.specs.Stores.{Bits, Bounded, Outcome, refused, done, Op, limit, checked, view, beside, reading, combined, written, zeroed, answer, store, outcome, Leaves, foundBelow, nextFrom, size, wordsFor}
+use Rattle.storage.specs.Promises.{EachNumberOnce, Guarded, CheckMeans, RefusalKeeps, GrowMeans, WordsAndSets, SpaceRules, WrittenMeans, SpaceExact, TrimmedCountMeans, CombinedMeans, UnitedMeans, AndNotMeans, SizeMeans, PlacesMean, HandsNone, FindsNone, AnswersTell, Tests, Finds, NextMember, NextFromMeans, NumberCall, FieldCall, TruthCall, FoundCall, Meets, Kept, Made, Ends, EndsAs, ChangeMeans, MakeMeans, BesideMeans, OneEnd, OnceExact, Determines, Chains}
 use Rattle.storage.specs.declared.Bitmap.{Bitmap}
 use Rattle.storage.specs.declared.Refusal.{Refusal}
 use Rattle.storage.specs.declared.Refusal.the-variants.{StoreTooLong, CountOverStore, WidthOver, IndexOver, PastLength, NoSpace, NotList, NotAscii, NotSheet, CutRecord, BytesRemain, BadPayload, NewerKind, NoEdition}
@@ -32,8 +32,8 @@ use Rattle.storage.specs.declared.Change.{Change}
 use Rattle.storage.specs.declared.Change.the-variants.{Done, Refused}
 use Rattle.storage.proofs.Checks.{checked-ok, checked-long, checked-over, within-ok, within-no}
 use Rattle.storage.proofs.Outcomes.{by-outcome, let-pass}
-use Rattle.storage.proofs.Views.{view-count, bounded-view}
-use Rattle.storage.proofs.Stores.{Stored, written-stored, view-written, written-view, length-written, length-zeroed, zeroed-in, zeroed-out}
+use Rattle.storage.proofs.Views.{view-count, view-in, bounded-view}
+use Rattle.storage.proofs.Stores.{Stored, stored-written, written-stored, view-written, written-view, length-written, length-zeroed, zeroed-in, zeroed-out}
 use Rattle.storage.proofs.Trims.{trimmed-le, trimmed-holds, trimmed-least}
 
 -- ---- the numbers
@@ -295,6 +295,72 @@ beside-means op rule why meets os ws ws' n b r l =
   where
     o : Bits
     o = view os n
+
+-- ---- one answer
+
+pub once-exact : OnceExact
+once-exact op rule why meets once c b h l bound = record {
+  done-is = λ s. (
+    (λ q. (meets .made c b s q, meets .sound .space c b s bound l q)),
+    (λ r. by-outcome (op c b)
+        (λ t q. q ∙ ap done (one .result t s (meets .made c b t q) (r .0)))
+        (λ e q. absurd (one .apart s (numberOf e) (r .0) (r .1) (meets .why c b e q)))),
+  );
+  refused-is = λ k. (
+    (λ r. subst (why c b) (r .2) (meets .why c b (r .0) (r .1))),
+    (λ w. by-outcome (op c b)
+        (λ t q. absurd (one .apart t k (meets .made c b t q) (meets .sound .space c b t bound l q) w))
+        (λ e q. (e, q, one .number (numberOf e) k (meets .why c b e q) w))),
+  );
+}
+  where
+    one : OneEnd c (rule c b) (why c b)
+    one = once c b h l bound
+
+-- a store that holds what the rule says is the one written with it
+made-written : (rule : Bits → Type 0) (n : ℕ) (ws ws' : List ℕ) (x m : ℕ) → ((i : ℕ) → getD ws' i 0 < 2 ^ 64) → Made rule n ws x m ws'
+    → ws' ≡ written ws n (view ws' m)
+made-written rule n ws ws' x m f h =
+    stored-written ws n (view ws' m) ws'
+    (record {
+      long = h .words .long;
+      fits = λ k l. f k;
+      used = λ k j l u. sym (view-in ws' m k j (omega (arith, l, view-count ws' m)) u);
+      dropped = h .words .dropped;
+      kept = h .words .kept;
+    })
+
+kept-once : (n : ℕ) (ws xs ys : List ℕ) (x y k m a : ℕ) → Kept n ws x k xs a → Kept n ws y m ys a → (x ≡ y) × (k ≡ m) × (xs ≡ ys)
+kept-once n ws xs ys x y k m a p q = (p .number ∙ sym (q .number), p .count ∙ sym (q .count), p .words ∙ sym (q .words))
+
+pub determines : Determines
+determines rule why once ws xs ys n x y k m f g p q =
+    by-lt limit (length ws)
+    (λ h. kept-once n ws xs ys x y k m 1 (p .long h) (q .long h))
+    (λ h. by-lt (length ws) n
+    (λ l. kept-once n ws xs ys x y k m 2 (p .over h l) (q .over h l))
+    (λ l. go (once (length ws) b h (omega (arith, view-count ws n)) (bounded-view ws n)) (p .rest h l) (q .rest h l)))
+  where
+    b : Bits
+    b = view ws n
+
+    apart : {x y k : ℕ} {xs : List ℕ} → OneEnd (length ws) (rule (length ws) b) (why (length ws) b) → Made (rule (length ws) b) (b .count) ws x k xs
+        → why (length ws) b y → ⊥
+    apart {k = k} {xs = xs} one u w = one .apart (view xs k) _ (u .made) (omega (arith, u .inside, view-count xs k)) w
+
+    go : OneEnd (length ws) (rule (length ws) b) (why (length ws) b) → EndsAs rule why b ws x k xs → EndsAs rule why b ws y m ys
+        → (x ≡ y) × (k ≡ m) × (xs ≡ ys)
+    go one (inl u) (inl v) =
+        let s : view xs k ≡ view ys m = one .result (view xs k) (view ys m) (u .made) (v .made) in (
+          u .number ∙ sym (v .number),
+          sym (view-count xs k) ∙ ap (λ (t : Bits). t .count) s ∙ view-count ys m,
+          made-written _ (b .count) ws xs x k f u ∙ ap (written ws (b .count)) s ∙ sym (made-written _ (b .count) ws ys y m g v),
+        )
+    go one (inl u) (inr v) = absurd (apart one u (v .1))
+    go one (inr u) (inl v) = absurd (apart one v (u .1))
+    go one (inr u) (inr v) =
+        let e : x ≡ y = one .number x y (u .1) (v .1) in
+        kept-once (b .count) ws xs ys x y k m x (u .2) (subst (Kept (b .count) ws y m ys) (sym e) (v .2))
 
 pub grow-means : GrowMeans
 grow-means old new ws = record {

@@ -8,7 +8,7 @@ use lib.ListN.{length, getD}
 use Rattle.word.specs.Sets.{Counted}
 use Rattle.word.specs.Bits.{member}
 use Rattle.storage.specs.Refusals.{lastNumber, numberOf, foundNumber, foundFlag, foundValue, numberNumber, numberValue, fieldNumber, fieldValue, truthNumber, truthValue, changeNumber, changeRecord, guardNumber}
-use Rattle.storage.specs.Stores.{Bits, Bounded, refused, done, Op, checked, view, beside, reading, size, combined, andNot, nextFrom, within, upTo, inRegion, passes, wordsFor, trimmedCount, trimmed, written, zeroed, Changes, Makes}
+use Rattle.storage.specs.Stores.{Bits, Bounded, Outcome, refused, done, Op, checked, view, beside, reading, size, combined, andNot, nextFrom, within, upTo, inRegion, passes, wordsFor, trimmedCount, trimmed, written, zeroed, Changes, Makes}
 use Rattle.storage.specs.declared.Bitmap.{Bitmap}
 use Rattle.storage.specs.declared.Refusal.{Refusal}
 use Rattle.storage.specs.declared.Change.{Change}
@@ -257,23 +257,22 @@ Ends rule why n ws x m ws' = Made rule n ws x m ws' ⊎ ((0 < x) × why x × Kep
 abbrev pub EndsAs : (ℕ → Bits → Bits → Type 0) → (ℕ → Bits → ℕ → Type 0) → Bits → List ℕ → ℕ → ℕ → List ℕ → Type 0
 EndsAs rule why b ws x m ws' = Ends (rule (length ws) b) (why (length ws) b) (b .count) ws x m ws'
 
+-- 1 and 2 of the store, of which n words were in use, and then that end
+abbrev pub CallEnds : (ℕ → Bits → Bits → Type 0) → (ℕ → Bits → ℕ → Type 0) → List ℕ → ℕ → ℕ → ℕ → List ℕ → Type 0
+CallEnds rule why ws n x m ws' = Guarded (length ws) n (Kept n ws x m ws') (EndsAs rule why (view ws n) ws x m ws')
+
 -- demands 1 and 2 of a call of any operation, from its contract
 abbrev pub ChangeMeans : Type 1
 ChangeMeans =
     (op : Op) (rule : ℕ → Bits → Bits → Type 0) (why : ℕ → Bits → ℕ → Type 0) → Meets op rule why
     → (ws ws' : List ℕ) (b : Bitmap) (r : Change) → Changes op ws b r ws'
-    → let x = changeNumber r in
-    let m = changeRecord r .count in
-    Guarded (length ws) (b .count) (Kept (b .count) ws x m ws') (EndsAs rule why (view ws (b .count)) ws x m ws')
+    → CallEnds rule why ws (b .count) (changeNumber r) (changeRecord r .count) ws'
 
 -- a call that makes a bitmap: no word was in use, and a refusal answers count 0
 abbrev pub MakeMeans : Type 1
 MakeMeans =
     (op : Op) (rule : ℕ → Bits → Bits → Type 0) (why : ℕ → Bits → ℕ → Type 0) → Meets op rule why
-    → (ws ws' : List ℕ) (r : Change) → Makes op ws r ws'
-    → let x = changeNumber r in
-    let m = changeRecord r .count in
-    Guarded (length ws) 0 (Kept 0 ws x m ws') (EndsAs rule why (view ws 0) ws x m ws')
+    → (ws ws' : List ℕ) (r : Change) → Makes op ws r ws' → CallEnds rule why ws 0 (changeNumber r) (changeRecord r .count) ws'
 
 -- and with a second bitmap, whose store is looked at after the first
 abbrev pub BesideMeans : Type 1
@@ -284,6 +283,35 @@ BesideMeans =
     let m = changeRecord r .count in
     Guarded (length ws) (b .count) (Kept (b .count) ws x m ws')
     (Guarded (length os) n (Kept (b .count) ws x m ws') (EndsAs (rule (view os n)) (why (view os n)) (view ws (b .count)) ws x m ws'))
+
+-- in c words: the rule makes one result, no two conditions hold, and none does where a result has space
+pub record OneEnd (c : ℕ) (rule : Bits → Type 0) (why : ℕ → Type 0) : Type 0 where
+  pub result : (s t : Bits) → rule s → rule t → s ≡ t
+  pub number : (k l : ℕ) → why k → why l → k ≡ l
+  pub apart : (s : Bits) (k : ℕ) → rule s → s .count ≤ c → why k → ⊥
+
+-- of every bitmap that 1 and 2 let pass
+abbrev pub EndsOnce : (ℕ → Bits → Bits → Type 0) → (ℕ → Bits → ℕ → Type 0) → Type 0
+EndsOnce rule why = (c : ℕ) (b : Bits) → c ≤ mostWords → b .count ≤ c → Bounded b → OneEnd c (rule c b) (why c b)
+
+-- the operation is done exactly with a result that has space, and refused with k exactly where its condition holds
+pub record Exactly (c : ℕ) (o : Outcome) (rule : Bits → Type 0) (why : ℕ → Type 0) : Type 0 where
+  pub done-is : (s : Bits) → (o ≡ done s) ↔ (rule s × (s .count ≤ c))
+  pub refused-is : (k : ℕ) → ((e : Refusal) × (o ≡ refused e) × (numberOf e ≡ k)) ↔ why k
+
+abbrev pub MeetsExactly : Op → (ℕ → Bits → Bits → Type 0) → (ℕ → Bits → ℕ → Type 0) → Type 0
+MeetsExactly op rule why = (c : ℕ) (b : Bits) → c ≤ mostWords → b .count ≤ c → Bounded b → Exactly c (op c b) (rule c b) (why c b)
+
+-- where a call ends once, its promise is exact
+abbrev pub OnceExact : Type 1
+OnceExact = (op : Op) (rule : ℕ → Bits → Bits → Type 0) (why : ℕ → Bits → ℕ → Type 0) → Meets op rule why → EndsOnce rule why → MeetsExactly op rule why
+
+-- and what is promised of a call leaves it one number, one count and one content of the store
+abbrev pub Determines : Type 1
+Determines =
+    (rule : ℕ → Bits → Bits → Type 0) (why : ℕ → Bits → ℕ → Type 0) → EndsOnce rule why
+    → (ws xs ys : List ℕ) (n x y k m : ℕ) → ((i : ℕ) → getD xs i 0 < 2 ^ 64) → ((i : ℕ) → getD ys i 0 < 2 ^ 64)
+    → CallEnds rule why ws n x k xs → CallEnds rule why ws n y m ys → (x ≡ y) × (k ≡ m) × (xs ≡ ys)
 
 -- calls in a row: the next call on the record and the store that a call left sees exactly what the operation made
 pub record Seen (op : Op) (ws : List ℕ) (b b' : Bitmap) (ws' : List ℕ) (s : Bits) : Type 0 where

@@ -1,0 +1,64 @@
+-- Rules that make one result, with the conditions of refusal that most calls have. Assumes nothing.
+use mathlib.Core.Path.{_≡_, sym, ap, ap₂, _∙_, fun-ext}
+use mathlib.Core.Bool.{Bool, true, false≢true}
+use mathlib.Core.Logic.{_⊎_, inl, inr}
+use Prim.Native.Nat.{ℕ, _+_, _≤_, _<_, max}
+use native.Mathlib.Omega.{arith}
+use Rattle.word.proofs.Cases.{by-lt, by-eq, by-test}
+use Rattle.storage.specs.Stores.{Bits}
+use Rattle.storage.specs.Promises.{LeastCount, Combines, Unites, Never, Lacks, LacksResult, OneEnd}
+
+-- a bitmap is its members and its count
+pub same-bits : {b s : Bits} → ((i : ℕ) → b .members i ≡ s .members i) → b .count ≡ s .count → b ≡ s
+same-bits f e = ap₂ (λ (m : ℕ → Bool) (n : ℕ). record { members = m; count = n }) (fun-ext f) e
+
+-- two sets of which each member of one is a member of the other
+pub same-set : (f g : ℕ → Bool) → ((i : ℕ) → f i ≡ true → g i ≡ true) → ((i : ℕ) → g i ≡ true → f i ≡ true) → (i : ℕ) → f i ≡ g i
+same-set f g to from i =
+    by-test (f i) (λ y. y ∙ sym (to i y)) (λ n. by-test (g i) (λ y. absurd (false≢true (sym n ∙ from i y))) (λ m. n ∙ sym m))
+
+-- agreeing on the numbers from i on, below i + k, and on all others
+pub by-region : (i k : ℕ) (f g : ℕ → Bool) → ((j : ℕ) → j < i → f j ≡ g j) → ((j : ℕ) → i ≤ j → j < i + k → f j ≡ g j)
+    → ((j : ℕ) → i + k ≤ j → f j ≡ g j) → (j : ℕ) → f j ≡ g j
+by-region i k f g before inside after j = by-lt j i (before j) (λ l. by-lt j (i + k) (inside j l) (after j))
+
+-- agreeing on i and, with b, on all others
+pub one-bit : (b s t : Bits) (i : ℕ) (v : Bool) → s .members i ≡ v → t .members i ≡ v → ((j : ℕ) → (j ≡ i → ⊥) → s .members j ≡ b .members j)
+    → ((j : ℕ) → (j ≡ i → ⊥) → t .members j ≡ b .members j) → (j : ℕ) → s .members j ≡ t .members j
+one-bit b s t i v p q m n j = by-eq j i (λ e. ap (s .members) e ∙ p ∙ sym q ∙ ap (t .members) (sym e)) (λ e. m j e ∙ sym (n j e))
+
+-- the same set in the fewest words
+pub fewest-of : (n : ℕ) (f g : ℕ → Bool) (k m : ℕ) → ((i : ℕ) → f i ≡ g i) → LeastCount f n k → LeastCount g n m → k ≡ m
+fewest-of n f g k m e a b =
+    omega (arith, a .least m (λ i l y. b .holds i l (sym (e i) ∙ y)), b .least k (λ i l y. a .holds i l (e i ∙ y)))
+
+-- set operations of two bitmaps
+pub one-combined : (f : Bool → Bool → Bool) (o b s t : Bits) → Combines f o b s → Combines f o b t → s ≡ t
+one-combined f o b s t p q =
+    let e : (i : ℕ) → s .members i ≡ t .members i = λ i. p .each i ∙ sym (q .each i) in
+    same-bits e (fewest-of (max (b .count) (o .count)) (s .members) (t .members) (s .count) (t .count) e (p .count) (q .count))
+
+pub one-united : (o b s t : Bits) → Unites o b s → Unites o b t → s ≡ t
+one-united o b s t p q =
+    same-bits (same-set (s .members) (t .members) (λ i y. go t q i (p .only i y)) (λ i y. go s p i (q .only i y))) (p .count ∙ sym (q .count))
+  where
+    go : (t : Bits) → Unites o b t → (i : ℕ) → (b .members i ≡ true) ⊎ (o .members i ≡ true) → t .members i ≡ true
+    go t q i (inl y) = q .first i y
+    go t q i (inr y) = q .second i y
+
+-- ---- with the conditions that most calls have
+
+pub once-never : (c : ℕ) (b : Bits) (rule : Bits → Type 0) → ((s t : Bits) → rule s → rule t → s ≡ t) → OneEnd c rule (Never c b)
+once-never c b rule one = record { result = one; number = λ k l p q. absurd p; apart = λ s k r l p. p }
+
+pub once-lacks : (c : ℕ) (b : Bits) (rule : Bits → Type 0) (n : Bits → ℕ) → ((s t : Bits) → rule s → rule t → s ≡ t) → ((s : Bits) → rule s → s .count ≡ n b)
+    → OneEnd c rule (Lacks n c b)
+once-lacks c b rule n one count = record { result = one; number = λ k l p q. p .0 ∙ sym (q .0); apart = λ s k r l p. absurd (omega (arith, p .1, count s r)) }
+
+pub once-lacks-result : (c : ℕ) (b : Bits) (rule : Bits → Bits → Type 0) → ((s t : Bits) → rule b s → rule b t → s ≡ t)
+    → OneEnd c (rule b) (LacksResult rule c b)
+once-lacks-result c b rule one = record {
+  result = one;
+  number = λ k l p q. p .0 ∙ sym (q .0);
+  apart = λ s k r l p. let (t, u, m) = p .1 in absurd (omega (arith, m, ap (λ (x : Bits). x .count) (one s t r u)));
+}
