@@ -5,3 +5,4 @@ pub mod Regions
 pub mod Fields
 pub mod Sounds
 pub mod Promises
+pub mod Once

@@ -1,4 +1,4 @@
--- What the calls of bitmap.rs promise, for every number. Each is proved in proofs/Promises.
+-- What the calls of bitmap.rs promise, for every number. Each is proved in proofs/Promises, `CallsExact` in proofs/Once.
 use Prim.Native.Nat.{ℕ, suc, _+_, _*_, _/_, _^_, _≤_, _<_, max}
 use mathlib.Core.Path.{_≡_}
 use mathlib.Core.Bool.{Bool, true, false, not}
@@ -7,7 +7,7 @@ use mathlib.Core.Logic.{_⊎_}
 use lib.ListN.{length, getD}
 use Rattle.word.specs.Bits.{bit}
 use Rattle.storage.specs.Stores.{Bits}
-use Rattle.storage.specs.Promises.{LeastCount, Meets, Unchanged, Never, Lacks, LacksResult}
+use Rattle.storage.specs.Promises.{LeastCount, Meets, Unchanged, Never, Lacks, LacksResult, MeetsExactly}
 use Rattle.bitmap.specs.Bitmaps.{trimming, setting, unsetting, settingMany, settingRegion, settingField, tidied, keepingBit, droppingBit, flippingBit}
 
 -- `set`: i is a member, every other number is as it was, and the words reach to i's
@@ -132,3 +132,17 @@ DropsBit = (i : ℕ) → Meets (droppingBit i) (λ c. ThenTidied i (WithoutBit i
 
 abbrev pub FlipsBit : Type 0
 FlipsBit = (i : ℕ) → Meets (flippingBit i) (λ c. ThenTidied i (FlippedBit i)) (LacksResult (ThenTidied i (FlippedBit i)))
+
+-- and each is exact: done where there is a result as said, with space, and refused with a number where its condition holds
+pub record CallsExact : Type 0 where
+  pub set : (i : ℕ) → MeetsExactly (setting i) (λ c. WithBit i) (Lacks (λ b. max (b .count) (i / 64 + 1)))
+  pub set-many : (is : List ℕ) → MeetsExactly (settingMany is) (λ c. WithListed is) (LacksListed is)
+  pub unset : (i : ℕ) → MeetsExactly (unsetting i) (λ c. WithoutBit i) Never
+  pub trim : MeetsExactly trimming (λ c. Fewest) Never
+  pub set-region : (i : ℕ) (v : Bool) (k : ℕ) → (k ≡ 0 → ⊥)
+      → MeetsExactly (settingRegion i v k) (λ c b s. (i + k ≤ 2 ^ 64) × WithRegion i v k b s) (NoRegion i v k)
+  pub set-field : (i value width : ℕ) → (width ≡ 0 → ⊥)
+      → MeetsExactly (settingField i value width) (λ c b s. (width ≤ 64) × (i + width ≤ 2 ^ 64) × WithField i value width b s) (NoField i value width)
+  pub andi : (i : ℕ) → MeetsExactly (keepingBit i) (λ c. ThenTidied i (OnlyBit i)) Never
+  pub andnoti : (i : ℕ) → MeetsExactly (droppingBit i) (λ c. ThenTidied i (WithoutBit i)) Never
+  pub xori : (i : ℕ) → MeetsExactly (flippingBit i) (λ c. ThenTidied i (FlippedBit i)) (LacksResult (ThenTidied i (FlippedBit i)))

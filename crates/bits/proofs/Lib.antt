@@ -2,3 +2,4 @@ pub mod Moves
 pub mod Counts
 pub mod Ranks
 pub mod Promises
+pub mod Once

@@ -1,10 +1,10 @@
--- What the calls of bits.rs promise, for every number. Each is proved in proofs/Promises.
+-- What the calls of bits.rs promise, for every number. Each is proved in proofs/Promises, `CallsExact` in proofs/Once.
 use Prim.Native.Nat.{ℕ, _+_, _*_, _≤_, _<_}
 use mathlib.Core.Path.{_≡_}
 use mathlib.Core.Bool.{true, false, not}
 use Rattle.word.specs.Sets.{Counted}
 use Rattle.storage.specs.Stores.{Bits}
-use Rattle.storage.specs.Promises.{Hands, Finds, NumberCall, FoundCall, Meets, Never}
+use Rattle.storage.specs.Promises.{Hands, Finds, NumberCall, FoundCall, Meets, Never, MeetsExactly}
 use Rattle.storage.specs.declared.Number.{Number}
 use Rattle.storage.specs.declared.Number.the-variants.{Is}
 use Rattle.bits.specs.Bits.{toggling, inverting, reversing, clearSize, countRegion, rankOf, selected}
@@ -35,6 +35,12 @@ pub record Reversed (b s : Bits) : Type 0 where
 
 abbrev pub Reverses : Type 0
 Reverses = Meets reversing (λ c. Reversed) Never
+
+-- and each of the three is exact: done where there is a result as said, refused with 5 where its condition holds
+pub record CallsExact : Type 0 where
+  pub invert : MeetsExactly inverting (λ c. Inverted) Never
+  pub toggle : (i : ℕ) → MeetsExactly (toggling i) (λ c b s. (i < 64 * b .count) × Toggled i b s) (λ c b k. (k ≡ 5) × (64 * b .count ≤ i))
+  pub reverse : MeetsExactly reversing (λ c. Reversed) Never
 
 -- `count_clear_bits`: the numbers below the length that are no members
 abbrev pub CountClearBitsMeans : Type 0

@@ -3,3 +3,4 @@ pub mod Lengths
 pub mod Writes
 pub mod Froms
 pub mod Promises
+pub mod Once

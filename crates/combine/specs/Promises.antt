@@ -1,11 +1,11 @@
--- What the calls promise, from their contracts. Each is proved in proofs/Promises.
+-- What the calls promise, from their contracts. Each is proved in proofs/Promises, `CallsExact` in proofs/Once.
 use Prim.Native.Nat.{ℕ, _<_, max}
 use mathlib.Core.Path.{_≡_}
 use mathlib.Core.Bool.{Bool, false}
 use mathlib.Core.List.{List}
 use lib.ListN.{length}
 use Rattle.storage.specs.Refusals.{changeNumber, changeRecord}
-use Rattle.storage.specs.Promises.{Guarded, Combines, Unites, Meets, Lacks, LacksResult, Kept, EndsAs}
+use Rattle.storage.specs.Promises.{Guarded, Combines, Unites, Meets, Lacks, LacksResult, Kept, EndsAs, MeetsExactly}
 use Rattle.storage.specs.Stores.{Bits, Bounded, Op, view, Changes, Makes}
 use Rattle.storage.specs.declared.Bitmap.{Bitmap}
 use Rattle.storage.specs.declared.Change.{Change}
@@ -30,6 +30,13 @@ UnitesFrom = (x y : Bits) → Bounded x → Bounded y → Meets (unitingFrom x y
 
 abbrev pub UnitingDiscards : Type 0
 UnitingDiscards = (x y : Bits) → Discards (unitingFrom x y)
+
+-- and both are exact: done where there is a result as said, with space, and refused with 6 where there is none
+pub record CallsExact : Type 0 where
+  pub combine : (f : Bool → Bool → Bool) (x y : Bits) → f false false ≡ false → Bounded x → Bounded y
+      → MeetsExactly (combiningFrom f x y) (λ c b s. Combines f y x s) (LacksResult (λ b s. Combines f y x s))
+  pub unite : (x y : Bits) → Bounded x → Bounded y
+      → MeetsExactly (unitingFrom x y) (λ c b s. Unites y x s) (Lacks (λ b. max (x .count) (y .count)))
 
 -- 1 and 2 of the store that is written, then of the left one, then of the right one; then the rule and the conditions
 abbrev pub EndsBoth : (ℕ → Bits → Bits → Type 0) → (ℕ → Bits → ℕ → Type 0) → List ℕ → ℕ → List ℕ → ℕ → List ℕ → Bitmap → Change → List ℕ → Type 0

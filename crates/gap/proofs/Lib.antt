@@ -4,3 +4,4 @@ pub mod Opens
 pub mod Closes
 pub mod Calls
 pub mod Promises
+pub mod Once

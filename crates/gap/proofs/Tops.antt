@@ -1,5 +1,5 @@
 -- One past the greatest member of a set, moved and cut. Assumes nothing.
-use mathlib.Core.Path.{_≡_, ap, ap₂, fun-ext}
+use mathlib.Core.Path.{_≡_, ap}
 use mathlib.Core.Bool.{Bool, true, false}
 use Prim.Native.Nat.{ℕ, suc, _+_, _-_, _*_, _≤_}
 use native.Mathlib.Omega.{arith}
@@ -26,9 +26,6 @@ ends-of b h = record {
 
 pub top-le : (b : Bits) → topOf b ≤ 64 * b .count
 top-le b = top (b .members) (64 * b .count) .within
-
-pub same-bits : {b s : Bits} → ((i : ℕ) → b .members i ≡ s .members i) → b .count ≡ s .count → b ≡ s
-same-bits f e = ap₂ (λ (m : ℕ → Bool) (n : ℕ). record { members = m; count = n }) (fun-ext f) e
 
 module _ (s : ℕ → Bool) (t : ℕ) (e : Ends s t) where
   ends-below : (m : ℕ) → t ≤ m → topBelow s m ≡ t

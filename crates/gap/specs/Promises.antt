@@ -1,10 +1,11 @@
--- What `open` and `close` promise, for every number. Each is proved in proofs/Promises, of a bitmap with no member past its words.
+-- What `open` and `close` promise, for every number. Each is proved in proofs/Promises, of a bitmap with no member past its words,
+-- `CallsExact` in proofs/Once.
 use Prim.Native.Nat.{ℕ, _+_, _*_, _^_, _≤_, _<_}
 use mathlib.Core.Path.{_≡_}
 use mathlib.Core.Bool.{true, false}
 use mathlib.Core.Logic.{_⊎_}
 use Rattle.storage.specs.Stores.{Bits, Bounded}
-use Rattle.storage.specs.Promises.{mostWords, Meets}
+use Rattle.storage.specs.Promises.{mostWords, Meets, MeetsExactly}
 use Rattle.gap.specs.Gaps.{opening, closing}
 
 -- the words in use hold every member, and no fewer words do
@@ -44,3 +45,8 @@ NotClosed c b m = b .count ≤ c → b .count ≤ mostWords → ⊥
 -- `close_gap`
 abbrev pub CloseMeans : Type 0
 CloseMeans = (p k : ℕ) → Meets (closing p k) (λ c b s. Bounded b → Closes p k b s) (λ c b m. Bounded b → NotClosed c b m)
+
+-- and each is exact: done where there is a result as said, with space, and refused with a number where its condition holds
+pub record CallsExact : Type 0 where
+  pub open-gap : (p k : ℕ) → MeetsExactly (opening p k) (λ c b s. Bounded b → Opens p k b s) (λ c b m. Bounded b → NotOpened p k c b m)
+  pub close-gap : (p k : ℕ) → MeetsExactly (closing p k) (λ c b s. Bounded b → Closes p k b s) (λ c b m. Bounded b → NotClosed c b m)

@@ -1,2 +1,3 @@
 pub mod Combine
 pub mod Promises
+pub mod Once

@@ -5,3 +5,4 @@ pub mod Sizes
 pub mod Splits
 pub mod Promises
 pub mod Halves
+pub mod Once

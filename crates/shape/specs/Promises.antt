@@ -1,4 +1,4 @@
--- What the calls of shape.rs promise, for every number. Each is proved in proofs/Promises, what `split_off` promises in proofs/Halves.
+-- What the calls of shape.rs promise, for every number. Each is proved in proofs/Promises, what `split_off` promises in proofs/Halves, `CallsExact` in proofs/Once.
 use Prim.Native.Nat.{ℕ, suc, _+_, _-_, _*_, _/_, _^_, _≤_, _<_, max}
 use mathlib.Core.Path.{_≡_}
 use mathlib.Core.Bool.{true, false, not}
@@ -6,7 +6,7 @@ use mathlib.Core.List.{List}
 use mathlib.Core.Logic.{_⊎_}
 use lib.ListN.{length}
 use Rattle.storage.specs.Stores.{Bits, Bounded, view}
-use Rattle.storage.specs.Promises.{LeastCount, Guarded, Meets, Unchanged, Never, Lacks, Kept, Made}
+use Rattle.storage.specs.Promises.{LeastCount, Guarded, Meets, Unchanged, Never, Lacks, Kept, Made, MeetsExactly}
 use Rattle.storage.specs.declared.Bitmap.{Bitmap}
 use Rattle.shape.specs.Shapes.{toggling, togglingRegion, raising, lowering, truncating, resizing, appending, splitNumber, splitHead, splitTail, Splits}
 use Rattle.shape.specs.declared.Split.{Split}
@@ -22,12 +22,15 @@ pub record FlippedFrom (i k : ℕ) (b s : Bits) : Type 0 where
 abbrev pub Toggles : Type 0
 Toggles = (i : ℕ) → Meets (toggling i) (λ c b s. FlippedFrom i 1 b s) (Lacks (λ b. max (b .count) (i / 64 + 1)))
 
--- `toggle_region`: 4 exactly where the last index passes 2 ^ 64 - 1, then 6 for lack of space
+-- 4 where the last index passes 2 ^ 64 - 1, then 6 for lack of space
+abbrev pub NotFlipped : ℕ → ℕ → ℕ → Bits → ℕ → Type 0
+NotFlipped i k c b m = ((m ≡ 4) × (2 ^ 64 < i + k)) ⊎ ((m ≡ 6) × (i + k ≤ 2 ^ 64) × (c < max (b .count) ((i + k - 1) / 64 + 1)))
+
+-- `toggle_region`
 abbrev pub TogglesRegion : Type 0
 TogglesRegion =
     (i k : ℕ) → (k ≡ 0 → ⊥)
-    → Meets (togglingRegion i k) (λ c b s. (i + k ≤ 2 ^ 64) × FlippedFrom i k b s)
-    (λ c b m. ((m ≡ 4) × (2 ^ 64 < i + k)) ⊎ ((m ≡ 6) × (i + k ≤ 2 ^ 64) × (c < max (b .count) ((i + k - 1) / 64 + 1))))
+    → Meets (togglingRegion i k) (λ c b s. (i + k ≤ 2 ^ 64) × FlippedFrom i k b s) (NotFlipped i k)
 
 -- and of 0 numbers nothing, whatever i
 abbrev pub RegionUnchanged : Type 0
@@ -97,6 +100,16 @@ pub record JoinedWith (o b s : Bits) : Type 0 where
 -- `append`
 abbrev pub Joins : Type 0
 Joins = (o : Bits) → Bounded o → Meets (appending o) (λ c b s. Bounded b → JoinedWith o b s) (Lacks (λ b. b .count + o .count))
+
+-- and each is exact: done where there is a result as said, with space, and refused with a number where its condition holds
+pub record CallsExact : Type 0 where
+  pub toggle : (i : ℕ) → MeetsExactly (toggling i) (λ c b s. FlippedFrom i 1 b s) (Lacks (λ b. max (b .count) (i / 64 + 1)))
+  pub toggle-region : (i k : ℕ) → (k ≡ 0 → ⊥) → MeetsExactly (togglingRegion i k) (λ c b s. (i + k ≤ 2 ^ 64) × FlippedFrom i k b s) (NotFlipped i k)
+  pub shift-left : (k : ℕ) → MeetsExactly (raising k) (λ c b s. Bounded b → RaisedBy k b s) (λ c b m. Bounded b → TopPasses k c b m)
+  pub shift-right : (k : ℕ) → MeetsExactly (lowering k) (λ c b s. LoweredBy k b s) Never
+  pub truncate : (k : ℕ) → MeetsExactly (truncating k) (λ c b s. TruncatedTo k b s) Never
+  pub resize : (k : ℕ) → MeetsExactly (resizing k) (λ c b s. ResizedTo k b s) (Lacks (λ b. (k + 63) / 64))
+  pub append : (o : Bits) → Bounded o → MeetsExactly (appending o) (λ c b s. Bounded b → JoinedWith o b s) (Lacks (λ b. b .count + o .count))
 
 -- `split_off` at a bit, by the number x that it answers, the head's count m, the tail's count t and the words ws' and ts' afterwards.
 -- Before there were n words in use of ws; the tail's store ts has no earlier count, so none of its words was in use.

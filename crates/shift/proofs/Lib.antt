@@ -3,3 +3,4 @@ pub mod Rings
 pub mod Turns
 pub mod Calls
 pub mod Promises
+pub mod Once

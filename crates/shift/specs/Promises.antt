@@ -1,4 +1,4 @@
--- What the four calls promise, in words of their own: where each number goes, and that nothing else comes in. Each is proved in proofs/Promises.
+-- What the four calls promise, in words of their own: where each number goes, and that nothing else comes in. Each is proved in proofs/Promises, `CallsExact` in proofs/Once.
 use Prim.Native.Nat.{ℕ, _+_, _-_, _*_, _%_, _≤_, _<_}
 use mathlib.Core.Path.{_≡_}
 use mathlib.Core.Bool.{Bool, true, false}
@@ -6,7 +6,7 @@ use mathlib.Core.List.{List}
 use lib.ListN.{length}
 use Rattle.word.specs.Bits.{member, wordsOf}
 use Rattle.storage.specs.Stores.{Bits, Bounded, done, Op}
-use Rattle.storage.specs.Promises.{Meets, Never}
+use Rattle.storage.specs.Promises.{Meets, Never, MeetsExactly}
 use Rattle.shift.specs.Shifts.{movedUp, movedDown, turnedUp, turnedDown, shiftingLeft, shiftingRight, rotatingLeft, rotatingRight}
 
 -- whatever the capacity, the call is done, the count stays, and the rule holds of the length, the old set and the new one
@@ -67,6 +67,16 @@ RotatesRight = (k : ℕ) → Moves (rotatingRight k) (RotatedRight k)
 
 abbrev pub TurnRightMeans : Type 0
 TurnRightMeans = (k : ℕ) → MovesWords (λ len. turnedDown len k) (RotatedRight k)
+
+-- and each of the four is exact: it is done, with the one result as said, and never refused
+abbrev pub MovesExactly : Op → (ℕ → (ℕ → Bool) → (ℕ → Bool) → Type 0) → Type 0
+MovesExactly op rule = MeetsExactly op (λ c b s. Bounded b → (s .count ≡ b .count) × rule (64 * b .count) (b .members) (s .members)) Never
+
+pub record CallsExact : Type 0 where
+  pub shift-left : (k : ℕ) → MovesExactly (shiftingLeft k) (ShiftedLeft k)
+  pub shift-right : (k : ℕ) → MovesExactly (shiftingRight k) (ShiftedRight k)
+  pub rotate-left : (k : ℕ) → MovesExactly (rotatingLeft k) (RotatedLeft k)
+  pub rotate-right : (k : ℕ) → MovesExactly (rotatingRight k) (RotatedRight k)
 
 -- one way and then the other gives the bitmap back
 abbrev pub Undoes : Op → Op → Type 0

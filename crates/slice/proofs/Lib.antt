@@ -7,3 +7,4 @@ pub mod Scans
 pub mod Eights
 pub mod Equals
 pub mod Promises
+pub mod Once

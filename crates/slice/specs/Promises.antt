@@ -1,4 +1,4 @@
--- What the definitions promise, in words of their own. Each is proved in proofs/Promises.
+-- What the definitions promise, in words of their own. Each is proved in proofs/Promises, `SetFieldStrictExact` in proofs/Once.
 use Prim.Native.Nat.{ℕ, suc, _+_, _*_, _≤_, _<_}
 use mathlib.Core.Path.{_≡_}
 use mathlib.Core.Bool.{true, false}
@@ -9,7 +9,7 @@ use Rattle.word.specs.Sets.{Counted}
 use Rattle.word.specs.Bits.{bit}
 use Rattle.storage.specs.Refusals.{truthNumber, truthValue}
 use Rattle.storage.specs.Stores.{Bits, Bounded, view, reading, size, nextFrom}
-use Rattle.storage.specs.Promises.{Guarded, HandsNone, Hands, Tests, Finds, NextMember, NumberCall, FieldCall, TruthCall, FoundCall, Meets}
+use Rattle.storage.specs.Promises.{Guarded, HandsNone, Hands, Tests, Finds, NextMember, NumberCall, FieldCall, TruthCall, FoundCall, Meets, MeetsExactly}
 use Rattle.storage.specs.declared.Number.{Number}
 use Rattle.storage.specs.declared.Number.the-variants.{Is}
 use Rattle.storage.specs.declared.Truth.{Truth}
@@ -85,6 +85,10 @@ FieldRefused i width b k = ((k ≡ 3) × (64 < width)) ⊎ ((k ≡ 5) × (0 < wi
 -- `set_field_strict`
 abbrev pub SetFieldStrict : Type 0
 SetFieldStrict = (i value width : ℕ) → Meets (fieldSetting i value width) (λ c. FieldWritten i value width) (λ c. FieldRefused i width)
+
+-- and it is exact: done where there is a result as said, refused with 3 or 5 where its condition holds
+abbrev pub SetFieldStrictExact : Type 0
+SetFieldStrictExact = (i value width : ℕ) → MeetsExactly (fieldSetting i value width) (λ c. FieldWritten i value width) (λ c. FieldRefused i width)
 
 -- v members, at the length and from there on
 abbrev pub AllCounted : Bits → ℕ → Type 0

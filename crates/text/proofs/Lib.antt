@@ -5,3 +5,4 @@ pub mod Taken
 pub mod Accepts
 pub mod Grammar
 pub mod Promises
+pub mod Once

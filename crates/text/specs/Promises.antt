@@ -1,4 +1,4 @@
--- What reading list text promises, in words of its own. Each is proved in proofs/Promises.
+-- What reading list text promises, in words of its own. Each is proved in proofs/Promises, `ReadsListExact` in proofs/Once.
 use Prim.Native.Nat.{ℕ, _/_, _≤_, _<_}
 use mathlib.Core.Path.{_≡_}
 use mathlib.Core.Bool.{true}
@@ -6,7 +6,7 @@ use mathlib.Core.List.{List, [], _∷_}
 use mathlib.Core.Logic.{_⊎_, _↔_}
 use lib.ListN.{length, getD}
 use Rattle.storage.specs.Stores.{Bits}
-use Rattle.storage.specs.Promises.{Meets}
+use Rattle.storage.specs.Promises.{Meets, MeetsExactly}
 use Rattle.text.specs.Lists.{Range}
 use Rattle.text.specs.Grammar.{Listed}
 use Rattle.text.specs.Readings.{notList, ranges, parse, readingList}
@@ -49,3 +49,7 @@ ListRefused t c b k = ((k ≡ 8) × High t) ⊎ (((k ≡ 7) × (High t → ⊥) 
 -- `from_list`
 abbrev pub ReadsList : Type 0
 ReadsList = (t : List ℕ) → Meets (readingList t) (ListRead t) (ListRefused t)
+
+-- and it is exact: done where there is a result as said, with space, and refused with a number where its condition holds
+abbrev pub ReadsListExact : Type 0
+ReadsListExact = (t : List ℕ) → MeetsExactly (readingList t) (ListRead t) (ListRefused t)
