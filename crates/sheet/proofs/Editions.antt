@@ -11,8 +11,10 @@ use native.Mathlib.Nat.{add-suc, suc-add, zero-add}
 use lib.ListN.{length}
 use lib.Dec.{eqb, eqb→eq}
 use Rattle.word.specs.Sets.{choose}
+use Rattle.storage.specs.Refusals.{numberOf}
+use Rattle.storage.specs.declared.Refusal.{Refusal}
 use Rattle.storage.specs.declared.Refusal.the-variants.{NewerKind}
-use Rattle.sheet.specs.Reader.{Edition, Item, Answer, refused, done, answerNumber, answerRecord, Turn, stop, next, endAt, edit, edited, known, act, then, records, copied, read}
+use Rattle.sheet.specs.Reader.{Edition, Item, Answer, refused, done, Turn, stop, next, endAt, edit, edited, known, act, then, records, copied, read}
 use Rattle.sheet.specs.Meaning.{Header, total, start, Whole, effect, begin, AtRecord, Newer, newer, Holds}
 use Rattle.sheet.specs.Promises.{AnyTwo}
 use Rattle.sheet.proofs.Turns.{take-true, take-false, header?, headed-true, headed-false, record-whole, record-cut}
@@ -133,9 +135,9 @@ any-two A S E F h sheet old = record { same = go (same-or-newer E F h sheet old)
     named k a = exact A S E sheet old (refused NewerKind k) .1 (newer a refl)
 
     go : SameOr E F h sheet old (read E sheet old) (read F sheet old)
-        → (read E sheet old ≡ read F sheet old) ⊎ ((answerNumber (read E sheet old) ≡ 13) × AtRecord E sheet old (answerRecord (read E sheet old)) (Newer E sheet))
+        → (read E sheet old ≡ read F sheet old) ⊎ ((why : Refusal) × (k : ℕ) × (read E sheet old ≡ refused why k) × (numberOf why ≡ 13) × AtRecord E sheet old k (Newer E sheet))
     go (inl e) = inl e
-    go (inr (k, a)) = inr (rw (named k a) (refl, a))
+    go (inr (k, a)) = inr (NewerKind, k, named k a, refl, a)
 
     stays : (k : ℕ) (s : S) → read E sheet old ≡ done k s → SameOr E F h sheet old (read E sheet old) (read F sheet old) → read F sheet old ≡ done k s
     stays k s e (inl p) = sym p ∙ e

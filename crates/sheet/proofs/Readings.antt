@@ -24,7 +24,7 @@ use Rattle.storage.proofs.Stores.{length-zeroed, zeroed-in}
 use Rattle.storage.proofs.Views.{bounded-view, view-count}
 use Rattle.storage.proofs.Promises.{each-number-once, space-rules}
 use Rattle.sheet.specs.Kinds.{Row, rowOf, sizeBy, sizeIn}
-use Rattle.sheet.specs.Reader.{Turn, stop, next, Answer, refused, done, answerNumber, answerRecord, read}
+use Rattle.sheet.specs.Reader.{Turn, stop, next, Answer, refused, done, read}
 use Rattle.sheet.specs.Meaning.{AtRecord, Newer, Fails, Applies, not-sheet, unfit, cut, newer, bad, fails, remain, Accepted, Due, Holds}
 use Rattle.sheet.specs.Paper.{IsEdition}
 use Rattle.sheet.specs.Reads.{editionOf, latest, isEdition, fitting, Course, stopped, went, course, readAnswer, readStore, Reads, readingNumber, readingRecord, readingCount}
@@ -115,14 +115,6 @@ module _ (n : ℕ) (ws : List ℕ) (m c : ℕ) where
 -- number, record and word count of what a reading came to
 abbrev Says : Reading → ℕ → ℕ → ℕ → Type 0
 Says r x k t = (readingNumber r ≡ x) × (readingRecord r ≡ k) × (readingCount r ≡ t)
-
-number-of : (a : Answer Bits) → readingNumber (readAnswer (went a)) ≡ answerNumber a
-number-of (refused e k) = refl
-number-of (done k s) = refl
-
-record-of : (a : Answer Bits) → readingRecord (readAnswer (went a)) ≡ answerRecord a
-record-of (refused e k) = refl
-record-of (done k s) = refl
 
 positive : (e : Refusal) → numberOf e ≡ 0 → ⊥
 positive e q = omega (arith, each-number-once .range e .0)
@@ -361,7 +353,7 @@ keeps-meaning e f ge gf l sheet ws m res₁ res₂ size words r₁ r₂ res₁' 
     Ends = (Alike r₁ r₂ × (res₁' ≡ res₂')) ⊎ ((readingNumber r₁ ≡ 13) × NamesNewer e sheet ws m c (readingRecord r₁))
 
     compare : Passes e ws m c
-        → (earlier ≡ read (editionOf c f) sheet (fitting c (view ws m))) ⊎ ((answerNumber earlier ≡ 13) × AtRecord (editionOf c e) sheet (fitting c (view ws m)) (answerRecord earlier) (Newer (editionOf c e) sheet))
+        → (earlier ≡ read (editionOf c f) sheet (fitting c (view ws m))) ⊎ ((why : Refusal) × (k : ℕ) × (earlier ≡ refused why k) × (numberOf why ≡ 13) × AtRecord (editionOf c e) sheet (fitting c (view ws m)) k (Newer (editionOf c e) sheet))
         → Ends
     compare p (inl q) =
         let same : r₁ ≡ r₂ = answered p ∙ ap (λ (x : Answer Bits). readAnswer (went x)) q ∙ sym (h₂ .answers ∙ ap readAnswer (second p)) in
@@ -370,9 +362,9 @@ keeps-meaning e f ge gf l sheet ws m res₁ res₂ size words r₁ r₂ res₁' 
           h₁ .leaves ∙ ap (λ (y : Course). readStore y res₁) (first p ∙ ap went q) ∙ same-store (read (editionOf c f) sheet (fitting c (view ws m))) res₁ res₂ size
               ∙ sym (h₂ .leaves ∙ ap (λ (y : Course). readStore y res₂) (second p)),
         )
-    compare p (inr (x, a)) =
-        let k : readingRecord r₁ ≡ answerRecord earlier = ap readingRecord (answered p) ∙ record-of earlier in
-        inr (ap readingNumber (answered p) ∙ number-of earlier ∙ x, (p, subst (λ (j : ℕ). AtRecord (editionOf c e) sheet (fitting c (view ws m)) j (Newer (editionOf c e) sheet)) (sym k) a))
+    compare p (inr (why, k, q, x, a)) =
+        let is : r₁ ≡ readAnswer (went (refused why k)) = answered p ∙ ap (λ (y : Answer Bits). readAnswer (went y)) q in
+        inr (ap readingNumber is ∙ x, (p, subst (λ (j : ℕ). AtRecord (editionOf c e) sheet (fitting c (view ws m)) j (Newer (editionOf c e) sheet)) (sym (ap readingRecord is)) a))
 
     go : ((x : ℕ) × Stops e ws m c x) ⊎ Passes e ws m c → Ends
     go (inl (x, s)) =

@@ -21,7 +21,7 @@ use Rattle.shape.specs.Promises.{FlippedFrom, RaisedBy, LoweredBy, ResizedTo}
 use Rattle.gap.specs.Promises.{Opens, Closes}
 use Rattle.sheet.specs.Kinds.{sizeIn, known, knownNumber, knownBytes, kindOf, payloadOf, Ranged}
 use Rattle.sheet.specs.Paper.{IsEdition, printed, values, given, Allowed, digits, cellDigits, byteDigits}
-use Rattle.sheet.specs.Reader.{Edition, Turn, stop, next, Item, Answer, done, answerNumber, answerRecord, read}
+use Rattle.sheet.specs.Reader.{Edition, Turn, stop, next, Item, Answer, refused, done, read}
 use Rattle.sheet.specs.Meaning.{Header, total, start, Whole, Is, Asks, effect, AtRecord, Newer, Applies, Accepted, Due, Holds}
 use Rattle.sheet.specs.Reads.{editionOf, latest, fitting, Reads, readingNumber, readingRecord, readingCount}
 use Rattle.sheet.specs.Writer.{Request, duty, remark, Entry, edit, note, Starts, Adds, addedNumber, addedLength}
@@ -183,7 +183,7 @@ ReadExact = (A S : Type 0) (E : Edition A S) (sheet : List ℕ) (old : Turn S) (
 -- the edition E gives F's answer or names a newer kind; what it accepts keeps its meaning
 pub record EarlierKeeps {A S : Type 0} (E F : Edition A S) (sheet : List ℕ) (old : Turn S) : Type 0 where
   pub same : (read E sheet old ≡ read F sheet old)
-      ⊎ ((answerNumber (read E sheet old) ≡ 13) × AtRecord E sheet old (answerRecord (read E sheet old)) (Newer E sheet))
+      ⊎ ((why : Refusal) × (k : ℕ) × (read E sheet old ≡ refused why k) × (numberOf why ≡ 13) × AtRecord E sheet old k (Newer E sheet))
   pub kept : (k : ℕ) (s : S) → read E sheet old ≡ done k s → read F sheet old ≡ done k s
 
 -- (b) of any two editions of which the later holds the earlier, whatever their edits and states

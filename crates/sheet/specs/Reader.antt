@@ -6,7 +6,6 @@ use mathlib.Core.Option.{Option, none, some}
 use lib.ListN.{length, getD, take, drop}
 use lib.Dec.{leb, ltb, eqb}
 use Rattle.word.specs.Sets.{choose}
-use Rattle.storage.specs.Refusals.{numberOf}
 use Rattle.storage.specs.declared.Refusal.{Refusal}
 use Rattle.storage.specs.declared.Refusal.the-variants.{NotSheet, CutRecord, BytesRemain, BadPayload, NewerKind}
 
@@ -32,15 +31,6 @@ pub record Item : Type 0 where
 pub data Answer (S : Type 0) : Type 0 where
   refused : Refusal → ℕ → Answer S
   done : ℕ → S → Answer S
-
--- of an answer its number, 0 for done, and its record
-abbrev pub answerNumber : {S : Type 0} → Answer S → ℕ
-answerNumber (refused e k) = numberOf e
-answerNumber (done k s) = 0
-
-abbrev pub answerRecord : {S : Type 0} → Answer S → ℕ
-answerRecord (refused e k) = k
-answerRecord (done k s) = k
 
 module _ (sheet : List ℕ) where
   -- at least four bytes, the letters N and S first
