@@ -4,15 +4,16 @@ use mathlib.Core.Bool.{Bool, false, _||_}
 use mathlib.Core.List.{List}
 use Prim.Native.Nat.{ℕ, max}
 use lib.ListN.{length}
+use Rattle.storage.specs.Refusals.{changeNumber, changeRecord}
 use Rattle.storage.specs.Stores.{Bits, Bounded, Op, view, beside, outcome, trimmed, combined}
 use Rattle.storage.specs.Promises.{Sound, Combines, Unites, Lacks, LacksResult}
 use Rattle.storage.proofs.Checks.{within-done}
 use Rattle.storage.proofs.Outcomes.{lacks, bounded-combined, sound-within, sound-beside}
 use Rattle.storage.proofs.Trims.{bounded-trimmed}
 use Rattle.storage.proofs.Views.{bounded-view}
-use Rattle.storage.proofs.Promises.{guarded-map, leaves-guarded, leaves-ends, combined-fewest, combined-either}
+use Rattle.storage.proofs.Promises.{guarded-map, leaves-guarded, leaves-ends, guarded-once, ends-one, combined-fewest, combined-either}
 use Rattle.combine.specs.Combine.{combiningFrom, unitingFrom, besideBoth}
-use Rattle.combine.specs.Promises.{CombinesFrom, CombiningDiscards, UnitesFrom, UnitingDiscards, BothMeans, CombineMeans, UniteMeans, DupCombineMeans, DupUniteMeans}
+use Rattle.combine.specs.Promises.{CombinesFrom, CombiningDiscards, UnitesFrom, UnitingDiscards, BothMeans, DeterminesBoth, CombineMeans, UniteMeans, DupCombineMeans, DupUniteMeans}
 
 -- ---- `and_from`, `andnot_from`, `xor_from` and their dup forms
 
@@ -65,6 +66,31 @@ both-means op rule why meets xs m ys n ws b r ws' l =
 
     y : Bits
     y = view ys n
+
+pub determines-both : DeterminesBoth
+determines-both op rule why exact xs m ys n ws us vs b r s f g p q =
+    guarded-once (length ws) (b .count) (b .count) ws us vs x x' k k' p q
+    (λ h j p' q'. guarded-once (length xs) m (b .count) ws us vs x x' k k' p' q'
+    (λ h' j' p'' q''. guarded-once (length ys) n (b .count) ws us vs x x' k k' p'' q''
+    (λ h'' j''. ends-one (op l t) (rule l t) (why l t) (exact l t (bounded-view xs m) (bounded-view ys n)) ws us vs (b .count) x x' k k' f g h j)))
+  where
+    l : Bits
+    l = view xs m
+
+    t : Bits
+    t = view ys n
+
+    x : ℕ
+    x = changeNumber r
+
+    x' : ℕ
+    x' = changeNumber s
+
+    k : ℕ
+    k = changeRecord r .count
+
+    k' : ℕ
+    k' = changeRecord s .count
 
 pub combine-means : CombineMeans
 combine-means f e =

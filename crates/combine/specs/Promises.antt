@@ -1,9 +1,9 @@
 -- What the calls promise, from their contracts. Each is proved in proofs/Promises, `CallsExact` in proofs/Once.
-use Prim.Native.Nat.{ℕ, _<_, max}
+use Prim.Native.Nat.{ℕ, _^_, _<_, max}
 use mathlib.Core.Path.{_≡_}
 use mathlib.Core.Bool.{Bool, false}
 use mathlib.Core.List.{List}
-use lib.ListN.{length}
+use lib.ListN.{length, getD}
 use Rattle.storage.specs.Refusals.{changeNumber, changeRecord}
 use Rattle.storage.specs.Promises.{Guarded, Combines, Unites, Meets, Lacks, LacksResult, Kept, EndsAs, MeetsExactly}
 use Rattle.storage.specs.Stores.{Bits, Bounded, Op, view, Changes, Makes}
@@ -54,6 +54,18 @@ BothMeans =
     → ((x y : Bits) → Bounded x → Bounded y → Meets (op x y) (rule x y) (why x y))
     → (xs : List ℕ) (m : ℕ) (ys : List ℕ) (n : ℕ) (ws : List ℕ) (b : Bitmap) (r : Change) (ws' : List ℕ) → Changes (besideBoth xs m ys n op) ws b r ws'
     → EndsBoth (rule (view xs m) (view ys n)) (why (view xs m) (view ys n)) xs m ys n ws b r ws'
+
+-- and where the operation is exact, that leaves one number, one count and one content of the store
+abbrev pub DeterminesBoth : Type 1
+DeterminesBoth =
+    (op : Bits → Bits → Op) (rule : Bits → Bits → ℕ → Bits → Bits → Type 0) (why : Bits → Bits → ℕ → Bits → ℕ → Type 0)
+    → ((x y : Bits) → Bounded x → Bounded y → MeetsExactly (op x y) (rule x y) (why x y))
+    → (xs : List ℕ) (m : ℕ) (ys : List ℕ) (n : ℕ) (ws us vs : List ℕ) (b : Bitmap) (r s : Change)
+    → ((i : ℕ) → getD us i 0 < 2 ^ 64) → ((i : ℕ) → getD vs i 0 < 2 ^ 64)
+    → let rule' = rule (view xs m) (view ys n) in
+    let why' = why (view xs m) (view ys n) in
+    EndsBoth rule' why' xs m ys n ws b r us → EndsBoth rule' why' xs m ys n ws b s vs
+    → (changeNumber r ≡ changeNumber s) × (changeRecord r .count ≡ changeRecord s .count) × (us ≡ vs)
 
 -- `and_from`, `andnot_from`, `xor_from`
 abbrev pub CombineMeans : Type 0

@@ -15,7 +15,7 @@ use Rattle.word.proofs.Sets.{least, counted}
 use Rattle.word.proofs.Lists.{determined, at-place, member-at}
 use Rattle.storage.specs.Refusals.{lastNumber, numberOf, changeNumber, changeRecord, guardNumber, foundNumber, foundFlag, foundValue, numberNumber, numberValue, fieldNumber, fieldValue, truthNumber, truthValue}
 use Rattle.storage.specs.Stores.{Bits, Bounded, Outcome, refused, done, Op, limit, checked, view, beside, reading, combined, written, zeroed, answer, store, outcome, Leaves, foundBelow, nextFrom, size, wordsFor}
-use Rattle.storage.specs.Promises.{EachNumberOnce, Guarded, CheckMeans, RefusalKeeps, GrowMeans, WordsAndSets, SpaceRules, WrittenMeans, SpaceExact, TrimmedCountMeans, CombinedMeans, UnitedMeans, AndNotMeans, SizeMeans, PlacesMean, HandsNone, FindsNone, AnswersTell, Tests, Finds, NextMember, NextFromMeans, NumberCall, FieldCall, TruthCall, FoundCall, Meets, Kept, Made, Ends, EndsAs, ChangeMeans, MakeMeans, BesideMeans, OneEnd, OnceExact, Determines, Chains}
+use Rattle.storage.specs.Promises.{EachNumberOnce, Guarded, CheckMeans, RefusalKeeps, GrowMeans, WordsAndSets, SpaceRules, WrittenMeans, SpaceExact, TrimmedCountMeans, CombinedMeans, UnitedMeans, AndNotMeans, SizeMeans, PlacesMean, HandsNone, FindsNone, AnswersTell, Tests, Finds, NextMember, NextFromMeans, NumberCall, FieldCall, TruthCall, FoundCall, Meets, Kept, Made, Ends, EndsAs, ChangeMeans, MakeMeans, BesideMeans, OneEnd, Exactly, MeetsExactly, OnceExact, Determines, DeterminesBeside, Chains}
 use Rattle.storage.specs.declared.Bitmap.{Bitmap}
 use Rattle.storage.specs.declared.Refusal.{Refusal}
 use Rattle.storage.specs.declared.Refusal.the-variants.{StoreTooLong, CountOverStore, WidthOver, IndexOver, PastLength, NoSpace, NotList, NotAscii, NotSheet, CutRecord, BytesRemain, BadPayload, NewerKind, NoEdition}
@@ -31,7 +31,7 @@ use Rattle.storage.specs.declared.Guard.the-variants.{Pass, Stop}
 use Rattle.storage.specs.declared.Change.{Change}
 use Rattle.storage.specs.declared.Change.the-variants.{Done, Refused}
 use Rattle.storage.proofs.Checks.{checked-ok, checked-long, checked-over, within-ok, within-no}
-use Rattle.storage.proofs.Outcomes.{by-outcome, let-pass}
+use Rattle.storage.proofs.Outcomes.{by-outcome, let-pass, same, never, which}
 use Rattle.storage.proofs.Views.{view-count, view-in, bounded-view}
 use Rattle.storage.proofs.Stores.{Stored, stored-written, written-stored, view-written, written-view, length-written, length-zeroed, zeroed-in, zeroed-out}
 use Rattle.storage.proofs.Trims.{trimmed-le, trimmed-holds, trimmed-least}
@@ -144,6 +144,8 @@ answers-tell = record {
   holds = (refl, refl);
   fails = (refl, refl);
   change = λ b. (refl, refl);
+  pass = refl;
+  stop = λ e. refl;
   no-found = λ e. (refl, refl, refl);
   no-number = λ e. (refl, refl);
   no-field = λ e. (refl, refl);
@@ -333,34 +335,58 @@ made-written rule n ws ws' x m f h =
 kept-once : (n : ℕ) (ws xs ys : List ℕ) (x y k m a : ℕ) → Kept n ws x k xs a → Kept n ws y m ys a → (x ≡ y) × (k ≡ m) × (xs ≡ ys)
 kept-once n ws xs ys x y k m a p q = (p .number ∙ sym (q .number), p .count ∙ sym (q .count), p .words ∙ sym (q .words))
 
-pub determines : Determines
-determines rule why once ws xs ys n x y k m f g p q =
-    by-lt limit (length ws)
+module _ (op : Op) (rule : ℕ → Bits → Bits → Type 0) (why : ℕ → Bits → ℕ → Type 0) (exact : MeetsExactly op rule why) (ws xs ys : List ℕ) (n x y k m : ℕ)
+    (f : (i : ℕ) → getD xs i 0 < 2 ^ 64) (g : (i : ℕ) → getD ys i 0 < 2 ^ 64) where
+  pub ends-one : length ws ≤ limit → n ≤ length ws → EndsAs rule why (view ws n) ws x k xs → EndsAs rule why (view ws n) ws y m ys → (x ≡ y) × (k ≡ m) × (xs ≡ ys)
+  ends-one h l = go
+    where
+      b : Bits
+      b = view ws n
+
+      is : Exactly (length ws) (op (length ws) b) (rule (length ws) b) (why (length ws) b)
+      is = exact (length ws) b h (omega (arith, view-count ws n)) (bounded-view ws n)
+
+      makes : {x k : ℕ} {xs : List ℕ} → Made (rule (length ws) b) (b .count) ws x k xs → op (length ws) b ≡ done (view xs k)
+      makes {k = k} {xs = xs} u = is .done-is (view xs k) .1 (u .made, omega (arith, u .inside, view-count xs k))
+
+      apart : {x y k : ℕ} {xs : List ℕ} → Made (rule (length ws) b) (b .count) ws x k xs → why (length ws) b y → ⊥
+      apart {y = y} u w = let (e, q, _) = is .refused-is y .1 w in never (sym (makes u) ∙ q)
+
+      go : EndsAs rule why b ws x k xs → EndsAs rule why b ws y m ys → (x ≡ y) × (k ≡ m) × (xs ≡ ys)
+      go (inl u) (inl v) =
+          let s : view xs k ≡ view ys m = same (sym (makes u) ∙ makes v) in (
+            u .number ∙ sym (v .number),
+            sym (view-count xs k) ∙ ap (λ (t : Bits). t .count) s ∙ view-count ys m,
+            made-written _ (b .count) ws xs x k f u ∙ ap (written ws (b .count)) s ∙ sym (made-written _ (b .count) ws ys y m g v),
+          )
+      go (inl u) (inr v) = absurd (apart u (v .1))
+      go (inr u) (inl v) = absurd (apart v (u .1))
+      go (inr u) (inr v) =
+          let (d, p, a) = is .refused-is x .1 (u .1) in
+          let (e, q, c) = is .refused-is y .1 (v .1) in
+          let t : x ≡ y = sym a ∙ ap numberOf (which (sym p ∙ q)) ∙ c in
+          kept-once (b .count) ws xs ys x y k m x (u .2) (subst (Kept (b .count) ws y m ys) (sym t) (v .2))
+
+-- 1 and 2 leave one answer, and else what is left to say decides
+pub guarded-once : (c l n : ℕ) (ws xs ys : List ℕ) (x y k m : ℕ) {P Q : Type 0} → Guarded c l (Kept n ws x k xs) P → Guarded c l (Kept n ws y m ys) Q
+    → (c ≤ limit → l ≤ c → P → Q → (x ≡ y) × (k ≡ m) × (xs ≡ ys)) → (x ≡ y) × (k ≡ m) × (xs ≡ ys)
+guarded-once c l n ws xs ys x y k m p q f =
+    by-lt limit c
     (λ h. kept-once n ws xs ys x y k m 1 (p .long h) (q .long h))
-    (λ h. by-lt (length ws) n
-    (λ l. kept-once n ws xs ys x y k m 2 (p .over h l) (q .over h l))
-    (λ l. go (once (length ws) b h (omega (arith, view-count ws n)) (bounded-view ws n)) (p .rest h l) (q .rest h l)))
+    (λ h. by-lt c l (λ g. kept-once n ws xs ys x y k m 2 (p .over h g) (q .over h g)) (λ g. f h g (p .rest h g) (q .rest h g)))
+
+pub determines : Determines
+determines op rule why exact ws xs ys n x y k m f g p q =
+    guarded-once (length ws) n n ws xs ys x y k m p q (ends-one op rule why exact ws xs ys n x y k m f g)
+
+pub determines-beside : DeterminesBeside
+determines-beside op rule why exact os ws xs ys l n x y k m f g p q =
+    guarded-once (length ws) n n ws xs ys x y k m p q
+    (λ h j p' q'. guarded-once (length os) l n ws xs ys x y k m p' q'
+    (λ h' j'. ends-one (op o) (rule o) (why o) (exact o (bounded-view os l)) ws xs ys n x y k m f g h j))
   where
-    b : Bits
-    b = view ws n
-
-    apart : {x y k : ℕ} {xs : List ℕ} → OneEnd (length ws) (rule (length ws) b) (why (length ws) b) → Made (rule (length ws) b) (b .count) ws x k xs
-        → why (length ws) b y → ⊥
-    apart {k = k} {xs = xs} one u w = one .apart (view xs k) _ (u .made) (omega (arith, u .inside, view-count xs k)) w
-
-    go : OneEnd (length ws) (rule (length ws) b) (why (length ws) b) → EndsAs rule why b ws x k xs → EndsAs rule why b ws y m ys
-        → (x ≡ y) × (k ≡ m) × (xs ≡ ys)
-    go one (inl u) (inl v) =
-        let s : view xs k ≡ view ys m = one .result (view xs k) (view ys m) (u .made) (v .made) in (
-          u .number ∙ sym (v .number),
-          sym (view-count xs k) ∙ ap (λ (t : Bits). t .count) s ∙ view-count ys m,
-          made-written _ (b .count) ws xs x k f u ∙ ap (written ws (b .count)) s ∙ sym (made-written _ (b .count) ws ys y m g v),
-        )
-    go one (inl u) (inr v) = absurd (apart one u (v .1))
-    go one (inr u) (inl v) = absurd (apart one v (u .1))
-    go one (inr u) (inr v) =
-        let e : x ≡ y = one .number x y (u .1) (v .1) in
-        kept-once (b .count) ws xs ys x y k m x (u .2) (subst (Kept (b .count) ws y m ys) (sym e) (v .2))
+    o : Bits
+    o = view os l
 
 pub grow-means : GrowMeans
 grow-means old new ws = record {

@@ -147,6 +147,8 @@ pub record AnswersTell : Type 0 where
   pub holds : (truthNumber (Truth.Is true) ≡ 0) × (truthValue (Truth.Is true) ≡ 1)
   pub fails : (truthNumber (Truth.Is false) ≡ 0) × (truthValue (Truth.Is false) ≡ 0)
   pub change : (b : Bitmap) → (changeNumber (Done b) ≡ 0) × (changeRecord (Done b) ≡ b)
+  pub pass : guardNumber Pass ≡ 0
+  pub stop : (e : Refusal) → guardNumber (Stop e) ≡ numberOf e
   pub no-found : (e : Refusal) → FindsNone (foundNumber (Found.Refused e)) (foundFlag (Found.Refused e)) (foundValue (Found.Refused e)) (numberOf e)
   pub no-number : (e : Refusal) → HandsNone (numberNumber (Number.Refused e)) (numberValue (Number.Refused e)) (numberOf e)
   pub no-field : (e : Refusal) → HandsNone (fieldNumber (Field.Refused e)) (fieldValue (Field.Refused e)) (numberOf e)
@@ -274,15 +276,17 @@ MakeMeans =
     (op : Op) (rule : ℕ → Bits → Bits → Type 0) (why : ℕ → Bits → ℕ → Type 0) → Meets op rule why
     → (ws ws' : List ℕ) (r : Change) → Makes op ws r ws' → CallEnds rule why ws 0 (changeNumber r) (changeRecord r .count) ws'
 
--- and with a second bitmap, whose store is looked at after the first
+-- and with a second bitmap, the first l words of os, whose store is looked at after the first
+abbrev pub BesideEnds : (Bits → ℕ → Bits → Bits → Type 0) → (Bits → ℕ → Bits → ℕ → Type 0) → List ℕ → ℕ → List ℕ → ℕ → ℕ → ℕ → List ℕ → Type 0
+BesideEnds rule why os l ws n x m ws' =
+    Guarded (length ws) n (Kept n ws x m ws')
+    (Guarded (length os) l (Kept n ws x m ws') (EndsAs (rule (view os l)) (why (view os l)) (view ws n) ws x m ws'))
+
 abbrev pub BesideMeans : Type 1
 BesideMeans =
     (op : Bits → Op) (rule : Bits → ℕ → Bits → Bits → Type 0) (why : Bits → ℕ → Bits → ℕ → Type 0) → ((o : Bits) → Bounded o → Meets (op o) (rule o) (why o))
     → (os ws ws' : List ℕ) (n : ℕ) (b : Bitmap) (r : Change) → Changes (beside os n op) ws b r ws'
-    → let x = changeNumber r in
-    let m = changeRecord r .count in
-    Guarded (length ws) (b .count) (Kept (b .count) ws x m ws')
-    (Guarded (length os) n (Kept (b .count) ws x m ws') (EndsAs (rule (view os n)) (why (view os n)) (view ws (b .count)) ws x m ws'))
+    → BesideEnds rule why os n ws (b .count) (changeNumber r) (changeRecord r .count) ws'
 
 -- in c words: the rule makes one result, no two conditions hold, and none does where a result has space
 pub record OneEnd (c : ℕ) (rule : Bits → Type 0) (why : ℕ → Type 0) : Type 0 where
@@ -306,12 +310,20 @@ MeetsExactly op rule why = (c : ℕ) (b : Bits) → c ≤ mostWords → b .count
 abbrev pub OnceExact : Type 1
 OnceExact = (op : Op) (rule : ℕ → Bits → Bits → Type 0) (why : ℕ → Bits → ℕ → Type 0) → Meets op rule why → EndsOnce rule why → MeetsExactly op rule why
 
--- and what is promised of a call leaves it one number, one count and one content of the store
+-- and where that is exact, what is promised of a call leaves it one number, one count and one content of the store
 abbrev pub Determines : Type 1
 Determines =
-    (rule : ℕ → Bits → Bits → Type 0) (why : ℕ → Bits → ℕ → Type 0) → EndsOnce rule why
+    (op : Op) (rule : ℕ → Bits → Bits → Type 0) (why : ℕ → Bits → ℕ → Type 0) → MeetsExactly op rule why
     → (ws xs ys : List ℕ) (n x y k m : ℕ) → ((i : ℕ) → getD xs i 0 < 2 ^ 64) → ((i : ℕ) → getD ys i 0 < 2 ^ 64)
     → CallEnds rule why ws n x k xs → CallEnds rule why ws n y m ys → (x ≡ y) × (k ≡ m) × (xs ≡ ys)
+
+-- so with a second bitmap, the first l words of os
+abbrev pub DeterminesBeside : Type 1
+DeterminesBeside =
+    (op : Bits → Op) (rule : Bits → ℕ → Bits → Bits → Type 0) (why : Bits → ℕ → Bits → ℕ → Type 0)
+    → ((o : Bits) → Bounded o → MeetsExactly (op o) (rule o) (why o))
+    → (os ws xs ys : List ℕ) (l n x y k m : ℕ) → ((i : ℕ) → getD xs i 0 < 2 ^ 64) → ((i : ℕ) → getD ys i 0 < 2 ^ 64)
+    → BesideEnds rule why os l ws n x k xs → BesideEnds rule why os l ws n y m ys → (x ≡ y) × (k ≡ m) × (xs ≡ ys)
 
 -- calls in a row: the next call on the record and the store that a call left sees exactly what the operation made
 pub record Seen (op : Op) (ws : List ℕ) (b b' : Bitmap) (ws' : List ℕ) (s : Bits) : Type 0 where
