@@ -100,12 +100,12 @@ trimmed-at-most b o bo h =
     (sym (h i) ∙ e))
 
 module _ (ws os : List ℕ) (n m : ℕ) (hn : n ≤ length ws) (hm : m ≤ length os) where
-  same-of-front : frontPart (take n ws) ≡ frontPart (take m os) → (i : ℕ) → view ws n .members i ≡ view os m .members i
+  pub same-of-front : frontPart (take n ws) ≡ frontPart (take m os) → (i : ℕ) → view ws n .members i ≡ view os m .members i
   same-of-front e i =
       view-part ws n i hn ∙ sym (front-member (take n ws) i) ∙ ap (λ (l : List ℕ). member l i) e ∙ front-member (take m os) i
       ∙ sym (view-part os m i hm)
 
-  front-of-same : Fit ws → Fit os → ((i : ℕ) → view ws n .members i ≡ view os m .members i) → frontPart (take n ws) ≡ frontPart (take m os)
+  pub front-of-same : Fit ws → Fit os → ((i : ℕ) → view ws n .members i ≡ view os m .members i) → frontPart (take n ws) ≡ frontPart (take m os)
   unfolding view
   front-of-same f g h =
       determined (frontPart (take n ws)) (frontPart (take m os)) (front-fit (take n ws) (fit-part ws n f hn)) (front-fit (take m os) (fit-part os m g hm))

@@ -30,8 +30,8 @@ use Rattle.storage.specs.declared.Truth.the-variants.{Is, Refused}
 use Rattle.storage.proofs.Outcomes.{same, never, which}
 use Rattle.storage.proofs.Promises.{number-call, field-call, truth-call, found-call, tests, next-member}
 use Rattle.slice.specs.Slices.{frontPart, equal, fieldAt, withField, fieldSetting, lastSet, nextClear}
-use Rattle.slice.specs.Promises.{GetMeans, FieldDigits, GetFieldMeans, NextSetMeans, FirstSetMeans, LastMember, LastSetMeans, NextOther, NextClearMeans, FirstClearMeans, EqMeans, FieldWritten, FieldRefused, SetFieldStrict, AllCounted, CountSetBitsMeans, CountsMembers, TrimmedMeans}
-use Rattle.slice.proofs.Equals.{size-none, none-of-size, equal-of-same, same-of-equal, length-front, zero-past}
+use Rattle.slice.specs.Promises.{GetMeans, FieldDigits, GetFieldMeans, NextSetMeans, FirstSetMeans, LastMember, LastSetMeans, NextOther, NextClearMeans, FirstClearMeans, EqMeans, EqualWords, FieldWritten, FieldRefused, SetFieldStrict, AllCounted, CountSetBitsMeans, CountsMembers, TrimmedMeans}
+use Rattle.slice.proofs.Equals.{size-none, none-of-size, equal-of-same, same-of-equal, same-of-front, front-of-same, length-front, zero-past}
 
 -- ---- what a call answers, from what it makes of a bitmap
 
@@ -93,6 +93,9 @@ pub first-clear-means : FirstClearMeans
 first-clear-means = next-clear-means 0
 
 -- ---- equality
+
+pub equal-words : EqualWords
+equal-words ws os n m hn hm f g = (front-of-same ws os n m hn hm f g, same-of-front ws os n m hn hm)
 
 pub eq-means : EqMeans
 eq-means ws os n m =

@@ -1,9 +1,9 @@
 -- What the definitions promise, in words of their own. Each is proved in proofs/Promises, `SetFieldStrictExact` in proofs/Once.
-use Prim.Native.Nat.{ℕ, suc, _+_, _*_, _≤_, _<_}
+use Prim.Native.Nat.{ℕ, suc, _+_, _*_, _^_, _≤_, _<_}
 use mathlib.Core.Path.{_≡_}
 use mathlib.Core.Bool.{true, false}
 use mathlib.Core.List.{List}
-use mathlib.Core.Logic.{_⊎_}
+use mathlib.Core.Logic.{_↔_, _⊎_}
 use lib.ListN.{length, getD, take}
 use Rattle.word.specs.Sets.{Counted}
 use Rattle.word.specs.Bits.{bit}
@@ -67,6 +67,12 @@ EqMeans =
     let v = truthValue r in
     Guarded (length ws) n (HandsNone x v)
     (Guarded (length os) m (HandsNone x v) (Tests ((i : ℕ) → view ws n .members i ≡ view os m .members i) x v))
+
+-- 01's equality: two sets are one exactly where the words agree after trailing zero words are dropped
+abbrev pub EqualWords : Type 0
+EqualWords =
+    (ws os : List ℕ) (n m : ℕ) → n ≤ length ws → m ≤ length os → ((k : ℕ) → getD ws k 0 < 2 ^ 64) → ((k : ℕ) → getD os k 0 < 2 ^ 64)
+    → ((i : ℕ) → view ws n .members i ≡ view os m .members i) ↔ (frontPart (take n ws) ≡ frontPart (take m os))
 
 -- the places of the field have the value's digits, all others and the count are as they were
 pub record FieldWritten (i value width : ℕ) (b s : Bits) : Type 0 where
