@@ -4,10 +4,14 @@ use mathlib.Core.Bool.{Bool, true, false, not, _&&_}
 use mathlib.Core.Logic.{inl, inr}
 use Prim.Native.Nat.{ℕ, zero, suc, _+_, _-_, _*_, _≤_, _<_}
 use native.Mathlib.Omega.{arith}
+use mathlib.Core.List.{List}
+use lib.ListN.{length}
 use lib.Dec.{ltb, eqb}
 use borrow.Author.Tests.{lt-ltb, le-ltb, eq-eqb, ne-eqb}
+use Rattle.word.specs.Bits.{member, wordsOf}
 use Rattle.word.specs.Sets.{choose, val, xorb, countBelow, nth, Nth, Counted}
 use Rattle.word.proofs.Cases.{by-lt, xor-true, xor-false}
+use Rattle.word.proofs.Lists.{length-words, member-words}
 use Rattle.word.proofs.Sets.{count-add, count-none, counted, nth-has, nth-none}
 use Rattle.storage.specs.Refusals.{numberOf, foundNumber, foundFlag, foundValue}
 use Rattle.storage.specs.Stores.{Bits, Bounded, refused, done, size, foundBelow}
@@ -20,7 +24,7 @@ use Rattle.storage.specs.declared.Number.the-variants.{Is}
 use Rattle.storage.proofs.Outcomes.{same, never, which, sound-done}
 use Rattle.storage.proofs.Promises.{number-call, found-call}
 use Rattle.bits.specs.Bits.{toggling, inverting, reversing, clearSize, countRegion, rankOf, selected}
-use Rattle.bits.specs.Promises.{Toggled, Toggles, Inverted, Inverts, Reversed, Reverses, CountClearBitsMeans, CountRegionMeans, RankMeans, Selected, SelectMeans}
+use Rattle.bits.specs.Promises.{Toggled, Toggles, Inverted, Inverts, Reversed, Reverses, InvertWordsMeans, ReverseWordsMeans, CountClearBitsMeans, CountRegionMeans, RankMeans, Selected, SelectMeans}
 use Rattle.bits.proofs.Moves.{toggling-past}
 
 -- ---- toggle
@@ -165,3 +169,20 @@ selects r b bounded =
 
 pub select-means : SelectMeans
 select-means r = found-call (selected r) (Selected r) (selects r)
+
+-- ---- words as they are
+
+made-long : (s : ℕ → Bool) (n : ℕ) (ws' : List ℕ) → ws' ≡ wordsOf s n → length ws' ≡ n
+made-long s n ws' e = ap length e ∙ length-words s n
+
+made-member : (s : ℕ → Bool) (n : ℕ) (ws' : List ℕ) → ws' ≡ wordsOf s n → (i : ℕ) → i < 64 * n → member ws' i ≡ s i
+made-member s n ws' e i l = ap (λ (x : List ℕ). member x i) e ∙ member-words s n i l
+
+pub invert-words-means : InvertWordsMeans
+invert-words-means ws ws' e = (made-long _ (length ws) ws' e, made-member _ (length ws) ws' e)
+
+pub reverse-words-means : ReverseWordsMeans
+reverse-words-means ws ws' e = (
+  made-long _ (length ws) ws' e,
+  λ i j q. made-member _ (length ws) ws' e i (omega arith) ∙ ap (member ws) {x = 64 * length ws - suc i} {y = j} (omega arith),
+)

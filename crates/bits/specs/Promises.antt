@@ -1,8 +1,11 @@
 -- What the calls of bits.rs promise, for every number. Each is proved in proofs/Promises, `CallsExact` in proofs/Once.
-use Prim.Native.Nat.{ℕ, _+_, _*_, _≤_, _<_}
+use Prim.Native.Nat.{ℕ, suc, _+_, _-_, _*_, _≤_, _<_}
 use mathlib.Core.Path.{_≡_}
-use mathlib.Core.Bool.{true, false, not}
+use mathlib.Core.Bool.{Bool, true, false, not}
+use mathlib.Core.List.{List}
+use lib.ListN.{length}
 use Rattle.word.specs.Sets.{Counted}
+use Rattle.word.specs.Bits.{member, wordsOf}
 use Rattle.storage.specs.Stores.{Bits}
 use Rattle.storage.specs.Promises.{Hands, Finds, NumberCall, FoundCall, Meets, Never, MeetsExactly}
 use Rattle.storage.specs.declared.Number.{Number}
@@ -35,6 +38,20 @@ pub record Reversed (b s : Bits) : Type 0 where
 
 abbrev pub Reverses : Type 0
 Reverses = Meets reversing (λ c. Reversed) Never
+
+-- of words as they are: their number stays, and the rule holds of the length, the old set and the new one
+abbrev pub MovesWords : (ℕ → (ℕ → Bool) → ℕ → Bool) → (ℕ → (ℕ → Bool) → (ℕ → Bool) → Type 0) → Type 0
+MovesWords f rule =
+    (ws ws' : List ℕ) → ws' ≡ wordsOf (f (64 * length ws) (member ws)) (length ws)
+    → (length ws' ≡ length ws) × rule (64 * length ws) (member ws) (member ws')
+
+-- `invert_words`
+abbrev pub InvertWordsMeans : Type 0
+InvertWordsMeans = MovesWords (λ len old i. not (old i)) (λ len old new. (i : ℕ) → i < len → new i ≡ not (old i))
+
+-- `reverse_words`
+abbrev pub ReverseWordsMeans : Type 0
+ReverseWordsMeans = MovesWords (λ len old i. old (len - suc i)) (λ len old new. (i j : ℕ) → i + j + 1 ≡ len → new i ≡ old j)
 
 -- and each of the three is exact: done where there is a result as said, refused with 5 where its condition holds
 pub record CallsExact : Type 0 where
