@@ -8,9 +8,9 @@ use lib.Dec.{leb}
 use lib.Pow.{shl-shr}
 use lib.Bits.{bitAnd, and-mask}
 use lib.ListN.{getD}
-use Rattle.word.specs.Sets.{val, countBelow, nth, Nth}
+use Rattle.word.specs.Sets.{val, countBelow, nth}
 use Rattle.word.specs.Bits.{bit}
-use Rattle.word.proofs.Sets.{count-le, nth-has}
+use Rattle.word.proofs.Sets.{Nth, count-le, nth-has}
 use Rattle.arch.specs.Select.{byteOf, selectBy}
 use Rattle.arch.specs.Kernels.{num, upTo, setIn, atMost, Room}
 use Rattle.arch.proofs.Digits.{Digits, num-byte, byte-num, byte-le, byte-suc, byte-zero, product}

@@ -9,12 +9,12 @@ use native.Mathlib.Omega.{arith}
 use lib.ListN.{length, getD}
 use lib.Dec.{leb, ltb, eqb}
 use borrow.Author.Tests.{lt-ltb, le-ltb, le-leb, lt-leb, eq-eqb, eqb-true, eqb-false, not-true, not-false}
-use Rattle.word.specs.Sets.{choose, countBelow, leastFrom, topBelow, nth, Least, Nth, Counts}
+use Rattle.word.specs.Sets.{choose, countBelow, leastFrom, topBelow, nth, Least, Counts}
 use Rattle.word.specs.Bits.{bit, member, wordsOf}
 use Rattle.word.specs.Words.{allOnes}
 use Rattle.word.proofs.Cases.{by-lt, and-false}
 use Rattle.word.proofs.Bits.{bit-zero, no-bits, bits-ext}
-use Rattle.word.proofs.Sets.{count-le, count-add, counts-is, least, top, nth-has, nth-none}
+use Rattle.word.proofs.Sets.{Nth, count-le, count-add, counts-is, least, top, nth-has, nth-none}
 use Rattle.word.proofs.Lists.{at-place, member-at, member-past, member-words, length-words, length-tab}
 use Rattle.arch.specs.Scans.{Alike, firstOther, wordFound, wordFlag, wordIndex, wordThere, nonzeroLen, isZero, countSet, filled}
 use Rattle.arch.specs.Select.{selectIn, selectTable, byteOf}

@@ -8,11 +8,11 @@ use borrow.Author.Tests.{lt-ltb}
 use lib.Dec.{ltb}
 use lib.Arith.{digits-div, digits-mod}
 use lib.ListN.{getD}
-use Rattle.word.specs.Sets.{choose, countBelow, nth, Nth}
+use Rattle.word.specs.Sets.{choose, countBelow, nth}
 use Rattle.word.specs.Bits.{bit}
 use Rattle.word.proofs.Cases.{by-lt}
 use Rattle.word.proofs.Bits.{bit-mod, bit-shr}
-use Rattle.word.proofs.Sets.{count-le, count-ext, count-add, count-more, nth-is, nth-none, nth-has}
+use Rattle.word.proofs.Sets.{Nth, count-le, count-ext, count-add, count-more, nth-is, nth-none, nth-has}
 use Rattle.word.proofs.Lists.{tab-at}
 use Rattle.arch.specs.Select.{selectIn, selectTable, byteOf, selectBy}
 use Rattle.arch.proofs.Digits.{byte-le}

@@ -9,10 +9,10 @@ use lib.ListN.{length}
 use lib.Dec.{ltb, eqb}
 use borrow.Author.Tests.{lt-ltb, le-ltb, eq-eqb, ne-eqb}
 use Rattle.word.specs.Bits.{member, wordsOf}
-use Rattle.word.specs.Sets.{choose, val, xorb, countBelow, nth, Nth, Counted}
+use Rattle.word.specs.Sets.{choose, val, xorb, countBelow, nth, Counted}
 use Rattle.word.proofs.Cases.{by-lt, xor-true, xor-false}
 use Rattle.word.proofs.Lists.{length-words, member-words}
-use Rattle.word.proofs.Sets.{count-add, count-none, counted, nth-has, nth-none}
+use Rattle.word.proofs.Sets.{Nth, count-add, count-none, counted, nth-has, nth-none}
 use Rattle.storage.specs.Refusals.{numberOf, foundNumber, foundFlag, foundValue}
 use Rattle.storage.specs.Stores.{Bits, Bounded, refused, done, size, foundBelow}
 use Rattle.storage.specs.Promises.{Hands, NumberCall}

@@ -8,9 +8,9 @@ use lib.ListN.{length, getD, take, drop}
 use lib.Seq.{length-take-le, getD-take}
 use lib.Dec.{ltb}
 use borrow.Author.Tests.{lt-ltb, le-ltb}
-use Rattle.word.specs.Sets.{choose, countBelow, nth, Nth}
+use Rattle.word.specs.Sets.{choose, countBelow, nth}
 use Rattle.word.specs.Bits.{bit, member}
-use Rattle.word.proofs.Sets.{count-ext, count-add, nth-is, nth-none, nth-has}
+use Rattle.word.proofs.Sets.{Nth, count-ext, count-add, nth-is, nth-none, nth-has}
 use Rattle.arch.specs.Scans.{countSet}
 use Rattle.arch.proofs.Counts.{count-word}
 use Rattle.storage.specs.Stores.{view, foundBelow}

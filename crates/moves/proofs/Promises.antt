@@ -8,7 +8,7 @@ use lib.Seq.{getD-take, getD-drop, ext-getD}
 use Rattle.word.proofs.Cases.{by-lt}
 use Rattle.word.proofs.Lists.{past}
 use Rattle.moves.specs.Moves.{upWords, downWords, turnedWords}
-use Rattle.moves.specs.Promises.{GoesUp, MoveUpMeans, GoesDown, MoveDownMeans, TurnWordsMeans}
+use Rattle.moves.specs.Promises.{GoesUp, MoveUpMeans, GoesDown, MoveDownMeans, TurnWordsMeans, UpAlone, DownAlone}
 use Rattle.moves.proofs.Pieces.{getD-after}
 
 -- ---- up
@@ -99,7 +99,7 @@ pub came-up : (whole : ℕ) (old new : List ℕ) → GoesUp whole old new → (k
 came-up whole old new s k h l = ap (λ (x : ℕ). getD new x 0) {y = k - whole + whole} (omega arith) ∙ s .goes (k - whole) (omega arith)
 
 -- no other list goes so
-pub up-is : (whole : ℕ) (old new : List ℕ) → GoesUp whole old new → new ≡ upWords whole old
+pub up-is : UpAlone
 up-is whole old new s =
     ext-getD 0 new (upWords whole old) (s .long ∙ sym (t .long))
     (λ k l. by-lt k whole
@@ -109,7 +109,7 @@ up-is whole old new s =
     t : GoesUp whole old (upWords whole old)
     t = goes-up whole old
 
-pub down-is : (whole : ℕ) (old new : List ℕ) → GoesDown whole old new → new ≡ downWords whole old
+pub down-is : DownAlone
 down-is whole old new s =
     ext-getD 0 new (downWords whole old) (s .long ∙ sym (t .long))
     (λ k l. by-lt (k + whole) (length old) (λ p. s .goes k p ∙ sym (t .goes k p)) (λ p. s .stays k p ∙ sym (t .stays k p)))

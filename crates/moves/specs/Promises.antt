@@ -15,6 +15,10 @@ pub record GoesUp (whole : ℕ) (old new : List ℕ) : Type 0 where
 abbrev pub MoveUpMeans : Type 0
 MoveUpMeans = (whole : ℕ) (ws : List ℕ) → GoesUp whole ws (upWords whole ws)
 
+-- and no other list goes so
+abbrev pub UpAlone : Type 0
+UpAlone = (whole : ℕ) (old new : List ℕ) → GoesUp whole old new → new ≡ upWords whole old
+
 -- word i + whole goes to i, and the words that none comes down to stay
 pub record GoesDown (whole : ℕ) (old new : List ℕ) : Type 0 where
   pub long : length new ≡ length old
@@ -24,6 +28,9 @@ pub record GoesDown (whole : ℕ) (old new : List ℕ) : Type 0 where
 -- `move_down`
 abbrev pub MoveDownMeans : Type 0
 MoveDownMeans = (whole : ℕ) (ws : List ℕ) → GoesDown whole ws (downWords whole ws)
+
+abbrev pub DownAlone : Type 0
+DownAlone = (whole : ℕ) (old new : List ℕ) → GoesDown whole old new → new ≡ downWords whole old
 
 -- word i goes to i + m, or to j where that is j past the end; by the length and by more nothing changes
 pub record Turned (m : ℕ) (old new : List ℕ) : Type 0 where

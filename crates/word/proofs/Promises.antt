@@ -12,13 +12,13 @@ use lib.ListN.{length, getD}
 use lib.Arith.{lt-of-le-ne}
 use lib.Seq.{ext-getD}
 use lib.Pow.{pow-pos, pow-mono, pow-lt, pow-add, split, high, low, ones-lt}
-use Rattle.word.specs.Sets.{choose, countBelow, leastFrom, nth, Least, Top, Nth, Counted}
+use Rattle.word.specs.Sets.{choose, countBelow, leastFrom, nth, Least, Top, Counted}
 use Rattle.word.specs.Bits.{isOne, bit, pack, wordOf, tabFrom, wordsOf}
 use Rattle.word.specs.Words.{lowMask, mirrored, withoutLeast, lowProduct, funneled, pairBit}
 use Rattle.word.specs.Promises.{TestsMean, Ranked, SetsMean, HasDigit, Digits, BitsMean, MasksMean, WordsMean}
 use Rattle.word.proofs.Cases.{by-lt, by-test, and-true, or-true}
 use Rattle.word.proofs.Bits.{bit-ones, bit-pack, pack-lt, pack-is}
-use Rattle.word.proofs.Sets.{counts, counted, count-more, least, least-is, top, top-is, nth-is, nth-none, nth-has}
+use Rattle.word.proofs.Sets.{Nth, counts, counted, count-more, least, least-is, top, top-is, nth-is, nth-none, nth-has}
 use Rattle.word.proofs.Words.{all-mask, single-is, up-out, mirrors, from-place}
 use Rattle.word.proofs.Lists.{length-tab, getD-tab, tab-is, length-words, word-at, member-at, member-past}
 

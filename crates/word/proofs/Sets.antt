@@ -7,7 +7,7 @@ use native.Mathlib.Omega.{arith}
 use borrow.Author.Tests.{eq-eqb, ne-eqb, eqb-true, eqb-false}
 use lib.Arith.{lt-of-le-ne}
 use lib.Dec.{eqb}
-use Rattle.word.specs.Sets.{choose, val, countBelow, leastFrom, topBelow, nth, Least, Top, Nth, Counts, Counted}
+use Rattle.word.specs.Sets.{choose, val, countBelow, leastFrom, topBelow, nth, Least, Top, Counts, Counted}
 use Rattle.word.proofs.Cases.{by-lt, by-eq, by-test, and-false}
 
 -- ---- how many members are below a number
@@ -175,6 +175,12 @@ top s zero = record { within = omega arith; last = λ k q. absurd (omega arith);
 top s (suc m) = top-go s m (topBelow s m) (s m) refl (top s m)
 
 -- ---- the member of a rank
+
+-- p is the member below m with exactly r members below it
+pub record Nth (s : ℕ → Bool) (r m p : ℕ) : Type 0 where
+  pub within : p < m
+  pub here : s p ≡ true
+  pub under : countBelow s p ≡ r
 
 pub nth-is : (s : ℕ → Bool) (r none m p : ℕ) → Nth s r m p → nth s r none m ≡ p
 unfolding nth

@@ -54,12 +54,6 @@ pub record Top (s : ℕ → Bool) (m t : ℕ) : Type 0 where
   pub last : (k : ℕ) → suc k ≡ t → s k ≡ true
   pub over : (k : ℕ) → t ≤ k → k < m → s k ≡ false
 
--- p is the member below m with exactly r members below it
-pub record Nth (s : ℕ → Bool) (r m p : ℕ) : Type 0 where
-  pub within : p < m
-  pub here : s p ≡ true
-  pub under : countBelow s p ≡ r
-
 -- how many members a set has, whatever counts them: none below 0, and each number adds itself where it is a member
 pub record Counts (s : ℕ → Bool) (count : ℕ → ℕ) : Type 0 where
   pub none : count 0 ≡ 0
