@@ -12,7 +12,7 @@ use Rattle.word.specs.Sets.{choose}
 use Rattle.word.proofs.Cases.{by-eq}
 use Rattle.storage.specs.declared.Refusal.the-variants.{BadPayload, NewerKind}
 use Rattle.sheet.specs.Kinds.{sizeIn, ruleOf}
-use Rattle.sheet.specs.Reader.{Item}
+use Rattle.sheet.specs.Frames.{Item}
 use Rattle.sheet.specs.Reads.{editionOf}
 use Rattle.sheet.specs.Promises.{HasKind, Laid}
 use Rattle.sheet.specs.declared.Edit.{Edit}

@@ -1,4 +1,3 @@
-pub mod Heads
 pub mod Turns
 pub mod Padding
 pub mod Records

@@ -19,7 +19,8 @@ use Rattle.storage.specs.declared.Change.{Change}
 use Rattle.storage.specs.declared.Change.the-variants.{Done, Refused}
 use Rattle.storage.proofs.Views.{view-count, bounded-view}
 use Rattle.storage.proofs.Stores.{view-written, length-written}
-use Rattle.sheet.specs.Reader.{Edition, Item, Turn, stop, next, Answer, refused, done, act, known, edit, edited, then, records, endAt, itemAt}
+use Rattle.sheet.specs.Frames.{Item, endAt, itemAt}
+use Rattle.sheet.specs.Reader.{Edition, Turn, stop, next, Answer, refused, done, act, known, edit, edited, then, records}
 use Rattle.sheet.specs.Reads.{editionOf, went, readAnswer}
 use Rattle.sheet.specs.declared.Edit.{Edit}
 use Rattle.sheet.specs.declared.Reading.the-variants as reading
@@ -113,11 +114,11 @@ module _ (edition : ℕ) (sheet : List ℕ) (n : ℕ) (ws₀ : List ℕ) (n₀ :
     unfolding records
     unrolled = g .decides ∙ ap (λ (x : ℕ). records E sheet x i at (view ws m)) (let e : n - i ≡ suc (n - (i + 1)) = omega arith in e)
 
-    pub cut : (end : ℕ) → end ≡ endAt sheet at → length sheet < end → whole ≡ refused CutRecord (i + 1)
-    cut end q l =
+    pub cut : length sheet < endAt sheet at → whole ≡ refused CutRecord (i + 1)
+    cut l =
         unrolled
         ∙ ap (λ (t : Bool). choose t (then E (records E sheet (n - (i + 1)) (suc i) (endAt sheet at)) (suc i) (act E (suc i) (itemAt sheet at) (view ws m))) (refused CutRecord (suc i)))
-        (lt-leb (endAt sheet at) (length sheet) (omega arith))
+        (lt-leb (endAt sheet at) (length sheet) l)
         ∙ ap (refused CutRecord) (sym (add-one i))
 
     module _ (end : ℕ) (q : end ≡ endAt sheet at) (l : end ≤ length sheet) where

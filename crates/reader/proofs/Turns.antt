@@ -18,7 +18,8 @@ use Rattle.storage.specs.declared.Change.{Change}
 use Rattle.storage.specs.declared.Change.the-variants.{Done, Refused}
 use Rattle.storage.proofs.Stores.{leaves-refused, outcome-ok, written-view}
 use Rattle.sheet.specs.Kinds.{sizeIn, ruleOf}
-use Rattle.sheet.specs.Reader.{Item, next, known, edited, sizeAt, endAt, itemAt}
+use Rattle.sheet.specs.Frames.{Item, sizeAt, endAt, itemAt}
+use Rattle.sheet.specs.Reader.{next, known, edited}
 use Rattle.sheet.specs.Reads.{step, made, editionOf}
 use Rattle.sheet.specs.declared.Edit.{Edit}
 use Rattle.decode.specs.declared.Asked.{Asked}

@@ -5,7 +5,8 @@ use mathlib.Core.Bool.{true}
 use mathlib.Core.List.{List}
 use lib.ListN.{length, getD}
 use Rattle.storage.specs.Stores.{Bits, Outcome, refused, done, limit, written}
-use Rattle.sheet.specs.Reader.{Item, Turn, stop, next, Answer, done, act}
+use Rattle.sheet.specs.Frames.{Item}
+use Rattle.sheet.specs.Reader.{Turn, stop, next, Answer, done, act}
 use Rattle.sheet.specs.Reads.{editionOf, went, readAnswer}
 use Rattle.sheet.specs.declared.Reading.{Reading}
 

@@ -2,51 +2,19 @@
 use decode::Asked;
 use sheet::Edit;
 use sheet::LATEST;
-use sheet::LETTERS;
 use sheet::Reading;
 use storage::Bitmap;
 use storage::Change;
 use storage::Guard;
 use storage::Refusal;
 ghost use mathlib.Core.Path.{_≡_};
-ghost use Prim.Native.Nat.{_≤_, _<_};
-ghost use lib.ListN.{length, getD};
+ghost use Prim.Native.Nat.{_≤_};
+ghost use lib.ListN.{length};
 ghost use Rattle.storage.specs.Stores.{limit, view, written, Leaves, Changes};
-ghost use Rattle.sheet.specs.Reader.{headed, endAt, itemAt, records, read};
+ghost use Rattle.sheet.specs.Frames.{endAt, itemAt};
+ghost use Rattle.sheet.specs.Reader.{records, read};
 ghost use Rattle.sheet.specs.Reads.{step, editionOf, fitting, Reads};
 ghost use Rattle.reader.specs.Kernels.{Padded, dutyItem, turned, Came};
-
-// The byte at a place, 0 past the end.
-fn byte_at(bytes: &[u8], k: usize) -> usize
-    ensures { λ r. ⌜ (r ≡ getD (now (bytes .entry)) k 0) × (r < 256) ⌝ }
-{
-    if k < bytes.len() {
-        return bytes[k] as usize;
-    }
-    0
-}
-
-// Whether there are four bytes, the letters first.
-fn has_head(bytes: &[u8]) -> bool
-    ensures { λ r. ⌜ r ≡ headed (now (bytes .entry)) ⌝ }
-{
-    if bytes.len() < 4 {
-        return false;
-    }
-    let letters = LETTERS;
-    if bytes[0] != letters[0] {
-        return false;
-    }
-    bytes[1] == letters[1]
-}
-
-// The position after the record at a place; it is past the end where the record is cut.
-fn end_of(bytes: &[u8], at: usize) -> usize
-    requires { ⌜ at ≤ length (now bytes) ⌝ }
-    ensures { λ r. ⌜ r ≡ endAt (now (bytes .entry)) at ⌝ }
-{
-    at + 3 + (byte_at(bytes, at + 1) * 256 + byte_at(bytes, at + 2))
-}
 
 // What an edit does to a bitmap.
 fn apply(words: &mut [u64], b: Bitmap, e: Edit) -> Change
@@ -93,7 +61,7 @@ fn turn(edition: usize, sheet: &[u8], at: usize, end: usize, words: &mut [u64], 
     requires { ⌜ (end ≡ endAt (now sheet) at) × (end ≤ length (now sheet)) × Padded (now words) (b .count) ⌝ }
     ensures { λ r. ⌜ Leaves (turned edition (itemAt (now (sheet .entry)) at) (length (now (words .entry))) (view (now (words .entry)) (b .count))) (now (words .entry)) b r (now (words .exit)) ⌝ }
 {
-    let first = byte_at(sheet, at);
+    let first = sheet[at] as usize;
     if first < 128 {
         return Change::Done(b);
     }
@@ -109,8 +77,8 @@ fn each_record(edition: usize, sheet: &[u8], n: usize, words: &mut [u64], b: Bit
     let mut i: usize = 0;
     let mut at: usize = 4;
     while i < n {
-        let end = end_of(sheet, at);
-        if end > sheet.len() {
+        let end = frames::record_end(sheet, at);
+        if end == 0 {
             return Reading::Refused(Refusal::CutRecord, i + 1);
         }
         match turn(edition, sheet, at, end, words, Bitmap { count: count }) {
@@ -147,14 +115,14 @@ fn read_into(edition: usize, sheet: &[u8], words: &[u64], n: usize, result: &mut
     requires { ⌜ (n ≤ length (now words)) × (length (now result) ≤ limit) ⌝ }
     ensures { λ r. ⌜ Came (read (editionOf (length (now (result .entry))) edition) (now (sheet .entry)) (fitting (length (now (result .entry))) (view (now (words .entry)) n))) (now (result .entry)) r (now (result .exit)) ⌝ }
 {
-    if !has_head(sheet) {
+    if !frames::has_head(sheet) {
         return Reading::Refused(Refusal::NotSheet, 0);
     }
     if n > result.len() {
         return Reading::Refused(Refusal::NoSpace, 0);
     }
     load(result, words, n);
-    let count = byte_at(sheet, 2) * 256 + byte_at(sheet, 3);
+    let count = frames::record_count(sheet);
     each_record(edition, sheet, count, result, Bitmap { count: n })
 }
 

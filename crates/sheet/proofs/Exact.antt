@@ -12,7 +12,8 @@ use Rattle.storage.specs.Refusals.{numberOf}
 use Rattle.storage.specs.declared.Refusal.{Refusal}
 use Rattle.storage.specs.declared.Refusal.the-variants.{NotSheet, CutRecord, BytesRemain, BadPayload, NewerKind}
 use Rattle.storage.proofs.Promises.{each-number-once}
-use Rattle.sheet.specs.Reader.{Edition, Item, Answer, refused, done, Turn, stop, next, endAt, edit, act, then, records, copied, read}
+use Rattle.sheet.specs.Frames.{Item, endAt}
+use Rattle.sheet.specs.Reader.{Edition, Answer, refused, done, Turn, stop, next, edit, act, then, records, copied, read}
 use Rattle.sheet.specs.Meaning.{Header, total, start, Whole, onward, Asks, effect, Sound, begin, Reached, AtRecord, Newer, Bad, Fails, Applies, not-sheet, unfit, cut, newer, bad, fails, remain, Due}
 use Rattle.sheet.specs.Promises.{ReadExact}
 use Rattle.sheet.proofs.Stands.{stands, stands-whole, stands-is, asks, asked, item, Fine, sound-more, Less, sound-less}

@@ -9,7 +9,7 @@ use lib.ListN.{set as put, length, getD, take, drop, length-append, length-take,
 use lib.Seq.{sets, sets-eq, take-at, getD-take, length-take-le, getD-set-same, getD-set-other, drop-set-lt}
 use Rattle.sheet.specs.Bytes.{bytes}
 use Rattle.sheet.specs.Kinds.{payloadOf}
-use Rattle.sheet.specs.Reader.{Item, countIn}
+use Rattle.sheet.specs.Frames.{Item, countIn}
 use Rattle.sheet.specs.Meaning.{Stands, Header, total, past, start, Whole, Is}
 use Rattle.sheet.specs.Writer.{most, Request, duty, remark, Entry, edit, note, bytesOf, raised}
 use Rattle.sheet.specs.Plain.{refusalOf, editFor, entryOf}

@@ -2,6 +2,7 @@ pub mod Meant
 pub mod Tables
 pub mod Turns
 pub mod Stands
+pub mod Faults
 pub mod Exact
 pub mod Editions
 pub mod Steps

@@ -19,7 +19,7 @@ use Rattle.sheet.specs.Layout.{Field, widths, packed, unpacked, inRange,
 use Rattle.sheet.specs.Kinds.{Row, place, flag, width, word, size, nth, table, bytesIn, valuesIn, numberIn, parse, rowOf, sizeBy, sizeIn, parseBy, ruleOf, kindOf, fieldsOf, numberBy, numbered, bytesBy, fieldsBy, payloadOf, Ranged}
 use Rattle.sheet.specs.Meaning.{Asks}
 use Rattle.sheet.specs.Reads.{latest, editionOf}
-use Rattle.sheet.specs.Reader.{Item}
+use Rattle.sheet.specs.Frames.{Item}
 use Rattle.sheet.specs.declared.Edit.{Edit}
 use Rattle.sheet.specs.declared.Edit.the-variants.{Set, Unset, SetRegion, SetField, Shift, Rotate, Resize, Reverse, ToggleRegion, Open, Close}
 use Rattle.sheet.proofs.Tables.{past-end}

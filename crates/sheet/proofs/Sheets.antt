@@ -9,7 +9,7 @@ use lib.ListN.{length, getD, getElem?, length-append, List·getD-append}
 use lib.Seq.{getD-append-seam, getD-append-add}
 use lib.Dec.{leb}
 use Rattle.sheet.specs.Bytes.{bytes}
-use Rattle.sheet.specs.Reader.{endAt}
+use Rattle.sheet.specs.Frames.{endAt}
 use Rattle.sheet.specs.Meaning.{Stands, start, Is}
 use Rattle.sheet.specs.Writer.{most, Entry, edit, note, laid, bytesOf}
 use Rattle.sheet.specs.Plain.{body, sheetOf}

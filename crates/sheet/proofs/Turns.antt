@@ -12,7 +12,8 @@ use borrow.Author.Tests.{lt-ltb, le-ltb, le-leb, lt-leb, eq-eqb, ne-eqb}
 use Rattle.word.specs.Sets.{choose}
 use Rattle.storage.specs.declared.Refusal.{Refusal}
 use Rattle.storage.specs.declared.Refusal.the-variants.{CutRecord, BytesRemain, BadPayload, NewerKind}
-use Rattle.sheet.specs.Reader.{Edition, Item, refused, done, Turn, stop, next, headed, endAt, itemAt, edit, edited, known, act, then, records}
+use Rattle.sheet.specs.Frames.{Item, headed, endAt, itemAt}
+use Rattle.sheet.specs.Reader.{Edition, refused, done, Turn, stop, next, edit, edited, known, act, then, records}
 use Rattle.sheet.specs.Meaning.{Header, onward, effect}
 
 pub none-some : {X : Type 0} {x : X} → _≡_ {A = Option X} none (some x) → ⊥

@@ -1,13 +1,11 @@
 -- The promises of specs/Promises about `Starts`, `Adds` and lists of calls. Assumes nothing.
-use Prim.Native.Nat.{ℕ, zero, suc, _+_, _≤_, _<_}
+use Prim.Native.Nat.{ℕ, _+_, _≤_, _<_}
 use mathlib.Core.Path.{_≡_, refl, sym, ap, ap₂, _∙_, subst}
 use mathlib.Core.Bool.{Bool, true, false, _||_}
 use mathlib.Core.List.{List, [], _∷_}
 use mathlib.Core.Logic.{_⊎_, inl, inr}
 use mathlib.Core.Option.{Option, none, some}
 use native.Mathlib.Omega.{arith}
-use native.Mathlib.Decide.{decLe}
-use native.Mathlib.Nat.{add-zero, add-suc, suc-add, zero-add}
 use lib.ListN.{length, take, length-take}
 use lib.Seq.{sets, length-sets}
 use lib.Dec.{leb, ltb}
@@ -19,18 +17,20 @@ use Rattle.storage.specs.Refusals.{numberOf}
 use Rattle.storage.proofs.Promises.{each-number-once}
 use Rattle.storage.specs.declared.Refusal.{Refusal}
 use Rattle.storage.specs.declared.Refusal.the-variants.{CountOverStore, NoSpace}
-use Rattle.sheet.specs.Reader.{Turn, done, countIn, endAt, read}
+use Rattle.sheet.specs.Frames.{countIn, sheetFault}
+use Rattle.sheet.specs.Reader.{Turn, done, read}
 use Rattle.sheet.specs.Bytes.{bytes}
-use Rattle.sheet.specs.Meaning.{Header, total, start, Whole}
+use Rattle.sheet.specs.Meaning.{total}
 use Rattle.sheet.specs.Reads.{editionOf, latest, fitting, Course, went, course, readAnswer, readStore, readingNumber, readingRecord, readingCount}
-use Rattle.sheet.specs.Writer.{most, Request, duty, remark, Entry, edit, note, Checked, bad, good, checkedOf, bytesOf, framesFault, sheetFault, addedNumber, addedLength}
+use Rattle.sheet.specs.Writer.{most, Request, duty, remark, Entry, edit, note, Checked, bad, good, checkedOf, bytesOf, addedNumber, addedLength}
 use Rattle.sheet.specs.Writer.{Left, refuse, started, raised, placed, placedBy, judged, added, Writes}
 use Rattle.sheet.specs.Plain.{sheetOf, refusalOf, editFor, entryOf, answers, lastLength, lastBuffer, plainAnswers, lastPlain}
-use Rattle.sheet.specs.Promises.{SheetGets, no-header, cut, remain, nothing, RequestGets, bytesAsked, AddGets, over, fault, wrong, full, fine, Leaves, Grows, AddMeans, AddsMean}
+use Rattle.sheet.specs.Promises.{SheetGets, RequestGets, bytesAsked, AddGets, over, fault, wrong, full, fine, Leaves, Grows, AddMeans, AddsMean}
 use Rattle.sheet.specs.Promises.{Holding, StartGets, short, fresh, StartMeans, StartsMean, WholeLists}
 use Rattle.sheet.specs.declared.Added.{Added}
 use Rattle.sheet.specs.declared.Added.the-variants.{Done, Refused}
-use Rattle.sheet.proofs.Turns.{take-true, take-false, header?, headed-true, headed-false}
+use Rattle.sheet.proofs.Turns.{take-true, take-false}
+use Rattle.sheet.proofs.Faults.{faultNumber, sheet-gets, fault-is, fault-none, good-sheet}
 use Rattle.sheet.proofs.Laid.{read-sheet, in-latest}
 use Rattle.sheet.proofs.Readings.{course-passes, fits-old}
 use Rattle.sheet.proofs.Papers.{table-agrees}
@@ -39,96 +39,6 @@ use Rattle.sheet.proofs.Grown.{put-last, drop-sets, length-raised, past
 use Rattle.sheet.proofs.Written.{begun, Fronts, along}
 use Rattle.sheet.proofs.Begun.{begun-held}
 use Rattle.sheet.proofs.Sheets.{sheet-is}
-
--- the number of a fault, 0 for none
-abbrev faultNumber : Option Refusal → ℕ
-faultNumber none = 0
-faultNumber (some e) = numberOf e
-
--- ---- the sheet given
-
-module _ (sheet : List ℕ) where
-  abbrev WholeBelow : ℕ → Type 0
-  WholeBelow n = (j : ℕ) → j < n → Whole sheet j
-
-  abbrev GetsFault : Option Refusal → Type 0
-  GetsFault o = SheetGets sheet (faultNumber o)
-
-  within : Header sheet → (n : ℕ) → WholeBelow n → start sheet n ≤ length sheet
-  unfolding start
-  within h zero w = h .0
-  within h (suc n) w = w n (omega arith)
-
-  walked : Header sheet → (n i : ℕ) → i + n ≡ countIn sheet → WholeBelow i → GetsFault (framesFault sheet n (start sheet i))
-  unfolding framesFault start
-  walked h zero i c w =
-      let e : i ≡ countIn sheet = sym (add-zero i) ∙ c in
-      let all : WholeBelow (countIn sheet) = subst WholeBelow e w in
-      by-lt (start sheet i) (length sheet)
-      (λ l. subst GetsFault (sym (take-true _ _ (lt-ltb (start sheet i) (length sheet) l))) (remain h all (subst (λ (n : ℕ). start sheet n < length sheet) e l) refl))
-      (λ l. subst GetsFault (sym (take-false _ _ (le-ltb (start sheet i) (length sheet) l)))
-      (nothing h all (subst (λ (n : ℕ). start sheet n ≡ length sheet) e (omega (arith, within h i w))) refl))
-  walked h (suc n) i c w = go (λ w′. walked h n (suc i) (suc-add i n ∙ sym (add-suc i n) ∙ c) w′) (decLe (endAt sheet (start sheet i)) (length sheet))
-    where
-      more : Whole sheet i → WholeBelow (suc i)
-      more u j l = on (decLe (suc j) i)
-        where
-          on : Dec (j < i) → Whole sheet j
-          on (yes k) = w j k
-          on (no k) = let e : i ≡ j = omega arith in subst (Whole sheet) e u
-
-      go : (WholeBelow (suc i) → GetsFault (framesFault sheet n (start sheet (suc i)))) → Dec (Whole sheet i) → GetsFault (framesFault sheet (suc n) (start sheet i))
-      go ih (yes u) = subst GetsFault (sym (take-true _ _ (le-leb (endAt sheet (start sheet i)) (length sheet) u))) (ih (more u))
-      go ih (no u) = subst GetsFault (sym (take-false _ _ (lt-leb (endAt sheet (start sheet i)) (length sheet) (omega arith)))) (cut h i (omega arith) w u refl)
-
-  sheet-gets : GetsFault (sheetFault sheet)
-  unfolding sheetFault start
-  sheet-gets = go (header? sheet)
-    where
-      go : Dec (Header sheet) → GetsFault (sheetFault sheet)
-      go (yes h) = subst GetsFault (sym (take-true _ _ (headed-true sheet h))) (walked h (countIn sheet) 0 (zero-add (countIn sheet)) (λ j l. absurd (omega arith)))
-      go (no h) = no-header h (ap faultNumber (take-false _ _ (headed-false sheet h)))
-
-  -- at most one of them applies
-  once : (x y : ℕ) → SheetGets sheet x → SheetGets sheet y → x ≡ y
-  once x y (no-header h e) (no-header h′ e′) = e ∙ sym e′
-  once x y (no-header h e) (cut h′ i l w n e′) = absurd (h h′)
-  once x y (no-header h e) (remain h′ w l e′) = absurd (h h′)
-  once x y (no-header h e) (nothing h′ w l e′) = absurd (h h′)
-  once x y (cut h i l w n e) (no-header h′ e′) = absurd (h′ h)
-  once x y (cut h i l w n e) (cut h′ i′ l′ w′ n′ e′) = e ∙ sym e′
-  once x y (cut h i l w n e) (remain h′ w′ l′ e′) = absurd (n (w′ i l))
-  once x y (cut h i l w n e) (nothing h′ w′ l′ e′) = absurd (n (w′ i l))
-  once x y (remain h w l e) (no-header h′ e′) = absurd (h′ h)
-  once x y (remain h w l e) (cut h′ i′ l′ w′ n′ e′) = absurd (n′ (w i′ l′))
-  once x y (remain h w l e) (remain h′ w′ l′ e′) = e ∙ sym e′
-  once x y (remain h w l e) (nothing h′ w′ l′ e′) = absurd (omega arith)
-  once x y (nothing h w l e) (no-header h′ e′) = absurd (h′ h)
-  once x y (nothing h w l e) (cut h′ i′ l′ w′ n′ e′) = absurd (n′ (w i′ l′))
-  once x y (nothing h w l e) (remain h′ w′ l′ e′) = absurd (omega arith)
-  once x y (nothing h w l e) (nothing h′ w′ l′ e′) = e ∙ sym e′
-
-  fault-is : (x : ℕ) → SheetGets sheet x → faultNumber (sheetFault sheet) ≡ x
-  fault-is x g = once (faultNumber (sheetFault sheet)) x sheet-gets g
-
-  fault-none : SheetGets sheet 0 → sheetFault sheet ≡ none
-  fault-none g = go (sheetFault sheet) refl (fault-is 0 g)
-    where
-      go : (o : Option Refusal) → sheetFault sheet ≡ o → faultNumber o ≡ 0 → sheetFault sheet ≡ none
-      go none a z = a
-      go (some e) a z = absurd (omega (arith, each-number-once .range e .0))
-
-  -- a sheet with no fault
-  record Good : Type 0 where
-    headed : Header sheet
-    whole : WholeBelow (total sheet)
-    ends : start sheet (total sheet) ≡ length sheet
-
-  good-sheet : SheetGets sheet 0 → Good
-  good-sheet (no-header h q) = absurd (omega arith)
-  good-sheet (cut h i l w n q) = absurd (omega arith)
-  good-sheet (remain h w l q) = absurd (omega arith)
-  good-sheet (nothing h w l q) = record { headed = h; whole = w; ends = l }
 
 -- ---- one addition
 

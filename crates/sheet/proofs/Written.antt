@@ -14,8 +14,8 @@ use Rattle.storage.specs.Refusals.{numberOf}
 use Rattle.storage.proofs.Promises.{each-number-once}
 use Rattle.storage.specs.declared.Refusal.{Refusal}
 use Rattle.storage.specs.declared.Refusal.the-variants.{NoSpace, NotSheet}
-use Rattle.sheet.specs.Reader.{countIn}
-use Rattle.sheet.specs.Writer.{most, Request, requested, Entry, Checked, bad, good, checkedOf, bytesOf, sheetFault, addedNumber, addedLength}
+use Rattle.sheet.specs.Frames.{countIn, sheetFault}
+use Rattle.sheet.specs.Writer.{most, Request, requested, Entry, Checked, bad, good, checkedOf, bytesOf, addedNumber, addedLength}
 use Rattle.sheet.specs.Writer.{Left, refuse, started, raised, placed, placedBy, judged, added, Writes}
 use Rattle.sheet.specs.Plain.{asked, Plain, body, sheetOf, noRoom, refusalOf, entryOf, Answered, refusing, accepting, holding, Ask, start, addition, answered, Typed}
 use Rattle.sheet.specs.Plain.{Call, Went, lengthAfter, InRow, answers, lastLength, lastBuffer, plainAnswers, lastPlain}

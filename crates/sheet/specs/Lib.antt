@@ -1,6 +1,7 @@
 pub mod Bytes
 pub mod Layout
 pub mod Kinds
+pub mod Frames
 pub mod Paper
 pub mod Reader
 pub mod Reads

@@ -21,7 +21,8 @@ use Rattle.shape.specs.Promises.{FlippedFrom, RaisedBy, LoweredBy, ResizedTo}
 use Rattle.gap.specs.Promises.{Opens, Closes}
 use Rattle.sheet.specs.Kinds.{sizeIn, known, knownNumber, knownBytes, kindOf, payloadOf, Ranged}
 use Rattle.sheet.specs.Paper.{IsEdition, printed, values, given, Allowed, digits, cellDigits, byteDigits}
-use Rattle.sheet.specs.Reader.{Edition, Turn, stop, next, Item, Answer, refused, done, read}
+use Rattle.sheet.specs.Frames.{Item}
+use Rattle.sheet.specs.Reader.{Edition, Turn, stop, next, Answer, refused, done, read}
 use Rattle.sheet.specs.Meaning.{Header, total, start, Whole, Is, Asks, effect, AtRecord, Newer, Applies, Accepted, Due, Holds}
 use Rattle.sheet.specs.Reads.{editionOf, latest, fitting, Reads, readingNumber, readingRecord, readingCount}
 use Rattle.sheet.specs.Writer.{Request, duty, remark, Entry, edit, note, Starts, Adds, addedNumber, addedLength}

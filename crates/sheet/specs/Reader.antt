@@ -1,13 +1,13 @@
 -- The reader of a change sheet, for any edition. A is the type of edits, S that of what an edit changes.
-use Prim.Native.Nat.{ℕ, zero, suc, _+_, _*_, _%_}
-use mathlib.Core.Bool.{Bool, _&&_}
+use Prim.Native.Nat.{ℕ, zero, suc}
 use mathlib.Core.List.{List}
 use mathlib.Core.Option.{Option, none, some}
-use lib.ListN.{length, getD, take, drop}
+use lib.ListN.{length}
 use lib.Dec.{leb, ltb, eqb}
 use Rattle.word.specs.Sets.{choose}
 use Rattle.storage.specs.declared.Refusal.{Refusal}
 use Rattle.storage.specs.declared.Refusal.the-variants.{NotSheet, CutRecord, BytesRemain, BadPayload, NewerKind}
+use Rattle.sheet.specs.Frames.{Item, headed, countIn, endAt, itemAt}
 
 -- a refusal, or the next state
 pub data Turn (S : Type 0) : Type 0 where
@@ -21,37 +21,10 @@ pub record Edition (A S : Type 0) : Type 0 where
   pub rule : ℕ → List ℕ → Option A
   pub step : (k : ℕ) → A → S → Turn S
 
--- a record of a sheet
-pub record Item : Type 0 where
-  pub duty : Bool
-  pub kind : ℕ
-  pub payload : List ℕ
-
 -- refused at a record, or done with so many records and this state
 pub data Answer (S : Type 0) : Type 0 where
   refused : Refusal → ℕ → Answer S
   done : ℕ → S → Answer S
-
-module _ (sheet : List ℕ) where
-  -- at least four bytes, the letters N and S first
-  abbrev pub headed : Bool
-  headed = leb 4 (length sheet) && (eqb (getD sheet 0 0) 78 && eqb (getD sheet 1 0) 83)
-
-  -- the record count R
-  abbrev pub countIn : ℕ
-  countIn = getD sheet 2 0 * 256 + getD sheet 3 0
-
-  -- the payload's length of the record that starts at a position
-  abbrev pub sizeAt : ℕ → ℕ
-  sizeAt at = getD sheet (at + 1) 0 * 256 + getD sheet (at + 2) 0
-
-  -- the position after it
-  abbrev pub endAt : ℕ → ℕ
-  endAt at = at + 3 + sizeAt at
-
-  -- a duty bit, seven bits of kind, and the payload
-  abbrev pub itemAt : ℕ → Item
-  itemAt at = record { duty = leb 128 (getD sheet at 0); kind = getD sheet at 0 % 128; payload = take (sizeAt at) (drop (at + 3) sheet) }
 
 module _ {A S : Type 0} (E : Edition A S) where
   -- what a payload of n bytes asks for

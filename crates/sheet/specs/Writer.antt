@@ -10,10 +10,10 @@ use lib.Dec.{leb, ltb}
 use Rattle.word.specs.Sets.{choose}
 use Rattle.storage.specs.Refusals.{numberOf}
 use Rattle.storage.specs.declared.Refusal.{Refusal}
-use Rattle.storage.specs.declared.Refusal.the-variants.{CountOverStore, WidthOver, IndexOver, NoSpace, NotSheet, CutRecord, BytesRemain, BadPayload, NewerKind}
+use Rattle.storage.specs.declared.Refusal.the-variants.{CountOverStore, WidthOver, IndexOver, NoSpace, BadPayload, NewerKind}
 use Rattle.sheet.specs.Bytes.{bytes}
 use Rattle.sheet.specs.Kinds.{kindOf, payloadOf}
-use Rattle.sheet.specs.Reader.{headed, countIn, endAt}
+use Rattle.sheet.specs.Frames.{countIn, sheetFault}
 use Rattle.sheet.specs.declared.Fields.{Fields}
 use Rattle.sheet.specs.declared.Edit.{Edit}
 use Rattle.sheet.specs.declared.Edit.the-variants.{Set, Unset, SetRegion, SetField, Shift, Rotate, Resize, Reverse, ToggleRegion, Open, Close}
@@ -82,16 +82,6 @@ unfoldable pub bytesOf : Entry → List ℕ
 unfolding bytes kindOf payloadOf
 bytesOf (edit e) = laid (128 + kindOf e) (payloadOf e)
 bytesOf (note kind payload) = laid kind payload
-
--- the records that follow: 10 where one runs past the end, 11 where bytes are left
-unfoldable pub framesFault : List ℕ → ℕ → ℕ → Option Refusal
-framesFault sheet zero at = choose (ltb at (length sheet)) (some BytesRemain) none
-framesFault sheet (suc n) at = choose (leb (endAt sheet at) (length sheet)) (framesFault sheet n (endAt sheet at)) (some CutRecord)
-
--- 9, 10 or 11 of a sheet that is given to the writer
-unfoldable pub sheetFault : List ℕ → Option Refusal
-unfolding framesFault
-sheetFault sheet = choose (headed sheet) (framesFault sheet (countIn sheet) 4) (some NotSheet)
 
 -- an answer, and what the buffer becomes
 pub record Left : Type 0 where

@@ -7,4 +7,3 @@ pub mod Places
 pub mod Puts
 pub mod Requests
 pub mod Sizes
-pub mod Walks

@@ -13,7 +13,7 @@ use borrow.Author.Tests.{le-leb, lt-leb, lt-ltb, le-ltb, ltb-false}
 use Rattle.storage.specs.declared.Refusal.the-variants.{NoSpace}
 use Rattle.sheet.specs.declared.Added.the-variants.{Done, Refused}
 use Rattle.sheet.specs.Bytes.{bytes}
-use Rattle.sheet.specs.Reader.{countIn}
+use Rattle.sheet.specs.Frames.{countIn}
 use Rattle.sheet.specs.Writer.{most, Entry, bytesOf, laid, Left, refuse, placed, Writes}
 use Rattle.sheet.proofs.Rules.{length-bytes}
 use Rattle.sheet.proofs.Turns.{take-true, take-false}

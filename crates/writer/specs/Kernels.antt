@@ -6,11 +6,8 @@ use mathlib.Core.Option.{Option, none, some}
 use lib.ListN.{length}
 use lib.Dec.{leb, ltb}
 use Rattle.word.specs.Sets.{choose}
-use Rattle.storage.specs.declared.Refusal.{Refusal}
-use Rattle.storage.specs.declared.Guard.{Guard}
-use Rattle.storage.specs.declared.Guard.the-variants.{Pass, Stop}
 use Rattle.sheet.specs.Kinds.{numbered}
-use Rattle.sheet.specs.Reader.{countIn, endAt}
+use Rattle.sheet.specs.Frames.{countIn}
 use Rattle.sheet.specs.Writer.{most, Checked, bad, good, edit, note}
 use Rattle.writer.specs.declared.Parts.{Parts}
 use Rattle.writer.specs.declared.Parts.the-variants.{Are, Refused}
@@ -19,15 +16,6 @@ use Rattle.writer.specs.declared.Parts.the-variants.{Are, Refused}
 pub record Given (buf : List ℕ) (len : ℕ) : Type 0 where
   pub headed : 4 ≤ len
   pub inside : len ≤ length buf
-
--- where the frame at a position ends, 0 where it is not whole
-unfoldable pub endIn : List ℕ → ℕ → ℕ
-endIn sheet at = choose (leb (endAt sheet at) (length sheet)) (endAt sheet at) 0
-
--- a refusal stops
-abbrev pub guardBy : Option Refusal → Guard
-guardBy none = Pass
-guardBy (some e) = Stop e
 
 -- a kind's bytes, 0 where it has none
 abbrev pub orZero : Option ℕ → ℕ

@@ -7,16 +7,16 @@ use storage::Refusal;
 ghost use mathlib.Core.Path.{_≡_};
 ghost use mathlib.Core.List.{_∷_};
 ghost use Prim.Native.Nat.{_+_, _*_, _^_, _<_, _≤_};
-ghost use lib.ListN.{length, getD};
+ghost use lib.ListN.{length};
 ghost use lib.Seq.{sets};
 ghost use Rattle.word.specs.Sets.{val};
 ghost use Rattle.sheet.specs.Bytes.{bytes};
 ghost use Rattle.sheet.specs.Kinds.{sizeIn};
-ghost use Rattle.sheet.specs.Reader.{countIn};
+ghost use Rattle.sheet.specs.Frames.{countIn};
 ghost use Rattle.sheet.specs.Reads.{latest};
 ghost use Rattle.sheet.specs.Plain.{Typed};
-ghost use Rattle.sheet.specs.Writer.{framesFault, sheetFault, checkedOf, placedBy, duty, remark, Writes, Starts, Adds};
-ghost use Rattle.writer.specs.Kernels.{Given, endIn, guardBy, orZero, partsOf, roomlessIn};
+ghost use Rattle.sheet.specs.Writer.{most, checkedOf, placedBy, duty, remark, Writes, Starts, Adds};
+ghost use Rattle.writer.specs.Kernels.{Given, orZero, partsOf, roomlessIn};
 
 // The weight of a field that has so many bits after it.
 const AT_1: u64 = 1 << 1;
@@ -54,20 +54,6 @@ pub fn start(buffer: &mut [u8]) -> Added
     Added::Done(4)
 }
 
-fn wide(b: u8) -> usize
-    ensures { λ r. ⌜ (r ≡ b) × (r < 256) ⌝ }
-{
-    b as usize
-}
-
-// The number in the two bytes at a position.
-fn pair(sheet: &[u8], at: usize) -> usize
-    requires { do ⌜ at + 1 < (← ⟦sheet.len()⟧) ⌝ }
-    ensures { λ r. ⌜ (r ≡ getD (now (sheet .entry)) at 0 * 256 + getD (now (sheet .entry)) (at + 1) 0) × (r ≤ 65535) ⌝ }
-{
-    wide(sheet[at]) * 256 + wide(sheet[at + 1])
-}
-
 // The n low bytes of x at a position.
 fn put(buffer: &mut [u8], at: usize, n: usize, x: u64)
     requires { do ⌜ at + n ≤ (← ⟦buffer.len()⟧) ⌝ }
@@ -102,59 +88,6 @@ fn copy(buffer: &mut [u8], at: usize, payload: &[u8])
         buffer[at + i] = payload[i];
         i += 1;
     }
-}
-
-// Where the frame at a position ends, 0 where it is not whole.
-fn frame_end(sheet: &[u8], at: usize) -> usize
-    requires { do ⌜ at ≤ (← ⟦sheet.len()⟧) ⌝ }
-    ensures { λ r. ⌜ r ≡ endIn (now (sheet .entry)) at ⌝ }
-{
-    if sheet.len() - at < 3 {
-        return 0;
-    }
-    let n = pair(sheet, at + 1);
-    if sheet.len() - at - 3 < n {
-        return 0;
-    }
-    at + 3 + n
-}
-
-// 10 or 11 of the n records after the header.
-fn frames(sheet: &[u8], n: usize) -> Guard
-    requires { do ⌜ 4 ≤ (← ⟦sheet.len()⟧) ⌝ }
-    ensures { λ r. ⌜ r ≡ guardBy (framesFault (now (sheet .entry)) n 4) ⌝ }
-{
-    let mut at: usize = 4;
-    let mut i: usize = 0;
-    while i < n {
-        let end = frame_end(sheet, at);
-        if end == 0 {
-            return Guard::Stop(Refusal::CutRecord);
-        }
-        at = end;
-        i += 1;
-    }
-    if at < sheet.len() {
-        return Guard::Stop(Refusal::BytesRemain);
-    }
-    Guard::Pass
-}
-
-// 9, 10 or 11 of the sheet given.
-fn fault(sheet: &[u8]) -> Guard
-    ensures { λ r. ⌜ r ≡ guardBy (sheetFault (now (sheet .entry))) ⌝ }
-{
-    if sheet.len() < 4 {
-        return Guard::Stop(Refusal::NotSheet);
-    }
-    let letters = sheet::LETTERS;
-    if sheet[0] != letters[0] {
-        return Guard::Stop(Refusal::NotSheet);
-    }
-    if sheet[1] != letters[1] {
-        return Guard::Stop(Refusal::NotSheet);
-    }
-    frames(sheet, pair(sheet, 2))
 }
 
 // 1 for true.
@@ -210,10 +143,10 @@ fn payload_size(kind: usize) -> usize
 // Whether a record with n bytes of payload has no room, or is one too many.
 fn roomless(buffer: &[u8], length: usize, n: usize) -> bool
     requires { ⌜ Given (now buffer) length ⌝ }
-    requires { ⌜ n ≤ 65535 ⌝ }
+    requires { ⌜ n ≤ most ⌝ }
     ensures { λ r. ⌜ r ≡ roomlessIn (now (buffer .entry)) length n ⌝ }
 {
-    if pair(buffer, 2) >= sheet::MOST {
+    if frames::record_count(buffer) >= sheet::MOST {
         return true;
     }
     buffer.len() - length < 3 + n
@@ -224,7 +157,7 @@ fn put_head(buffer: &mut [u8], length: usize, first: usize, n: usize)
     requires { do ⌜ (4 ≤ length) × (length + 3 ≤ (← ⟦buffer.len()⟧)) × (first < 256) ⌝ }
     ensures { λ _. ⌜ now (buffer .exit) ≡ sets (sets (now (buffer .entry)) 2 (bytes 2 (countIn (now (buffer .entry)) + 1))) length (first ∷ bytes 2 n) ⌝ }
 {
-    let count = pair(buffer, 2);
+    let count = frames::record_count(buffer);
     put(buffer, 2, 2, (count + 1) as u64);
     buffer[length] = first as u8;
     put(buffer, length + 1, 2, n as u64);
@@ -284,7 +217,7 @@ pub fn add(
     if length > buffer.len() {
         return Added::Refused(Refusal::CountOverStore);
     }
-    match fault(&buffer[..length]) {
+    match frames::fault(&buffer[..length]) {
         Guard::Stop(e) => return Added::Refused(e),
         Guard::Pass => {}
     }

@@ -2,6 +2,7 @@ use Prim.Native.Nat.{_-_}
 use mathlib.Core.Path.{_∙_}
 use native.Mathlib.Omega.{arith}
 use borrow.Author.Needs.{needs}
+use Rattle.frames.proofs.Walks.{told-whole, told-cut}
 use Rattle.reader.proofs.Records.{Going, begins, cut, stops, goes-on, remain, finished, came-refused, came-done}
 use Rattle.reader.proofs.each_record.Statement.{statement}
 use Rattle.reader.proofs.each_record.Tie as tie
@@ -15,32 +16,48 @@ abbrev μ-loop : tie.MeasureT-loop
 loop-holds : tie.Need-loop-holds Inv-loop μ-loop
 loop-holds c = let a = c .before .before .args in begins (a .edition) (a .sheet .now) (a .n) (a .words .now) (a .b .count) (c .before .before .pre .0) (λ k. omega (arith, c .slice-known .given k)) (c .before .before .pre .1)
 
-end-of-requires : tie.Need-end-of-requires Inv-loop μ-loop
-end-of-requires c κs = c .before .loop .inv .inside
+record-end-requires : tie.Need-record-end-requires Inv-loop μ-loop
+record-end-requires c κs = search needs
 
-add-t15 : tie.Need-add-t15 Inv-loop μ-loop
-add-t15 c = omega arith
+add-t14 : tie.Need-add-t14 Inv-loop μ-loop
+add-t14 c = omega arith
 
 same-length : tie.Need-same-length Inv-loop μ-loop
 same-length c = c .before .before .before .loop .inv .long
 
 returns : tie.Need-returns Inv-loop μ-loop
-returns c = let l = c .before .before .before .loop in let a = c .before .before .before .before .before .before .args in came-refused _ _ _ _ _ (l .inv .long) (cut (a .edition) (a .sheet .now) (a .n) (a .words .now) (a .b .count) (l .words) (l .count) (l .i) (l .at) (l .inv) (omega arith) (c .before .end-of .result) (c .before .end-of .ensures) (omega arith))
+returns c =
+    let l = c .before .before .before .loop in
+    let a = c .before .before .before .before .before .before .args in
+    came-refused _ _ _ _ _ (l .inv .long)
+    (cut (a .edition) (a .sheet .now) (a .n) (a .words .now) (a .b .count) (l .words) (l .count) (l .i) (l .at) (l .inv) (omega arith)
+    (told-cut _ _ _ (c .before .record-end .ensures) (omega arith)))
 
 turn-requires : tie.Need-turn-requires Inv-loop μ-loop
-turn-requires c κs = (c .before .before .end-of .ensures, omega arith, c .before .before .before .before .loop .inv .padded)
+turn-requires c κs =
+    let w = told-whole _ _ _ (c .before .before .record-end .ensures) (omega arith) in
+    (w .0, w .1, c .before .before .before .before .loop .inv .padded)
 
 enum-known-why : tie.Need-enum-known-why Inv-loop μ-loop
 enum-known-why c = search needs
 
-add-t20 : tie.Need-add-t20 Inv-loop μ-loop
-add-t20 c = omega arith
+add-t19 : tie.Need-add-t19 Inv-loop μ-loop
+add-t19 c = omega arith
 
 same-length-2 : tie.Need-same-length-2 Inv-loop μ-loop
 same-length-2 c = c .before .before .before .before .words .given ∙ c .before .before .before .before .before .before .before .before .before .before .loop .inv .long
 
 returns-2 : tie.Need-returns-2 Inv-loop μ-loop
-returns-2 c = let l = c .before .before .before .before .before .before .before .before .before .before .loop in let a = c .before .before .before .before .before .before .before .before .before .before .before .before .before .args in came-refused _ _ _ _ _ (c .before .before .before .before .words .given ∙ l .inv .long) (stops (a .edition) (a .sheet .now) (a .n) (a .words .now) (a .b .count) (l .words) (l .count) (l .i) (l .at) (l .inv) (omega arith) (c .before .before .before .before .before .before .before .before .end-of .result) (c .before .before .before .before .before .before .before .before .end-of .ensures) (omega arith) (c .before .before .before .before .before .turn .result) (c .before .before .before .before .before .turn .last .1 .1 .1 .1 .0) (c .before .why .given .0 .0) (c .before .why .given .0 .1 .0) (c .before .why .given .1) (c .before .before .before .before .before .turn .ensures))
+returns-2 c =
+    let s = c .before .before .before .before .before .before .before .before in
+    let l = s .before .before .loop in
+    let a = s .before .before .before .before .before .args in
+    let w = told-whole _ _ _ (s .record-end .ensures) (omega arith) in
+    let t = c .before .before .before .before .before .turn in
+    let e = c .before .why .given in
+    came-refused _ _ _ _ _ (c .before .before .before .before .words .given ∙ l .inv .long)
+    (stops (a .edition) (a .sheet .now) (a .n) (a .words .now) (a .b .count) (l .words) (l .count) (l .i) (l .at) (l .inv) (omega arith)
+    (s .record-end .result) (w .0) (w .1) (t .result) (t .last .1 .1 .1 .1 .0) (e .0 .0) (e .0 .1 .0) (e .1) (t .ensures))
 
 enum-known-after : tie.Need-enum-known-after Inv-loop μ-loop
 enum-known-after c = search needs
@@ -52,7 +69,15 @@ loop-less : tie.Need-loop-less Inv-loop μ-loop
 loop-less c = omega arith
 
 loop-again : tie.Need-loop-again Inv-loop μ-loop
-loop-again c = let l = c .before .before .before .before .before .before .before .before .before .before .loop in let a = c .before .before .before .before .before .before .before .before .before .before .before .before .before .args in goes-on (a .edition) (a .sheet .now) (a .n) (a .words .now) (a .b .count) (l .words) (l .count) (l .i) (l .at) (l .inv) (omega arith) (c .before .before .before .before .before .before .before .before .end-of .result) (c .before .before .before .before .before .before .before .before .end-of .ensures) (omega arith) (c .before .before .before .before .before .turn .result) (c .before .before .before .before .before .turn .last .1 .1 .1 .1 .0) (c .before .after .given .0 .0) (c .before .after .given .1) (c .before .before .before .before .before .turn .ensures)
+loop-again c =
+    let s = c .before .before .before .before .before .before .before .before in
+    let l = s .before .before .loop in
+    let a = s .before .before .before .before .before .args in
+    let w = told-whole _ _ _ (s .record-end .ensures) (omega arith) in
+    let t = c .before .before .before .before .before .turn in
+    let e = c .before .after .given in
+    goes-on (a .edition) (a .sheet .now) (a .n) (a .words .now) (a .b .count) (l .words) (l .count) (l .i) (l .at) (l .inv) (omega arith)
+    (s .record-end .result) (w .0) (w .1) (t .result) (t .last .1 .1 .1 .1 .0) (e .0 .0) (e .1) (t .ensures)
 
 same-length-3 : tie.Need-same-length-3 Inv-loop μ-loop
 same-length-3 c = c .before .before .loop .inv .long
@@ -73,13 +98,13 @@ each-record-spec =
     Inv-loop
     μ-loop
     loop-holds
-    end-of-requires
-    add-t15
+    record-end-requires
+    add-t14
     same-length
     returns
     turn-requires
     enum-known-why
-    add-t20
+    add-t19
     same-length-2
     returns-2
     enum-known-after

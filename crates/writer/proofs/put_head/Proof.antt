@@ -7,11 +7,11 @@ use lib.Seq.{length-sets}
 use Rattle.writer.proofs.put_head.Statement.{statement}
 use Rattle.writer.proofs.put_head.Tie as tie
 
-pair-requires : tie.Need-pair-requires
-pair-requires c κs = search needs
+record-count-requires : tie.Need-record-count-requires
+record-count-requires c κs = search needs
 
 add-put : tie.Need-add-put
-add-put c = search needs
+add-put c = let known = c .before .before .before .slice-known .given in omega (arith, known 2, known 3)
 
 put-requires : tie.Need-put-requires
 put-requires c κs = search needs
@@ -32,13 +32,13 @@ same-length : tie.Need-same-length
 same-length c = ap length (c .before .before .put2 .ensures) ∙ simp (length-sets, length-set) (ap length (c .before .before .before .before .before .before .put .ensures) ∙ simp length-sets)
 
 returns : tie.Need-returns
-returns c = put-head _ _ _ _ _ _ _ (c .before .before .before .before .before .before .before .before .pair .ensures .0) (c .before .before .before .before .before .before .put .ensures) (c .before .before .put2 .ensures)
+returns c = put-head _ _ _ _ _ _ _ (c .before .before .before .before .before .before .before .before .record-count .ensures) (c .before .before .before .before .before .before .put .ensures) (c .before .before .put2 .ensures)
 
 pub put-head-spec : {M : Type 1} → statement M
 put-head-spec =
     tie.close
     (tie.spec
-    pair-requires
+    record-count-requires
     add-put
     put-requires
     cast-buffer

@@ -2,20 +2,20 @@ use mathlib.Core.Path.{refl, sym}
 use native.Mathlib.Omega.{arith}
 use Rattle.word.proofs.Lists.{past}
 use borrow.Author.Needs.{needs}
-use Rattle.reader.proofs.byte_at.Statement.{statement}
-use Rattle.reader.proofs.byte_at.Tie as tie
+use Rattle.frames.proofs.byte_at.Statement.{statement}
+use Rattle.frames.proofs.byte_at.Tie as tie
 
 shared-slice-read-result : tie.Need-shared-slice-read-result
 shared-slice-read-result c = search needs
 
 cast-result : tie.Need-cast-result
-cast-result c = omega (arith, c .shared-slice-known .given (c .before .before .args .k))
+cast-result c = omega (arith, c .shared-slice-known .given (c .before .before .args .at))
 
 returns : tie.Need-returns
-returns c = (refl, omega (arith, c .shared-slice-known .given (c .before .before .args .k)))
+returns c = (refl, omega (arith, c .shared-slice-known .given (c .before .before .args .at)))
 
 returns-2 : tie.Need-returns-2
-returns-2 c = (sym (past (c .before .args .bytes .now) (c .before .args .k) (omega arith)), omega arith)
+returns-2 c = (sym (past (c .before .args .bytes .now) (c .before .args .at) (omega arith)), omega arith)
 
 pub byte-at-spec : {M : Type 1} → statement M
 byte-at-spec = tie.close (tie.spec shared-slice-read-result cast-result returns returns-2)
