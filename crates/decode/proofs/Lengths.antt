@@ -12,12 +12,13 @@ use Rattle.word.specs.Sets.{choose}
 use Rattle.word.proofs.Cases.{by-lt}
 use Rattle.storage.specs.declared.Refusal.the-variants.{BadPayload, NewerKind}
 use Rattle.sheet.specs.Kinds.{Row, table, rowOf, bytesIn, sizeBy, sizeIn, bytesBy, ruleOf, known}
+use Rattle.sheet.specs.Reader.{askingBy}
 use Rattle.sheet.specs.declared.Known.the-variants.{Bytes, Newer}
 use Rattle.sheet.proofs.Tables.{past-kinds}
 use Rattle.decode.specs.declared.Asked.{Asked}
 use Rattle.decode.specs.declared.Asked.the-variants.{Refused}
-use Rattle.decode.specs.Asks.{asks, askedBy, askedFor}
-use Rattle.decode.specs.Kernels.{bytesOf}
+use Rattle.decode.specs.Asks.{askedBy, askedFor}
+use Rattle.decode.specs.Kernels.{bytesOf, asks}
 
 -- a kind that is known by its number
 pub of-kind : (kind j n : ℕ) → bytesOf j ≡ n → kind ≡ j → bytesOf kind ≡ n
@@ -97,17 +98,21 @@ held e (suc k) n p = record {
 -- ---- what is asked
 
 module _ (e kind : ℕ) (l : List ℕ) where
+  -- by the bytes of its kind
+  abbrev by : Option ℕ → Asked
+  by o = askedBy (askingBy ruleOf kind l o)
+
   pub asked-newer : Newer ≡ known (sizeIn e kind) → Refused NewerKind ≡ askedFor e kind l
   unfolding askedFor
-  asked-newer p = ap (askedBy kind l) (sym (known-none (sizeIn e kind) p))
+  asked-newer p = ap by (sym (known-none (sizeIn e kind) p))
 
   module _ (n : ℕ) (p : Bytes n ≡ known (sizeIn e kind)) where
-    asked-with : askedFor e kind l ≡ choose (eqb (length l) n) (asks (ruleOf kind l)) (Refused BadPayload)
+    asked-with : (t : Bool) → eqb (length l) n ≡ t → askedFor e kind l ≡ asks (choose t (ruleOf kind l) none)
     unfolding askedFor
-    asked-with = ap (askedBy kind l) (known-some (sizeIn e kind) n p)
+    asked-with t q = ap by (known-some (sizeIn e kind) n p) ∙ ap (λ (t : Bool). asks (choose t (ruleOf kind l) none)) q
 
     pub asked-long : (length l ≡ n → ⊥) → Refused BadPayload ≡ askedFor e kind l
-    asked-long h = sym (asked-with ∙ ap (λ (t : Bool). choose t (asks (ruleOf kind l)) (Refused BadPayload)) (ne-eqb (length l) n h))
+    asked-long h = sym (asked-with false (ne-eqb (length l) n h))
 
     pub asked-edit : (r : Asked) → length l ≡ n → r ≡ asks (ruleOf kind l) → r ≡ askedFor e kind l
-    asked-edit r h q = q ∙ sym (asked-with ∙ ap (λ (t : Bool). choose t (asks (ruleOf kind l)) (Refused BadPayload)) (eq-eqb (length l) n h))
+    asked-edit r h q = q ∙ sym (asked-with true (eq-eqb (length l) n h))

@@ -19,7 +19,7 @@ use Rattle.sheet.specs.declared.Edit.{Edit}
 use Rattle.sheet.specs.declared.Edit.the-variants.{Set, Unset, SetRegion, SetField, Shift, Rotate, Resize, Reverse, ToggleRegion, Open, Close}
 use Rattle.decode.specs.declared.Asked.{Asked}
 use Rattle.decode.specs.declared.Asked.the-variants.{For, Refused}
-use Rattle.decode.specs.Asks.{asks}
+use Rattle.decode.specs.Kernels.{asks}
 use Rattle.decode.proofs.Numbers.{number-cut}
 
 -- x is the number of the bytes l

@@ -13,11 +13,13 @@ use Rattle.word.proofs.Cases.{by-eq}
 use Rattle.storage.specs.declared.Refusal.the-variants.{BadPayload, NewerKind}
 use Rattle.sheet.specs.Kinds.{sizeIn, ruleOf}
 use Rattle.sheet.specs.Frames.{Item}
+use Rattle.sheet.specs.Reader.{askingBy}
 use Rattle.sheet.specs.Reads.{editionOf}
 use Rattle.sheet.specs.Promises.{HasKind, Laid}
 use Rattle.sheet.specs.declared.Edit.{Edit}
 use Rattle.sheet.proofs.Papers.{has-size, size-has, payloads-exact}
-use Rattle.decode.specs.Asks.{askedNumber, asks, askedBy, askedFor}
+use Rattle.decode.specs.Asks.{askedNumber, askedBy, askedFor}
+use Rattle.decode.specs.Kernels.{asks}
 use Rattle.decode.specs.Promises.{AskedExact, EditOfMeans}
 use Rattle.decode.specs.declared.Asked.{Asked}
 use Rattle.decode.specs.declared.Asked.the-variants.{For, Refused}
@@ -69,11 +71,11 @@ module _ (n kind : ℕ) (p : List ℕ) (bytes : (i : ℕ) → getD p i 0 < 256) 
         (λ e. ((λ g. let z : some d ≡ some e = sym r ∙ laid-asks e g .1 in cc), (λ q. asks-laid e (sym l) (r ∙ ap some q))))
         (asks (some d)) refl
 
-    sized : AskedExact n kind p (askedBy kind p (some m))
+    sized : AskedExact n kind p (askedBy (askingBy ruleOf kind p (some m)))
     sized =
         by-eq (length p) m
-        (λ l. subst (AskedExact n kind p) (sym (ap (λ (t : Bool). choose t (asks (ruleOf kind p)) (Refused BadPayload)) (eq-eqb (length p) m l))) (ruled (ruleOf kind p) refl l))
-        (λ l. wrong (λ e g. l (sym (laid-asks e g .0))) _ (ap (λ (t : Bool). choose t (asks (ruleOf kind p)) (Refused BadPayload)) (ne-eqb (length p) m l)))
+        (λ l. subst (AskedExact n kind p) (sym (ap (λ (t : Bool). asks (choose t (ruleOf kind p) none)) (eq-eqb (length p) m l))) (ruled (ruleOf kind p) refl l))
+        (λ l. wrong (λ e g. l (sym (laid-asks e g .0))) _ (ap (λ (t : Bool). asks (choose t (ruleOf kind p) none)) (ne-eqb (length p) m l)))
 
   lacks : sizeIn n kind ≡ none → AskedExact n kind p (Refused NewerKind)
   lacks s = record {
@@ -87,7 +89,7 @@ module _ (n kind : ℕ) (p : List ℕ) (bytes : (i : ℕ) → getD p i 0 < 256) 
   unfolding askedFor
   exact = go (sizeIn n kind) refl
     where
-      go : (o : Option ℕ) → sizeIn n kind ≡ o → AskedExact n kind p (askedBy kind p o)
+      go : (o : Option ℕ) → sizeIn n kind ≡ o → AskedExact n kind p (askedBy (askingBy ruleOf kind p o))
       go none s = lacks s
       go (some m) s = sized m s
 

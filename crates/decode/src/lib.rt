@@ -9,8 +9,8 @@ ghost use Prim.Native.Nat.{_^_, _≤_, _<_};
 ghost use lib.ListN.{length};
 ghost use Rattle.sheet.specs.Bytes.{number};
 ghost use Rattle.sheet.specs.Kinds.{ruleOf};
-ghost use Rattle.decode.specs.Asks.{asks, askedFor};
-ghost use Rattle.decode.specs.Kernels.{bytesOf};
+ghost use Rattle.decode.specs.Asks.{askedFor};
+ghost use Rattle.decode.specs.Kernels.{bytesOf, asks};
 
 // An edit, or the refusal 13 or 12.
 pub enum Asked {

@@ -3,7 +3,6 @@ use Prim.Native.Nat.{ℕ, suc, _+_, _-_, _≤_, _<_}
 use mathlib.Core.Path.{_≡_, refl, sym, ap, _∙_, subst}
 use mathlib.Core.Bool.{Bool, true, false}
 use mathlib.Core.List.{List}
-use mathlib.Core.Option.{Option, none, some}
 use native.Mathlib.Omega.{arith}
 use native.Mathlib.Numerals.{add-one}
 use lib.ListN.{length}
@@ -19,8 +18,9 @@ use Rattle.storage.specs.declared.Change.{Change}
 use Rattle.storage.specs.declared.Change.the-variants.{Done, Refused}
 use Rattle.storage.proofs.Views.{view-count, bounded-view}
 use Rattle.storage.proofs.Stores.{view-written, length-written}
+use Rattle.sheet.specs.Kinds.{sizeIn, ruleOf}
 use Rattle.sheet.specs.Frames.{Item, endAt, itemAt}
-use Rattle.sheet.specs.Reader.{Edition, Turn, stop, next, Answer, refused, done, act, known, edit, edited, then, records}
+use Rattle.sheet.specs.Reader.{Edition, Turn, stop, next, Answer, refused, done, asking, taken, act, then, records}
 use Rattle.sheet.specs.Reads.{editionOf, went, readAnswer}
 use Rattle.sheet.specs.declared.Edit.{Edit}
 use Rattle.sheet.specs.declared.Reading.the-variants as reading
@@ -32,40 +32,27 @@ use Rattle.reader.proofs.Padding.{padded-written, written-fit, written-
 -- ---- what a record makes has space, and no member past its words
 
 module _ (edition c k : ℕ) (b s : Bits) (h : Kept c b) where
-  edit-kept : (u : Option Edit) → edited (editionOf c edition) k u b ≡ next s → Kept c s
-  edit-kept none p = absurd (stop-next p)
-  edit-kept (some e) p = step-kept c edition k e b s h p
-
-  size-kept : (r : Item) (o : Option ℕ) → known (editionOf c edition) k r o b ≡ next s → Kept c s
-  size-kept r none p = absurd (stop-next p)
-  size-kept r (some n) p = edit-kept (edit (editionOf c edition) r n) p
+  taken-kept : (t : Turn Edit) → taken (editionOf c edition) k b t ≡ next s → Kept c s
+  taken-kept (stop e) p = absurd (stop-next p)
+  taken-kept (next e) p = step-kept c edition k e b s h p
 
   act-kept : (r : Item) → act (editionOf c edition) k r b ≡ next s → Kept c s
   unfolding act
-  act-kept r p = go (r .duty) p
+  act-kept r p = go (r .duty) (asking (editionOf c edition .size) (editionOf c edition .rule) (r .kind) (r .payload)) p
     where
-      go : (t : Bool) → choose t (known (editionOf c edition) k r (editionOf c edition .size (r .kind)) b) (next b) ≡ next s → Kept c s
-      go true q = size-kept r (editionOf c edition .size (r .kind)) q
-      go false q = subst (Kept c) (next-inj q) h
+      go : (d : Bool) (t : Turn Edit) → choose d (taken (editionOf c edition) k b t) (next b) ≡ next s → Kept c s
+      go true t q = taken-kept t q
+      go false t q = subst (Kept c) (next-inj q) h
 
 -- a step of the table does not look at the record's number
 any-number : (edition c k : ℕ) (r : Item) (b : Bits) → act (editionOf c edition) k r b ≡ act (editionOf c edition) 0 r b
 unfolding act editionOf
-any-number edition c k r b = go (r .duty)
+any-number edition c k r b = go (r .duty) (asking (sizeIn edition) ruleOf (r .kind) (r .payload))
   where
-    by-edit : (u : Option Edit) → edited (editionOf c edition) k u b ≡ edited (editionOf c edition) 0 u b
-    by-edit none = refl
-    by-edit (some e) = refl
-
-    by-size : (o : Option ℕ) → known (editionOf c edition) k r o b ≡ known (editionOf c edition) 0 r o b
-    by-size none = refl
-    by-size (some n) = by-edit (edit (editionOf c edition) r n)
-
-    go : (d : Bool)
-        → choose d (known (editionOf c edition) k r (editionOf c edition .size (r .kind)) b) (next b)
-        ≡ choose d (known (editionOf c edition) 0 r (editionOf c edition .size (r .kind)) b) (next b)
-    go true = by-size (editionOf c edition .size (r .kind))
-    go false = refl
+    go : (d : Bool) (t : Turn Edit) → choose d (taken (editionOf c edition) k b t) (next b) ≡ choose d (taken (editionOf c edition) 0 b t) (next b)
+    go true (stop e) = refl
+    go true (next e) = refl
+    go false t = refl
 
 -- ---- what a turn's answer tells
 

@@ -3,28 +3,25 @@ use Prim.Native.Nat.{ℕ, _+_, _-_, _%_, _≤_, _<_}
 use mathlib.Core.Path.{_≡_, refl, sym, ap, _∙_, subst}
 use mathlib.Core.Bool.{Bool, true, false}
 use mathlib.Core.List.{List}
-use mathlib.Core.Option.{Option, none, some}
 use native.Mathlib.Omega.{arith}
 use lib.ListN.{length, getD, take, drop}
-use lib.Dec.{eqb}
 use borrow.Author.Tests.{le-leb, lt-leb}
 use Rattle.word.specs.Sets.{choose}
 use Rattle.word.proofs.Lists.{Fit}
 use Rattle.storage.specs.Stores.{Bits, Outcome, refused, done, view, answer, store, Leaves, outcome, Changes}
 use Rattle.storage.specs.declared.Bitmap.{Bitmap}
 use Rattle.storage.specs.declared.Refusal.{Refusal}
-use Rattle.storage.specs.declared.Refusal.the-variants.{BadPayload}
 use Rattle.storage.specs.declared.Change.{Change}
 use Rattle.storage.specs.declared.Change.the-variants.{Done, Refused}
 use Rattle.storage.proofs.Stores.{leaves-refused, outcome-ok, written-view}
 use Rattle.sheet.specs.Kinds.{sizeIn, ruleOf}
 use Rattle.sheet.specs.Frames.{Item, sizeAt, endAt, itemAt}
-use Rattle.sheet.specs.Reader.{next, known, edited}
+use Rattle.sheet.specs.Reader.{Turn, stop, next, asking, taken}
 use Rattle.sheet.specs.Reads.{step, made, editionOf}
 use Rattle.sheet.specs.declared.Edit.{Edit}
 use Rattle.decode.specs.declared.Asked.{Asked}
 use Rattle.decode.specs.declared.Asked.the-variants.{For, Refused}
-use Rattle.decode.specs.Asks.{asks, askedBy, askedFor}
+use Rattle.decode.specs.Asks.{askedBy, askedFor}
 use Rattle.reader.specs.Kernels.{Padded, outcomeOf, dutyItem, turned}
 
 -- the step of an edit that is known
@@ -41,21 +38,14 @@ module _ (edition kind : ℕ) (payload : List ℕ) (c : ℕ) (b : Bits) where
   step-comes (refused x) = refl
   step-comes (done s) = refl
 
-  rule-comes : (t : Bool) (u : Option Edit)
-      → outcomeOf (edited (editionOf c edition) 0 (choose t u none) b) ≡ comes c b (choose t (asks u) (Asked.Refused BadPayload))
+  asked-comes : (t : Turn Edit) → outcomeOf (taken (editionOf c edition) 0 b t) ≡ comes c b (askedBy t)
   unfolding editionOf
-  rule-comes true none = refl
-  rule-comes true (some e) = step-comes (step e c b)
-  rule-comes false u = refl
-
-  size-comes : (o : Option ℕ) → outcomeOf (known (editionOf c edition) 0 (dutyItem kind payload) o b) ≡ comes c b (askedBy kind payload o)
-  unfolding editionOf
-  size-comes none = refl
-  size-comes (some n) = rule-comes (eqb (length payload) n) (ruleOf kind payload)
+  asked-comes (stop e) = refl
+  asked-comes (next e) = step-comes (step e c b)
 
   duty-comes : turned edition (dutyItem kind payload) c b ≡ comes c b (askedFor edition kind payload)
   unfolding turned askedFor
-  duty-comes = size-comes (sizeIn edition kind)
+  duty-comes = asked-comes (asking (sizeIn edition) ruleOf kind payload)
 
 -- ---- a duty record
 
@@ -82,9 +72,12 @@ module _ (edition : ℕ) (sheet : List ℕ) (at first : ℕ) (e : first ≡ getD
   unfolding turned answer store view
   remark ws b f l = subst (λ (o : Outcome). Leaves o ws b (Done b) ws) (sym same) (record { answers = refl; leaves = written-view ws (b .count) f })
     where
+      asks : Turn Edit
+      asks = asking (sizeIn edition) ruleOf (itemAt sheet at .kind) (itemAt sheet at .payload)
+
       same : turned edition (itemAt sheet at) (length ws) (view ws (b .count)) ≡ done (view ws (b .count))
       same =
-          ap (λ (t : Bool). outcomeOf (choose t (known (editionOf (length ws) edition) 0 (itemAt sheet at) (sizeIn edition (getD sheet at 0 % 128)) (view ws (b .count))) (next (view ws (b .count)))))
+          ap (λ (t : Bool). outcomeOf (choose t (taken (editionOf (length ws) edition) 0 (view ws (b .count)) asks) (next (view ws (b .count)))))
           (lt-leb 128 (getD sheet at 0) (omega arith))
 
   pub on-duty : (end : ℕ) → end ≡ endAt sheet at → 128 ≤ first → itemAt sheet at ≡ dutyItem (first % 128) (take (end - (at + 3)) (drop (at + 3) sheet))

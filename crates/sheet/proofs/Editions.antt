@@ -15,10 +15,10 @@ use Rattle.storage.specs.Refusals.{numberOf}
 use Rattle.storage.specs.declared.Refusal.{Refusal}
 use Rattle.storage.specs.declared.Refusal.the-variants.{NewerKind}
 use Rattle.sheet.specs.Frames.{Item, endAt}
-use Rattle.sheet.specs.Reader.{Edition, Answer, refused, done, Turn, stop, next, edit, edited, known, act, then, records, copied, read}
+use Rattle.sheet.specs.Reader.{Edition, Answer, refused, done, Turn, stop, next, act, then, records, copied, read}
 use Rattle.sheet.specs.Meaning.{Header, total, start, Whole, effect, begin, AtRecord, Newer, newer, Holds}
 use Rattle.sheet.specs.Promises.{AnyTwo}
-use Rattle.sheet.proofs.Turns.{take-true, take-false, header?, headed-true, headed-false, record-whole, record-cut}
+use Rattle.sheet.proofs.Turns.{take-true, take-false, header?, headed-true, headed-false, record-whole, record-cut, edit, edited, known}
 use Rattle.sheet.proofs.Stands.{stands, item}
 use Rattle.sheet.proofs.Exact.{Reaches, reaches-next, exact}
 

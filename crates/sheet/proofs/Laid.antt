@@ -13,14 +13,14 @@ use borrow.Author.Tests.{le-leb, lt-leb, le-ltb, eq-eqb}
 use Rattle.sheet.specs.Bytes.{bytes}
 use Rattle.sheet.specs.Kinds.{sizeIn, kindOf, payloadOf, Ranged}
 use Rattle.sheet.specs.Frames.{Item, countIn, sizeAt, endAt, itemAt, framesFault, sheetFault}
-use Rattle.sheet.specs.Reader.{Turn, stop, next, done, edited, known, act, then, records, read}
+use Rattle.sheet.specs.Reader.{Turn, stop, next, done, act, then, records, read}
 use Rattle.sheet.specs.Meaning.{Header, onward, effect}
 use Rattle.sheet.specs.Reads.{editionOf, latest}
 use Rattle.sheet.specs.Writer.{Entry, edit, note, laid, bytesOf}
 use Rattle.sheet.specs.Plain.{body, sheetOf, editsAfter, editsIn}
 use Rattle.sheet.specs.declared.Edit.{Edit}
 use Rattle.storage.specs.Stores.{Bits}
-use Rattle.sheet.proofs.Turns.{stop-next, next-inj, take-true, take-false, headed-true, act-remark, record-whole, all-read}
+use Rattle.sheet.proofs.Turns.{stop-next, next-inj, take-true, take-false, headed-true, act-remark, record-whole, all-read, edited, known}
 use Rattle.sheet.proofs.Payloads.{read-back, kind-small, payload-short, size-latest}
 
 -- a record that fits its frame

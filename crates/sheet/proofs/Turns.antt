@@ -13,7 +13,7 @@ use Rattle.word.specs.Sets.{choose}
 use Rattle.storage.specs.declared.Refusal.{Refusal}
 use Rattle.storage.specs.declared.Refusal.the-variants.{CutRecord, BytesRemain, BadPayload, NewerKind}
 use Rattle.sheet.specs.Frames.{Item, headed, endAt, itemAt}
-use Rattle.sheet.specs.Reader.{Edition, refused, done, Turn, stop, next, edit, edited, known, act, then, records}
+use Rattle.sheet.specs.Reader.{Edition, refused, done, Turn, stop, next, ruled, askingBy, taken, act, then, records}
 use Rattle.sheet.specs.Meaning.{Header, onward, effect}
 
 pub none-some : {X : Type 0} {x : X} → _≡_ {A = Option X} none (some x) → ⊥
@@ -68,9 +68,20 @@ listed k none = []
 listed k (some e) = (k, e) ∷ []
 
 module _ {A S : Type 0} (E : Edition A S) where
+  -- what a payload of n bytes asks for
+  abbrev pub edit : Item → ℕ → Option A
+  edit r n = choose (eqb (length (r .payload)) n) (E .rule (r .kind) (r .payload)) none
+
+  -- what a duty record comes to, by its edit and by the bytes of its kind
+  abbrev pub edited : ℕ → Option A → S → Turn S
+  edited k o s = taken E k s (ruled o)
+
+  abbrev pub known : ℕ → Item → Option ℕ → S → Turn S
+  known k r o s = taken E k s (askingBy (E .rule) (r .kind) (r .payload) o)
+
   abbrev pub sized : Item → Option ℕ → Option A
   sized r none = none
-  sized r (some n) = edit E r n
+  sized r (some n) = edit r n
 
   -- the edit that a duty record asks for: none for a remark, a kind outside the edition, a bad payload
   abbrev pub editOf : Item → Option A

@@ -9,7 +9,7 @@ use Rattle.storage.specs.declared.Refusal.{Refusal}
 use Rattle.storage.specs.declared.Refusal.the-variants.{NotSheet, CutRecord, BytesRemain, BadPayload, NewerKind}
 use Rattle.sheet.specs.Frames.{Item, headed, countIn, endAt, itemAt}
 
--- a refusal, or the next state
+-- a refusal, or what comes next
 pub data Turn (S : Type 0) : Type 0 where
   stop : Refusal → Turn S
   next : S → Turn S
@@ -21,29 +21,34 @@ pub record Edition (A S : Type 0) : Type 0 where
   pub rule : ℕ → List ℕ → Option A
   pub step : (k : ℕ) → A → S → Turn S
 
+-- 12 where a payload is no edit
+abbrev pub ruled : {A : Type 0} → Option A → Turn A
+ruled none = stop BadPayload
+ruled (some e) = next e
+
+-- 13 where there are no bytes of the kind, 12 where the payload has not so many
+abbrev pub askingBy : {A : Type 0} → (ℕ → List ℕ → Option A) → ℕ → List ℕ → Option ℕ → Turn A
+askingBy rule kind payload none = stop NewerKind
+askingBy rule kind payload (some n) = ruled (choose (eqb (length payload) n) (rule kind payload) none)
+
+-- what a duty record asks for, by the sizes and the rule of an edition: 13, 12 or an edit
+abbrev pub asking : {A : Type 0} → (ℕ → Option ℕ) → (ℕ → List ℕ → Option A) → ℕ → List ℕ → Turn A
+asking size rule kind payload = askingBy rule kind payload (size kind)
+
 -- refused at a record, or done with so many records and this state
 pub data Answer (S : Type 0) : Type 0 where
   refused : Refusal → ℕ → Answer S
   done : ℕ → S → Answer S
 
 module _ {A S : Type 0} (E : Edition A S) where
-  -- what a payload of n bytes asks for
-  abbrev pub edit : Item → ℕ → Option A
-  edit r n = choose (eqb (length (r .payload)) n) (E .rule (r .kind) (r .payload)) none
-
-  -- 12 where the payload is bad, else what the step says
-  abbrev pub edited : ℕ → Option A → S → Turn S
-  edited k none s = stop BadPayload
-  edited k (some e) s = E .step k e s
-
-  -- 13 where the edition has not the kind
-  abbrev pub known : ℕ → Item → Option ℕ → S → Turn S
-  known k r none s = stop NewerKind
-  known k r (some n) s = edited k (edit r n) s
+  -- the step of record k, where it asks for an edit
+  abbrev pub taken : ℕ → S → Turn A → Turn S
+  taken k s (stop e) = stop e
+  taken k s (next e) = E .step k e s
 
   -- record k, its frame whole: a remark does nothing; a duty record gets 13, 12 or its step's refusal, or makes the next state
   unfoldable pub act : ℕ → Item → S → Turn S
-  act k r s = choose (r .duty) (known k r (E .size (r .kind)) s) (next s)
+  act k r s = choose (r .duty) (taken k s (asking (E .size) (E .rule) (r .kind) (r .payload))) (next s)
 
   -- a stopped reading names record i, another goes on
   abbrev pub then : (S → Answer S) → ℕ → Turn S → Answer S
