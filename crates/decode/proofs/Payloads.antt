@@ -78,25 +78,25 @@ module _ (l : List ℕ) (b x : ℕ) (n : length l ≡ 9) (hb : Is (take 1 l) b) 
 
   -- the flag, p and k, and the unused bits
   abbrev region-values : List ℕ
-  region-values = b / 128 ∷ (b % 128 * 33554432 + x / 549755813888) ∷ x / 128 % 4294967296 ∷ []
+  region-values = b / 128 ∷ (b % 128 * 2 ^ 25 + x / 2 ^ 39) ∷ x / 128 % 2 ^ 32 ∷ []
 
-  region-sized : (b / 128 < 2 ^ 1) × ((b % 128 * 33554432 + x / 549755813888 < 2 ^ 32) × ((x / 128 % 4294967296 < 2 ^ 32) × Unit {0}))
+  region-sized : (b / 128 < 2 ^ 1) × ((b % 128 * 2 ^ 25 + x / 2 ^ 39 < 2 ^ 32) × ((x / 128 % 2 ^ 32 < 2 ^ 32) × Unit {0}))
   region-sized = (omega (arith, region-b), (omega (arith, region-x), (omega arith, tt)))
 
-  region-is : number l ≡ (b / 128 * 2 ^ 64 + ((b % 128 * 33554432 + x / 549755813888) * 2 ^ 32 + (x / 128 % 4294967296 * 2 ^ 0 + 0))) * 2 ^ 7 + x % 128
+  region-is : number l ≡ (b / 128 * 2 ^ 64 + ((b % 128 * 2 ^ 25 + x / 2 ^ 39) * 2 ^ 32 + (x / 128 % 2 ^ 32 * 2 ^ 0 + 0))) * 2 ^ 7 + x % 128
   region-is = region-number ∙ omega arith
 
   pub region-bad : (x % 128 ≡ 0 → ⊥) → Refused BadPayload ≡ asks (ruleOf 3 l)
   unfolding rowOf numberIn
   region-bad z = no-edit 3 l (rule-spoilt 3 _ refl l region-values (x % 128) region-sized (omega arith) region-is z)
 
-  pub region-good : x % 128 ≡ 0 → For (SetRegion (leb 128 b) (b % 128 * 33554432 + x / 549755813888) (x / 128 % 4294967296)) ≡ asks (ruleOf 3 l)
+  pub region-good : x % 128 ≡ 0 → For (SetRegion (leb 128 b) (b % 128 * 2 ^ 25 + x / 2 ^ 39) (x / 128 % 2 ^ 32)) ≡ asks (ruleOf 3 l)
   unfolding rowOf numberIn
   region-good z =
       is-edit 3 l _
       (rule-good 3 _ refl l region-values (x % 128) region-sized (omega arith) region-is z
       (omega arith, omega (arith, region-b), (omega arith, omega (arith, region-x), (omega arith, omega arith, tt)))
-      ∙ ap (λ (t : Bool). some (SetRegion t (b % 128 * 33554432 + x / 549755813888) (x / 128 % 4294967296)))
+      ∙ ap (λ (t : Bool). some (SetRegion t (b % 128 * 2 ^ 25 + x / 2 ^ 39) (x / 128 % 2 ^ 32)))
       (one-bit b 128 (b / 128) (λ h. omega arith) (λ h. omega (arith, region-b))))
 
 -- ---- kind 4
@@ -120,17 +120,17 @@ module _ (l : List ℕ) (p b x : ℕ) (n : length l ≡ 13) (hp : Is (take 4 l) 
   field-x = below (drop 5 l) x 8 hx (length-drop 5 l ∙ ap (λ (m : ℕ). m - 5) n)
 
   -- the value fits a word
-  pub value-fits : b % 2 * 9223372036854775808 + x / 2 < 2 ^ 64
+  pub value-fits : b % 2 * 2 ^ 63 + x / 2 < 2 ^ 64
   value-fits = omega (arith, field-x)
 
   -- p, the width and the value, and the unused bit
   abbrev field-values : List ℕ
-  field-values = p ∷ b / 2 ∷ (b % 2 * 9223372036854775808 + x / 2) ∷ []
+  field-values = p ∷ b / 2 ∷ (b % 2 * 2 ^ 63 + x / 2) ∷ []
 
-  field-sized : (p < 2 ^ 32) × ((b / 2 < 2 ^ 7) × ((b % 2 * 9223372036854775808 + x / 2 < 2 ^ 64) × Unit {0}))
+  field-sized : (p < 2 ^ 32) × ((b / 2 < 2 ^ 7) × ((b % 2 * 2 ^ 63 + x / 2 < 2 ^ 64) × Unit {0}))
   field-sized = (field-p, (omega (arith, field-b), (value-fits, tt)))
 
-  field-is : number l ≡ (p * 2 ^ 71 + (b / 2 * 2 ^ 64 + ((b % 2 * 9223372036854775808 + x / 2) * 2 ^ 0 + 0))) * 2 ^ 1 + x % 2
+  field-is : number l ≡ (p * 2 ^ 71 + (b / 2 * 2 ^ 64 + ((b % 2 * 2 ^ 63 + x / 2) * 2 ^ 0 + 0))) * 2 ^ 1 + x % 2
   field-is = field-number ∙ omega arith
 
   pub field-odd : (x % 2 ≡ 0 → ⊥) → Refused BadPayload ≡ asks (ruleOf 4 l)
@@ -141,7 +141,7 @@ module _ (l : List ℕ) (p b x : ℕ) (n : length l ≡ 13) (hp : Is (take 4 l) 
   unfolding rowOf numberIn
   field-wide z = no-edit 4 l (rule-over 4 _ refl l field-values (x % 2) field-sized (omega arith) field-is (λ i. omega (arith, i .2 .1)))
 
-  pub field-good : x % 2 ≡ 0 → b / 2 ≤ 64 → For (SetField p (b / 2) (b % 2 * 9223372036854775808 + x / 2)) ≡ asks (ruleOf 4 l)
+  pub field-good : x % 2 ≡ 0 → b / 2 ≤ 64 → For (SetField p (b / 2) (b % 2 * 2 ^ 63 + x / 2)) ≡ asks (ruleOf 4 l)
   unfolding rowOf numberIn
   field-good z w =
       is-edit 4 l _
@@ -156,16 +156,16 @@ module _ (l : List ℕ) (x : ℕ) (n : length l ≡ 5) (h : Is l x) where
 
   -- the direction and k, and the unused bits
   abbrev turn-values : List ℕ
-  turn-values = x / 549755813888 ∷ x / 128 % 4294967296 ∷ []
+  turn-values = x / 2 ^ 39 ∷ x / 128 % 2 ^ 32 ∷ []
 
-  turn-sized : (x / 549755813888 < 2 ^ 1) × ((x / 128 % 4294967296 < 2 ^ 32) × Unit {0})
+  turn-sized : (x / 2 ^ 39 < 2 ^ 1) × ((x / 128 % 2 ^ 32 < 2 ^ 32) × Unit {0})
   turn-sized = (omega (arith, five), (omega arith, tt))
 
-  turn-is : number l ≡ (x / 549755813888 * 2 ^ 32 + (x / 128 % 4294967296 * 2 ^ 0 + 0)) * 2 ^ 7 + x % 128
+  turn-is : number l ≡ (x / 2 ^ 39 * 2 ^ 32 + (x / 128 % 2 ^ 32 * 2 ^ 0 + 0)) * 2 ^ 7 + x % 128
   turn-is = sym (h .0) ∙ omega arith
 
-  direction : isOne (x / 549755813888) ≡ leb 549755813888 x
-  direction = one-bit x 549755813888 (x / 549755813888) (λ k. omega arith) (λ k. omega (arith, five))
+  direction : isOne (x / 2 ^ 39) ≡ leb (2 ^ 39) x
+  direction = one-bit x (2 ^ 39) (x / 2 ^ 39) (λ k. omega arith) (λ k. omega (arith, five))
 
   pub turn-bad : (kind : ℕ) → 5 ≤ kind → kind ≤ 6 → (x % 128 ≡ 0 → ⊥) → Refused BadPayload ≡ asks (ruleOf kind l)
   unfolding rowOf numberIn
@@ -174,21 +174,21 @@ module _ (l : List ℕ) (x : ℕ) (n : length l ≡ 5) (h : Is l x) where
       (λ k. by-kind kind 5 l _ (omega arith) (no-edit 5 l (rule-spoilt 5 _ refl l turn-values (x % 128) turn-sized (omega arith) turn-is z)))
       (λ k. by-kind kind 6 l _ (omega arith) (no-edit 6 l (rule-spoilt 6 _ refl l turn-values (x % 128) turn-sized (omega arith) turn-is z)))
 
-  pub turn-shift : (kind : ℕ) → kind ≡ 5 → x % 128 ≡ 0 → For (Shift (leb 549755813888 x) (x / 128 % 4294967296)) ≡ asks (ruleOf kind l)
+  pub turn-shift : (kind : ℕ) → kind ≡ 5 → x % 128 ≡ 0 → For (Shift (leb (2 ^ 39) x) (x / 128 % 2 ^ 32)) ≡ asks (ruleOf kind l)
   unfolding rowOf numberIn
   turn-shift kind k z =
       by-kind kind 5 l _ k
       (is-edit 5 l _
       (rule-good 5 _ refl l turn-values (x % 128) turn-sized (omega arith) turn-is z (omega arith, omega (arith, five), (omega arith, omega arith, tt))
-      ∙ ap (λ (t : Bool). some (Shift t (x / 128 % 4294967296))) direction))
+      ∙ ap (λ (t : Bool). some (Shift t (x / 128 % 2 ^ 32))) direction))
 
-  pub turn-rotate : (kind : ℕ) → kind ≡ 6 → x % 128 ≡ 0 → For (Rotate (leb 549755813888 x) (x / 128 % 4294967296)) ≡ asks (ruleOf kind l)
+  pub turn-rotate : (kind : ℕ) → kind ≡ 6 → x % 128 ≡ 0 → For (Rotate (leb (2 ^ 39) x) (x / 128 % 2 ^ 32)) ≡ asks (ruleOf kind l)
   unfolding rowOf numberIn
   turn-rotate kind k z =
       by-kind kind 6 l _ k
       (is-edit 6 l _
       (rule-good 6 _ refl l turn-values (x % 128) turn-sized (omega arith) turn-is z (omega arith, omega (arith, five), (omega arith, omega arith, tt))
-      ∙ ap (λ (t : Bool). some (Rotate t (x / 128 % 4294967296))) direction))
+      ∙ ap (λ (t : Bool). some (Rotate t (x / 128 % 2 ^ 32))) direction))
 
   size-sized : (x / 128 < 2 ^ 33) × Unit {0}
   size-sized = (omega (arith, five), tt)
@@ -200,11 +200,11 @@ module _ (l : List ℕ) (x : ℕ) (n : length l ≡ 5) (h : Is l x) where
   unfolding rowOf numberIn
   size-bad z = no-edit 7 l (rule-spoilt 7 _ refl l (x / 128 ∷ []) (x % 128) size-sized (omega arith) size-is z)
 
-  pub size-over : 4294967296 < x / 128 → Refused BadPayload ≡ asks (ruleOf 7 l)
+  pub size-over : 2 ^ 32 < x / 128 → Refused BadPayload ≡ asks (ruleOf 7 l)
   unfolding rowOf numberIn
   size-over z = no-edit 7 l (rule-over 7 _ refl l (x / 128 ∷ []) (x % 128) size-sized (omega arith) size-is (λ i. omega (arith, i .1)))
 
-  pub size-good : x % 128 ≡ 0 → x / 128 ≤ 4294967296 → For (Resize (x / 128)) ≡ asks (ruleOf 7 l)
+  pub size-good : x % 128 ≡ 0 → x / 128 ≤ 2 ^ 32 → For (Resize (x / 128)) ≡ asks (ruleOf 7 l)
   unfolding rowOf numberIn
   size-good z w = is-edit 7 l _ (rule-good 7 _ refl l (x / 128 ∷ []) (x % 128) size-sized (omega arith) size-is z (omega arith, w, tt))
 
@@ -216,27 +216,27 @@ module _ (l : List ℕ) (x : ℕ) (n : length l ≡ 8) (h : Is l x) (kind : ℕ)
 
   -- p and k
   abbrev pair-values : List ℕ
-  pair-values = x / 4294967296 ∷ x % 4294967296 ∷ []
+  pair-values = x / 2 ^ 32 ∷ x % 2 ^ 32 ∷ []
 
-  pair-sized : (x / 4294967296 < 2 ^ 32) × ((x % 4294967296 < 2 ^ 32) × Unit {0})
+  pair-sized : (x / 2 ^ 32 < 2 ^ 32) × ((x % 2 ^ 32 < 2 ^ 32) × Unit {0})
   pair-sized = (omega (arith, eight), (omega arith, tt))
 
-  pair-is : number l ≡ (x / 4294967296 * 2 ^ 32 + (x % 4294967296 * 2 ^ 0 + 0)) * 2 ^ 0 + 0
+  pair-is : number l ≡ (x / 2 ^ 32 * 2 ^ 32 + (x % 2 ^ 32 * 2 ^ 0 + 0)) * 2 ^ 0 + 0
   pair-is = sym (h .0) ∙ omega arith
 
-  pub pair-toggle : kind ≡ 9 → For (ToggleRegion (x / 4294967296) (x % 4294967296)) ≡ asks (ruleOf kind l)
+  pub pair-toggle : kind ≡ 9 → For (ToggleRegion (x / 2 ^ 32) (x % 2 ^ 32)) ≡ asks (ruleOf kind l)
   unfolding rowOf numberIn
   pair-toggle k =
       by-kind kind 9 l _ k
       (is-edit 9 l _ (rule-good 9 _ refl l pair-values 0 pair-sized (omega arith) pair-is refl (omega arith, omega (arith, eight), (omega arith, omega arith, tt))))
 
-  pub pair-open : kind ≡ 10 → For (Open (x / 4294967296) (x % 4294967296)) ≡ asks (ruleOf kind l)
+  pub pair-open : kind ≡ 10 → For (Open (x / 2 ^ 32) (x % 2 ^ 32)) ≡ asks (ruleOf kind l)
   unfolding rowOf numberIn
   pair-open k =
       by-kind kind 10 l _ k
       (is-edit 10 l _ (rule-good 10 _ refl l pair-values 0 pair-sized (omega arith) pair-is refl (omega arith, omega (arith, eight), (omega arith, omega arith, tt))))
 
-  pub pair-close : kind ≡ 11 → For (Close (x / 4294967296) (x % 4294967296)) ≡ asks (ruleOf kind l)
+  pub pair-close : kind ≡ 11 → For (Close (x / 2 ^ 32) (x % 2 ^ 32)) ≡ asks (ruleOf kind l)
   unfolding rowOf numberIn
   pair-close k =
       by-kind kind 11 l _ k

@@ -1,6 +1,12 @@
 // What a duty record asks for: its kind is looked up, and its payload read as an edit.
 //
 // A payload is read in parts of at most eight bytes; a field is cut out of one part, or put together from two.
+use sheet::AT_1;
+use sheet::AT_7;
+use sheet::AT_25;
+use sheet::AT_32;
+use sheet::AT_39;
+use sheet::AT_63;
 use sheet::Edit;
 use sheet::Known;
 use storage::Refusal;
@@ -51,12 +57,12 @@ fn region(payload: &[u8]) -> Asked
 {
     let b = number_of(&payload[..1]);
     let x = number_of(&payload[1..]);
-    if x % 128 != 0 {
+    if x % AT_7 != 0 {
         return Asked::Refused(Refusal::BadPayload);
     }
-    let p = b % 128 * 33_554_432 + x / 549_755_813_888;
-    let k = x / 128 % 4_294_967_296;
-    Asked::For(Edit::SetRegion(b >= 128, p, k))
+    let p = b % AT_7 * AT_25 + x / AT_39;
+    let k = x / AT_7 % AT_32;
+    Asked::For(Edit::SetRegion(b >= AT_7, p, k))
 }
 
 // Kind 4: p, the width and the value, then an unused bit.
@@ -67,14 +73,14 @@ fn field(payload: &[u8]) -> Asked
     let p = number_of(&payload[..4]);
     let b = number_of(&payload[4..5]);
     let x = number_of(&payload[5..]);
-    if x % 2 != 0 {
+    if x % AT_1 != 0 {
         return Asked::Refused(Refusal::BadPayload);
     }
-    if b / 2 > 64 {
+    if b / AT_1 > 64 {
         return Asked::Refused(Refusal::BadPayload);
     }
-    let value = b % 2 * 9_223_372_036_854_775_808 + x / 2;
-    Asked::For(Edit::SetField(p, b / 2, value as u64))
+    let value = b % AT_1 * AT_63 + x / AT_1;
+    Asked::For(Edit::SetField(p, b / AT_1, value as u64))
 }
 
 // Kinds 5 and 6: the direction and k, then 7 unused bits.
@@ -83,11 +89,11 @@ fn turn(kind: usize, payload: &[u8]) -> Asked
     ensures { λ r. ⌜ r ≡ asks (ruleOf kind (now (payload .entry))) ⌝ }
 {
     let x = number_of(payload);
-    if x % 128 != 0 {
+    if x % AT_7 != 0 {
         return Asked::Refused(Refusal::BadPayload);
     }
-    let right = x >= 549_755_813_888;
-    let k = x / 128 % 4_294_967_296;
+    let right = x >= AT_39;
+    let k = x / AT_7 % AT_32;
     if kind == 5 {
         return Asked::For(Edit::Shift(right, k));
     }
@@ -100,13 +106,13 @@ fn size(payload: &[u8]) -> Asked
     ensures { λ r. ⌜ r ≡ asks (ruleOf 7 (now (payload .entry))) ⌝ }
 {
     let x = number_of(payload);
-    if x % 128 != 0 {
+    if x % AT_7 != 0 {
         return Asked::Refused(Refusal::BadPayload);
     }
-    if x / 128 > sheet::MOST_BITS {
+    if x / AT_7 > sheet::MOST_BITS {
         return Asked::Refused(Refusal::BadPayload);
     }
-    Asked::For(Edit::Resize(x / 128))
+    Asked::For(Edit::Resize(x / AT_7))
 }
 
 // Kinds 9, 10 and 11: p and k.
@@ -115,8 +121,8 @@ fn pair(kind: usize, payload: &[u8]) -> Asked
     ensures { λ r. ⌜ r ≡ asks (ruleOf kind (now (payload .entry))) ⌝ }
 {
     let x = number_of(payload);
-    let p = x / 4_294_967_296;
-    let k = x % 4_294_967_296;
+    let p = x / AT_32;
+    let k = x % AT_32;
     if kind == 9 {
         return Asked::For(Edit::ToggleRegion(p, k));
     }

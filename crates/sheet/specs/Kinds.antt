@@ -1,5 +1,5 @@
 -- The kinds of duty records (01, "The change sheet"): the table, what a payload asks for, and how an edit is laid out; both by the row.
-use Prim.Native.Nat.{ℕ, zero, suc, _+_, _*_, _^_, _/_, _%_}
+use Prim.Native.Nat.{ℕ, zero, suc, _+_, _*_, _-_, _^_, _/_, _%_}
 use mathlib.Core.Bool.{_&&_}
 use mathlib.Core.List.{List, [], _∷_}
 use mathlib.Core.Option.{Option, none, some}
@@ -26,9 +26,13 @@ pub record Row : Type 0 where
 abbrev pub row : List Field → ℕ → ℕ → (List ℕ → Edit) → Row
 row fs n s m = record { fields = fs; spare = n; since = s; make = m }
 
+-- the most bits of a resize
+abbrev pub mostBits : ℕ
+mostBits = 4_294_967_296
+
 -- a position or an amount, a truth value or a direction, a field's width and value, and a number of bits
 abbrev pub place : Field
-place = field 32 0 4_294_967_295
+place = field 32 0 (2 ^ 32 - 1)
 
 abbrev pub flag : Field
 flag = field 1 0 1
@@ -37,10 +41,10 @@ abbrev pub width : Field
 width = field 7 0 64
 
 abbrev pub word : Field
-word = field 64 0 18_446_744_073_709_551_615
+word = field 64 0 (2 ^ 64 - 1)
 
 abbrev pub size : Field
-size = field 33 0 4_294_967_296
+size = field 33 0 mostBits
 
 -- value i of a list, from 0 on
 abbrev pub nth : List ℕ → ℕ → ℕ

@@ -12,7 +12,7 @@ use Rattle.storage.specs.Refusals.{numberOf}
 use Rattle.storage.specs.declared.Refusal.{Refusal}
 use Rattle.storage.specs.declared.Refusal.the-variants.{CountOverStore, WidthOver, IndexOver, NoSpace, BadPayload, NewerKind}
 use Rattle.sheet.specs.Bytes.{bytes}
-use Rattle.sheet.specs.Kinds.{kindOf, payloadOf}
+use Rattle.sheet.specs.Kinds.{mostBits, kindOf, payloadOf}
 use Rattle.sheet.specs.Frames.{countIn, sheetFault}
 use Rattle.sheet.specs.declared.Fields.{Fields}
 use Rattle.sheet.specs.declared.Edit.{Edit}
@@ -53,7 +53,7 @@ makers =
     ∷ (λ f. choose (ltb 64 (f .width)) (bad WidthOver) (good (edit (SetField (f .p) (f .width) (f .value)))))
     ∷ (λ f. good (edit (Shift (f .flag) (f .k))))
     ∷ (λ f. good (edit (Rotate (f .flag) (f .k))))
-    ∷ (λ f. choose (ltb 4_294_967_296 (f .size)) (bad IndexOver) (good (edit (Resize (f .size)))))
+    ∷ (λ f. choose (ltb mostBits (f .size)) (bad IndexOver) (good (edit (Resize (f .size)))))
     ∷ (λ f. good (edit Reverse))
     ∷ (λ f. good (edit (ToggleRegion (f .p) (f .k))))
     ∷ (λ f. good (edit (Open (f .p) (f .k))))

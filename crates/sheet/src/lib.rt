@@ -16,6 +16,21 @@ pub const MOST_BITS: usize = 4_294_967_296;
 // The most records of a sheet, and the most bytes of a payload.
 pub const MOST: usize = 65_535;
 
+// The weight of a payload's field that has so many bits after it.
+pub const AT_1: usize = 1 << 1;
+
+pub const AT_7: usize = 1 << 7;
+
+pub const AT_8: usize = 1 << 8;
+
+pub const AT_25: usize = 1 << 25;
+
+pub const AT_32: usize = 1 << 32;
+
+pub const AT_39: usize = 1 << 39;
+
+pub const AT_63: usize = 1 << 63;
+
 // A kind of duty record: the bytes of its payload, and the first edition that has it.
 pub struct Kind {
     pub bytes: usize,

@@ -1,4 +1,11 @@
 // The writer of change sheets: a start, and a record at the end. Nothing is written before every check has passed.
+use sheet::AT_1;
+use sheet::AT_7;
+use sheet::AT_8;
+use sheet::AT_25;
+use sheet::AT_32;
+use sheet::AT_39;
+use sheet::AT_63;
 use sheet::Added;
 use sheet::Fields;
 use sheet::Known;
@@ -18,24 +25,9 @@ ghost use Rattle.sheet.specs.Plain.{Typed};
 ghost use Rattle.sheet.specs.Writer.{most, checkedOf, placedBy, duty, remark, Writes, Starts, Adds};
 ghost use Rattle.writer.specs.Kernels.{Given, orZero, partsOf, roomlessIn};
 
-// The weight of a field that has so many bits after it.
-const AT_1: u64 = 1 << 1;
-
-const AT_7: u64 = 1 << 7;
-
-const AT_8: u64 = 1 << 8;
-
-const AT_25: u64 = 1 << 25;
-
-const AT_32: u64 = 1 << 32;
-
-const AT_39: u64 = 1 << 39;
-
-const AT_63: u64 = 1 << 63;
-
 // A duty record's payload as one number, what is over 64 bits apart; or its refusal.
 enum Parts {
-    Are(u64, u64),
+    Are(usize, usize),
     Refused(Refusal),
 }
 
@@ -55,7 +47,7 @@ pub fn start(buffer: &mut [u8]) -> Added
 }
 
 // The n low bytes of x at a position.
-fn put(buffer: &mut [u8], at: usize, n: usize, x: u64)
+fn put(buffer: &mut [u8], at: usize, n: usize, x: usize)
     requires { do ⌜ at + n ≤ (← ⟦buffer.len()⟧) ⌝ }
     ensures { λ _. ⌜ now (buffer .exit) ≡ sets (now (buffer .entry)) at (bytes n x) ⌝ }
 {
@@ -69,7 +61,7 @@ fn put(buffer: &mut [u8], at: usize, n: usize, x: u64)
 }
 
 // The n low bytes of a number of two parts at a position.
-fn put_parts(buffer: &mut [u8], at: usize, n: usize, high: u64, low: u64)
+fn put_parts(buffer: &mut [u8], at: usize, n: usize, high: usize, low: usize)
     requires { do ⌜ at + n ≤ (← ⟦buffer.len()⟧) ⌝ }
     ensures { λ _. ⌜ now (buffer .exit) ≡ sets (now (buffer .entry)) at (bytes n (high * 2 ^ 64 + low)) ⌝ }
 {
@@ -91,7 +83,7 @@ fn copy(buffer: &mut [u8], at: usize, payload: &[u8])
 }
 
 // 1 for true.
-fn digit(flag: bool) -> u64
+fn digit(flag: bool) -> usize
     ensures { λ r. ⌜ (r ≡ val flag) × (r < 2) ⌝ }
 {
     if flag { 1 } else { 0 }
@@ -101,8 +93,8 @@ fn digit(flag: bool) -> u64
 fn payload_parts(kind: usize, f: Fields) -> Parts
     ensures { λ r. ⌜ r ≡ partsOf (checkedOf (duty kind f)) ⌝ }
 {
-    let p = f.p as u64;
-    let k = f.k as u64;
+    let p = f.p as usize;
+    let k = f.k as usize;
     let flag = digit(f.flag);
     match kind {
         1 | 2 => Parts::Are(0, p),
@@ -111,18 +103,15 @@ fn payload_parts(kind: usize, f: Fields) -> Parts
             if f.width > 64 {
                 return Parts::Refused(Refusal::WidthOver);
             }
-            let v = f.value;
-            Parts::Are(
-                p * AT_8 + f.width as u64 * AT_1 + v / AT_63,
-                v % AT_63 * AT_1,
-            )
+            let v = f.value as usize;
+            Parts::Are(p * AT_8 + f.width * AT_1 + v / AT_63, v % AT_63 * AT_1)
         }
         5 | 6 => Parts::Are(0, flag * AT_39 + k * AT_7),
         7 => {
             if f.size > sheet::MOST_BITS {
                 return Parts::Refused(Refusal::IndexOver);
             }
-            Parts::Are(0, f.size as u64 * AT_7)
+            Parts::Are(0, f.size * AT_7)
         }
         8 => Parts::Are(0, 0),
         9..=11 => Parts::Are(0, p * AT_32 + k),
@@ -158,9 +147,9 @@ fn put_head(buffer: &mut [u8], length: usize, first: usize, n: usize)
     ensures { λ _. ⌜ now (buffer .exit) ≡ sets (sets (now (buffer .entry)) 2 (bytes 2 (countIn (now (buffer .entry)) + 1))) length (first ∷ bytes 2 n) ⌝ }
 {
     let count = frames::record_count(buffer);
-    put(buffer, 2, 2, (count + 1) as u64);
+    put(buffer, 2, 2, count + 1);
     buffer[length] = first as u8;
-    put(buffer, length + 1, 2, n as u64);
+    put(buffer, length + 1, 2, n);
 }
 
 // A remark at the end of the sheet.

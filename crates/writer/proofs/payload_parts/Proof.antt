@@ -34,38 +34,38 @@ returns c = gets-3 _ _ (omega arith) (omega arith)
 mul-t17 : tie.Need-mul-t17
 mul-t17 c = search needs
 
-mul-t19 : tie.Need-mul-t19
-mul-t19 c = search needs
+mul-t18 : tie.Need-mul-t18
+mul-t18 c = search needs
 
-add-t20 : tie.Need-add-t20
-add-t20 c = search needs
+add-t19 : tie.Need-add-t19
+add-t19 c = search needs
 
-add-t22 : tie.Need-add-t22
-add-t22 c = search needs
+add-t21 : tie.Need-add-t21
+add-t21 c = search needs
 
-mul-t24 : tie.Need-mul-t24
-mul-t24 c = search needs
+mul-t23 : tie.Need-mul-t23
+mul-t23 c = search needs
 
 returns-2 : tie.Need-returns-2
 returns-2 c = gets-4 _ _ (omega arith) (omega arith)
 
+mul-t26 : tie.Need-mul-t26
+mul-t26 c = search needs
+
 mul-t28 : tie.Need-mul-t28
 mul-t28 c = search needs
 
-mul-t30 : tie.Need-mul-t30
-mul-t30 c = search needs
+mul-t29 : tie.Need-mul-t29
+mul-t29 c = search needs
+
+add-t30 : tie.Need-add-t30
+add-t30 c = search needs
 
 mul-t31 : tie.Need-mul-t31
 mul-t31 c = search needs
 
 add-t32 : tie.Need-add-t32
 add-t32 c = search needs
-
-mul-t33 : tie.Need-mul-t33
-mul-t33 c = search needs
-
-add-t34 : tie.Need-add-t34
-add-t34 c = search needs
 
 returns-3 : tie.Need-returns-3
 returns-3 c = gets-region _ _ (c .before .digit .ensures .0) (omega arith) (omega arith) _ (omega arith) (omega arith)
@@ -108,17 +108,17 @@ payload-parts-spec =
     add-t14
     returns
     mul-t17
-    mul-t19
-    add-t20
-    add-t22
-    mul-t24
+    mul-t18
+    add-t19
+    add-t21
+    mul-t23
     returns-2
+    mul-t26
     mul-t28
-    mul-t30
+    mul-t29
+    add-t30
     mul-t31
     add-t32
-    mul-t33
-    add-t34
     returns-3
     returns-4
     returns-5
