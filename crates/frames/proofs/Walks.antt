@@ -1,11 +1,11 @@
 -- The walk over the frames of a sheet. Assumes nothing.
-use Prim.Native.Nat.{ℕ, suc, _+_, _*_, _-_, _≤_, _<_}
+use Prim.Native.Nat.{ℕ, suc, _+_, _-_, _≤_, _<_}
 use mathlib.Core.Path.{_≡_, sym, ap, _∙_}
 use mathlib.Core.Bool.{true, false}
 use mathlib.Core.List.{List}
 use mathlib.Core.Option.{none, some}
 use native.Mathlib.Omega.{arith}
-use lib.ListN.{length, getD}
+use lib.ListN.{length}
 use lib.Dec.{ltb}
 use borrow.Author.Tests.{le-leb, lt-leb, lt-ltb, le-ltb}
 use Rattle.word.specs.Sets.{choose}
@@ -13,7 +13,7 @@ use Rattle.word.proofs.Cases.{by-lt}
 use Rattle.storage.specs.declared.Refusal.the-variants.{NotSheet, CutRecord, BytesRemain}
 use Rattle.storage.specs.declared.Guard.{Guard}
 use Rattle.storage.specs.declared.Guard.the-variants.{Pass, Stop}
-use Rattle.sheet.specs.Frames.{headed, countIn, sizeAt, endAt, framesFault, sheetFault}
+use Rattle.sheet.specs.Frames.{headed, countIn, endAt, framesFault, sheetFault}
 use Rattle.sheet.proofs.Turns.{take-true, take-false}
 use Rattle.frames.specs.Frames.{endIn, guardBy}
 
@@ -25,20 +25,6 @@ module _ (s : List ℕ) (at : ℕ) where
   pub whole : endAt s at ≤ length s → endAt s at ≡ endIn s at
   unfolding endIn
   whole h = sym (take-true (endAt s at) 0 (le-leb (endAt s at) (length s) h))
-
-  module _ (left : ℕ) (is : left ≡ length s - at) where
-    pub end-short : left < 3 → 0 ≡ endIn s at
-    end-short h = torn (omega arith)
-
-    module _ (r : ℕ) (l : 3 ≤ left) (e : r ≡ getD s (at + 1) 0 * 256 + getD s (at + 1 + 1) 0) where
-      same-size : r ≡ sizeAt s at
-      same-size = let p : at + 1 + 1 ≡ at + 2 = omega arith in rw p at e
-
-      pub end-past : left - 3 < r → 0 ≡ endIn s at
-      end-past h = torn (omega (arith, same-size))
-
-      pub end-here : r ≤ left - 3 → at + 3 + r ≡ endIn s at
-      end-here h = ap (λ (x : ℕ). at + 3 + x) same-size ∙ whole (omega (arith, same-size))
 
   -- what an end that is not 0, and one that is, tells
   pub told-whole : (e : ℕ) → e ≡ endIn s at → (e ≡ 0 → ⊥) → (e ≡ endAt s at) × (e ≤ length s)

@@ -2,10 +2,9 @@
 use storage::Guard;
 use storage::Refusal;
 ghost use mathlib.Core.Path.{_≡_};
-ghost use Prim.Native.Nat.{_+_, _*_, _≤_, _<_};
-ghost use lib.ListN.{length, getD};
+ghost use Prim.Native.Nat.{_≤_, _<_};
+ghost use lib.ListN.{getD};
 ghost use Rattle.sheet.specs.Frames.{headed, countIn, framesFault, sheetFault};
-ghost use Rattle.sheet.specs.Writer.{most};
 ghost use Rattle.frames.specs.Frames.{endIn, guardBy};
 
 // The byte at a place, 0 past the end.
@@ -16,14 +15,6 @@ fn byte_at(bytes: &[u8], at: usize) -> usize
         return bytes[at] as usize;
     }
     0
-}
-
-// The number in the two bytes at a place.
-fn pair(bytes: &[u8], at: usize) -> usize
-    requires { do ⌜ at ≤ (← ⟦bytes.len()⟧) + 2 ⌝ }
-    ensures { λ r. ⌜ (r ≡ getD (now (bytes .entry)) at 0 * 256 + getD (now (bytes .entry)) (at + 1) 0) × (r ≤ most) ⌝ }
-{
-    byte_at(bytes, at) * 256 + byte_at(bytes, at + 1)
 }
 
 // Whether there are four bytes, the letters first.
@@ -44,19 +35,22 @@ pub fn has_head(sheet: &[u8]) -> bool
 pub fn record_count(sheet: &[u8]) -> usize
     ensures { λ r. ⌜ r ≡ countIn (now (sheet .entry)) ⌝ }
 {
-    pair(sheet, 2)
+    byte_at(sheet, 2) * 256 + byte_at(sheet, 3)
 }
 
 // Where the record at a place ends, 0 where the sheet ends before.
 pub fn record_end(sheet: &[u8], at: usize) -> usize
     ensures { λ r. ⌜ r ≡ endIn (now (sheet .entry)) at ⌝ }
 {
-    let left = word::saturating_sub(sheet.len(), at);
-    if left < 3 {
+    if sheet.len() < 3 {
         return 0;
     }
-    let n = pair(sheet, at + 1);
-    if left - 3 < n {
+    let last = sheet.len() - 3;
+    if at > last {
+        return 0;
+    }
+    let n = sheet[at + 1] as usize * 256 + sheet[at + 2] as usize;
+    if last - at < n {
         return 0;
     }
     at + 3 + n

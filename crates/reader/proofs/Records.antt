@@ -97,7 +97,8 @@ module _ (edition : ℕ) (sheet : List ℕ) (n : ℕ) (ws₀ : List ℕ) (n₀ :
 
   module _ (ws : List ℕ) (m i at : ℕ) (g : Going ws m i at) (more : i < n) where
     unrolled : whole
-        ≡ choose (leb (endAt sheet at) (length sheet)) (then E (records E sheet (n - (i + 1)) (suc i) (endAt sheet at)) (suc i) (act E (suc i) (itemAt sheet at) (view ws m))) (refused CutRecord (suc i))
+        ≡ choose (leb (endAt sheet at) (length sheet))
+        (then E (records E sheet (n - (i + 1)) (suc i) (endAt sheet at)) (suc i) (act E (suc i) (itemAt sheet at) (view ws m))) (refused CutRecord (suc i))
     unfolding records
     unrolled = g .decides ∙ ap (λ (x : ℕ). records E sheet x i at (view ws m)) (let e : n - i ≡ suc (n - (i + 1)) = omega arith in e)
 

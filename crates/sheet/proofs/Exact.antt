@@ -14,10 +14,12 @@ use Rattle.storage.specs.declared.Refusal.the-variants.{NotSheet, CutRecord, By
 use Rattle.storage.proofs.Promises.{each-number-once}
 use Rattle.sheet.specs.Frames.{Item, endAt}
 use Rattle.sheet.specs.Reader.{Edition, Answer, refused, done, Turn, stop, next, act, then, records, copied, read}
-use Rattle.sheet.specs.Meaning.{Header, total, start, Whole, onward, Asks, effect, Sound, begin, Reached, AtRecord, Newer, Bad, Fails, Applies, not-sheet, unfit, cut, newer, bad, fails, remain, Due}
+use Rattle.sheet.specs.Meaning.{Header, total, start, Whole, onward, Asks, effect, Sound, begin, Reached, AtRecord}
+use Rattle.sheet.specs.Meaning.{Newer, Bad, Fails, Applies, not-sheet, unfit, cut, newer, bad, fails, remain, Due}
 use Rattle.sheet.specs.Promises.{ReadExact}
 use Rattle.sheet.proofs.Stands.{stands, stands-whole, stands-is, asks, asked, item, Fine, sound-more, Less, sound-less}
-use Rattle.sheet.proofs.Turns.{none-some, stop-next, next-inj, take-true, take-false, header?, headed-true, headed-false, listed, editOf, edit-known, does, effect-append, Did, went, lacked, spoilt, failed, did, act-did, record-whole, record-cut, all-read, bytes-left, edit}
+use Rattle.sheet.proofs.Turns.{none-some, stop-next, next-inj, take-true, take-false, header?, headed-true, headed-false, listed, edit, editOf, edit-known}
+use Rattle.sheet.proofs.Turns.{does, effect-append, Did, went, lacked, spoilt, failed, did, act-did, record-whole, record-cut, all-read, bytes-left}
 
 module _ {A S : Type 0} (E : Edition A S) (sheet : List ℕ) where
   -- the first i records are sound and applied, and make s of s₀
@@ -133,7 +135,8 @@ module _ {A S : Type 0} (E : Edition A S) (sheet : List ℕ) where
     unfolding read
     read-copied i h = take-true _ _ (headed-true sheet (h .headed)) ∙ ap (copied E sheet) (h .fits)
 
-    stops : (P : S → ℕ → Type 0) (k : ℕ) (a : AtRecord E sheet old k P) (e : Refusal) → Whole sheet (a .index) → Did E (suc (a .index)) (a .reached .state) (item E sheet (a .index)) (stop e) → read E sheet old ≡ refused e k
+    stops : (P : S → ℕ → Type 0) (k : ℕ) (a : AtRecord E sheet old k P) (e : Refusal) → Whole sheet (a .index)
+        → Did E (suc (a .index)) (a .reached .state) (item E sheet (a .index)) (stop e) → read E sheet old ≡ refused e k
     stops P k a e w d =
         let n : ℕ = total sheet - suc (a .index) in
         let l = a .within in

@@ -16,7 +16,8 @@ use Rattle.word.specs.Bits.{isOne}
 use Rattle.word.proofs.Cases.{by-lt, and-true}
 use Rattle.sheet.specs.Bytes.{number, bytes}
 use Rattle.sheet.specs.Layout.{Field, widths, packed, unpacked, inRange, InRange}
-use Rattle.sheet.specs.Kinds.{Row, place, flag, width, word, size, nth, table, bytesIn, valuesIn, numberIn, parse, rowOf, sizeBy, sizeIn, parseBy, ruleOf, kindOf, fieldsOf, numberBy, numbered, bytesBy, fieldsBy, payloadOf, Ranged}
+use Rattle.sheet.specs.Kinds.{Row, place, flag, width, word, size, nth, table, bytesIn, valuesIn, numberIn, parse, rowOf, sizeBy, sizeIn, parseBy, ruleOf}
+use Rattle.sheet.specs.Kinds.{kindOf, fieldsOf, numberBy, numbered, bytesBy, fieldsBy, payloadOf, Ranged}
 use Rattle.sheet.specs.Meaning.{Asks}
 use Rattle.sheet.specs.Reads.{latest, editionOf}
 use Rattle.sheet.specs.Frames.{Item}

@@ -353,7 +353,8 @@ keeps-meaning e f ge gf l sheet ws m res₁ res₂ size words r₁ r₂ res₁' 
     Ends = (Alike r₁ r₂ × (res₁' ≡ res₂')) ⊎ ((readingNumber r₁ ≡ 13) × NamesNewer e sheet ws m c (readingRecord r₁))
 
     compare : Passes e ws m c
-        → (earlier ≡ read (editionOf c f) sheet (fitting c (view ws m))) ⊎ ((why : Refusal) × (k : ℕ) × (earlier ≡ refused why k) × (numberOf why ≡ 13) × AtRecord (editionOf c e) sheet (fitting c (view ws m)) k (Newer (editionOf c e) sheet))
+        → (earlier ≡ read (editionOf c f) sheet (fitting c (view ws m)))
+        ⊎ ((why : Refusal) × (k : ℕ) × (earlier ≡ refused why k) × (numberOf why ≡ 13) × AtRecord (editionOf c e) sheet (fitting c (view ws m)) k (Newer (editionOf c e) sheet))
         → Ends
     compare p (inl q) =
         let same : r₁ ≡ r₂ = answered p ∙ ap (λ (x : Answer Bits). readAnswer (went x)) q ∙ sym (h₂ .answers ∙ ap readAnswer (second p)) in

@@ -172,7 +172,8 @@ module _ {A S : Type 0} (E : Edition A S) where
   -- ---- the records in order
 
   module _ (sheet : List ℕ) where
-    pub record-whole : (n i at : ℕ) (s : S) → endAt sheet at ≤ length sheet → records E sheet (suc n) i at s ≡ then E (records E sheet n (suc i) (endAt sheet at)) (suc i) (act E (suc i) (itemAt sheet at) s)
+    pub record-whole : (n i at : ℕ) (s : S) → endAt sheet at ≤ length sheet
+        → records E sheet (suc n) i at s ≡ then E (records E sheet n (suc i) (endAt sheet at)) (suc i) (act E (suc i) (itemAt sheet at) s)
     unfolding records
     record-whole n i at s w = take-true _ _ (le-leb (endAt sheet at) (length sheet) w)
 

@@ -5,7 +5,6 @@ use mathlib.Core.List.{List}
 use mathlib.Core.Option.{Option, none, some}
 use lib.ListN.{length}
 use lib.Dec.{leb, ltb}
-use Rattle.word.specs.Sets.{choose}
 use Rattle.sheet.specs.Kinds.{numbered}
 use Rattle.sheet.specs.Frames.{countIn}
 use Rattle.sheet.specs.Writer.{most, Checked, bad, good, edit, note}

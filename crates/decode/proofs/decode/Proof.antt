@@ -33,10 +33,14 @@ size-requires : tie.Need-size-requires
 size-requires c κs = omega (arith, of-kind (c .before .before .before .before .before .before .args .kind) 7 5 of-size (omega arith))
 
 returns-5 : tie.Need-returns-5
-returns-5 c = as-kind (c .before .before .before .before .before .before .before .args .kind) 7 (c .before .before .before .before .before .before .before .args .payload .now) (c .size .result) (omega arith) (c .size .ensures)
+returns-5 c =
+    let a = c .before .before .before .before .before .before .before .args in
+    as-kind (a .kind) 7 (a .payload .now) (c .size .result) (omega arith) (c .size .ensures)
 
 returns-6 : tie.Need-returns-6
-returns-6 c = just-reverse (c .before .before .before .before .before .before .before .args .kind) (c .before .before .before .before .before .before .before .args .payload .now) (omega (arith, of-kind (c .before .before .before .before .before .before .before .args .kind) 8 0 of-reverse (omega arith))) (omega arith)
+returns-6 c =
+    let a = c .before .before .before .before .before .before .before .args in
+    just-reverse (a .kind) (a .payload .now) (omega (arith, of-kind (a .kind) 8 0 of-reverse (omega arith))) (omega arith)
 
 pair-requires : tie.Need-pair-requires
 pair-requires c κs = omega (arith, of-pair (c .before .before .before .before .before .before .before .args .kind) (omega arith) (omega arith))

@@ -15,16 +15,27 @@ enum-known-n : tie.Need-enum-known-n
 enum-known-n c = search needs
 
 returns : tie.Need-returns
-returns c = asked-long (c .before .before .before .before .before .before .args .edition) (c .before .before .before .before .before .before .args .kind) (c .before .before .before .before .before .before .args .payload .now) (c .before .before .n .given .0 .0) (sym (c .before .before .n .given .1) ∙ c .before .before .before .before .payload-bytes .ensures) (omega arith)
+returns c =
+    let a = c .before .before .before .before .before .before .args in
+    asked-long (a .edition) (a .kind) (a .payload .now) (c .before .before .n .given .0 .0)
+    (sym (c .before .before .n .given .1) ∙ c .before .before .before .before .payload-bytes .ensures) (omega arith)
 
 decode-requires : tie.Need-decode-requires
-decode-requires c κs = let h = held (c .before .before .before .before .before .before .args .edition) (c .before .before .before .before .before .before .args .kind) (c .before .before .n .given .0 .0) (sym (c .before .before .n .given .1) ∙ c .before .before .before .before .payload-bytes .ensures) in (omega (arith, h .bytes), h .low, h .high)
+decode-requires c κs =
+    let a = c .before .before .before .before .before .before .args in
+    let h = held (a .edition) (a .kind) (c .before .before .n .given .0 .0) (sym (c .before .before .n .given .1) ∙ c .before .before .before .before .payload-bytes .ensures) in
+    (omega (arith, h .bytes), h .low, h .high)
 
 returns-2 : tie.Need-returns-2
-returns-2 c = asked-newer (c .before .before .before .before .args .edition) (c .before .before .before .before .args .kind) (c .before .before .before .before .args .payload .now) (sym (c .enum-told .given .1) ∙ c .before .before .payload-bytes .ensures)
+returns-2 c =
+    let a = c .before .before .before .before .args in
+    asked-newer (a .edition) (a .kind) (a .payload .now) (sym (c .enum-told .given .1) ∙ c .before .before .payload-bytes .ensures)
 
 returns-3 : tie.Need-returns-3
-returns-3 c = asked-edit (c .before .before .before .before .before .before .before .args .edition) (c .before .before .before .before .before .before .before .args .kind) (c .before .before .before .before .before .before .before .args .payload .now) (c .before .before .before .n .given .0 .0) (sym (c .before .before .before .n .given .1) ∙ c .before .before .before .before .before .payload-bytes .ensures) (c .decode .result) (omega arith) (c .decode .ensures)
+returns-3 c =
+    let a = c .before .before .before .before .before .before .before .args in
+    asked-edit (a .edition) (a .kind) (a .payload .now) (c .before .before .before .n .given .0 .0)
+    (sym (c .before .before .before .n .given .1) ∙ c .before .before .before .before .before .payload-bytes .ensures) (c .decode .result) (omega arith) (c .decode .ensures)
 
 pub edit-of-spec : {M : Type 1} → statement M
 edit-of-spec =

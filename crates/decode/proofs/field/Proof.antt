@@ -37,19 +37,39 @@ number-of-requires-3 : tie.Need-number-of-requires-3
 number-of-requires-3 c κs = search needs
 
 returns : tie.Need-returns
-returns c = field-odd (c .before .before .before .before .before .before .before .before .args .payload .now) (c .before .before .before .before .before .number-of .result) (c .before .before .before .number-of2 .result) (c .before .number-of3 .result) (omega arith) (c .before .before .before .before .before .number-of .ensures) (c .before .before .before .number-of2 .ensures) (rest 5 (c .before .before .before .before .before .before .before .before .args .payload .now) (c .before .number-of3 .result) (c .before .number-of3 .ensures)) (omega arith)
+returns c =
+    let l = c .before .before .before .before .before .before .before .before .args .payload .now in
+    let p = c .before .before .before .before .before .number-of in
+    let b = c .before .before .before .number-of2 in
+    let x = c .before .number-of3 in
+    field-odd l (p .result) (b .result) (x .result) (omega arith) (p .ensures) (b .ensures) (rest 5 l (x .result) (x .ensures)) (omega arith)
 
 returns-2 : tie.Need-returns-2
-returns-2 c = field-wide (c .before .before .before .before .before .before .before .before .before .args .payload .now) (c .before .before .before .before .before .before .number-of .result) (c .before .before .before .before .number-of2 .result) (c .before .before .number-of3 .result) (omega arith) (c .before .before .before .before .before .before .number-of .ensures) (c .before .before .before .before .number-of2 .ensures) (rest 5 (c .before .before .before .before .before .before .before .before .before .args .payload .now) (c .before .before .number-of3 .result) (c .before .before .number-of3 .ensures)) (omega arith)
+returns-2 c =
+    let l = c .before .before .before .before .before .before .before .before .before .args .payload .now in
+    let p = c .before .before .before .before .before .before .number-of in
+    let b = c .before .before .before .before .number-of2 in
+    let x = c .before .before .number-of3 in
+    field-wide l (p .result) (b .result) (x .result) (omega arith) (p .ensures) (b .ensures) (rest 5 l (x .result) (x .ensures)) (omega arith)
 
 mul-value : tie.Need-mul-value
 mul-value c = search needs
 
 add-value : tie.Need-add-value
-add-value c = record { fits = value-fits (c .before .before .before .before .before .before .before .before .before .args .payload .now) (c .before .before .before .before .before .before .number-of .result) (c .before .before .before .before .number-of2 .result) (c .before .before .number-of3 .result) (omega arith) (c .before .before .before .before .before .before .number-of .ensures) (c .before .before .before .before .number-of2 .ensures) (rest 5 (c .before .before .before .before .before .before .before .before .before .args .payload .now) (c .before .before .number-of3 .result) (c .before .before .number-of3 .ensures)) }
+add-value c =
+    let l = c .before .before .before .before .before .before .before .before .before .args .payload .now in
+    let p = c .before .before .before .before .before .before .number-of in
+    let b = c .before .before .before .before .number-of2 in
+    let x = c .before .before .number-of3 in
+    record { fits = value-fits l (p .result) (b .result) (x .result) (omega arith) (p .ensures) (b .ensures) (rest 5 l (x .result) (x .ensures)) }
 
 returns-3 : tie.Need-returns-3
-returns-3 c = field-good (c .before .before .before .before .before .before .before .before .before .args .payload .now) (c .before .before .before .before .before .before .number-of .result) (c .before .before .before .before .number-of2 .result) (c .before .before .number-of3 .result) (omega arith) (c .before .before .before .before .before .before .number-of .ensures) (c .before .before .before .before .number-of2 .ensures) (rest 5 (c .before .before .before .before .before .before .before .before .before .args .payload .now) (c .before .before .number-of3 .result) (c .before .before .number-of3 .ensures)) (omega arith) (omega arith)
+returns-3 c =
+    let l = c .before .before .before .before .before .before .before .before .before .args .payload .now in
+    let p = c .before .before .before .before .before .before .number-of in
+    let b = c .before .before .before .before .number-of2 in
+    let x = c .before .before .number-of3 in
+    field-good l (p .result) (b .result) (x .result) (omega arith) (p .ensures) (b .ensures) (rest 5 l (x .result) (x .ensures)) (omega arith) (omega arith)
 
 pub field-spec : {M : Type 1} → statement M
 field-spec =

@@ -26,7 +26,10 @@ cast-x : tie.Need-cast-x Inv-loop μ-loop
 cast-x c = omega (arith, c .shared-slice-known .given (c .before .before .loop .i))
 
 add-x : tie.Need-add-x Inv-loop μ-loop
-add-x c = let l = c .before .before .loop in omega (arith, fits-word (l .x) (getD (c .before .before .before .args .bytes .now) (l .i) 0) (l .i) (l .inv .small) (omega (arith, c .shared-slice-known .given (l .i))) (omega arith))
+add-x c =
+    let l = c .before .before .loop in
+    let b = getD (c .before .before .before .args .bytes .now) (l .i) 0 in
+    omega (arith, fits-word (l .x) b (l .i) (l .inv .small) (omega (arith, c .shared-slice-known .given (l .i))) (omega arith))
 
 add-i : tie.Need-add-i Inv-loop μ-loop
 add-i c = omega arith
@@ -35,7 +38,9 @@ loop-less : tie.Need-loop-less Inv-loop μ-loop
 loop-less c = omega arith
 
 loop-again : tie.Need-loop-again Inv-loop μ-loop
-loop-again c = let l = c .before .before .loop in read-more (c .before .before .before .args .bytes .now) (l .i) (l .x) _ (l .inv) (omega arith) refl (omega (arith, c .shared-slice-known .given (l .i)))
+loop-again c =
+    let l = c .before .before .loop in
+    read-more (c .before .before .before .args .bytes .now) (l .i) (l .x) _ (l .inv) (omega arith) refl (omega (arith, c .shared-slice-known .given (l .i)))
 
 returns : tie.Need-returns Inv-loop μ-loop
 returns c = let l = c .before .loop in read-all (c .before .before .args .bytes .now) (l .i) (l .x) (l .inv) (omega arith)

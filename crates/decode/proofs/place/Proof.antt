@@ -8,10 +8,16 @@ number-of-requires : tie.Need-number-of-requires
 number-of-requires c κs = search needs
 
 returns : tie.Need-returns
-returns c = place-set (c .before .before .before .args .kind) (c .before .before .before .args .payload .now) (c .before .number-of .result) (omega arith) (c .before .number-of .ensures) (omega arith)
+returns c =
+    let a = c .before .before .before .args in
+    let p = c .before .number-of in
+    place-set (a .kind) (a .payload .now) (p .result) (omega arith) (p .ensures) (omega arith)
 
 returns-2 : tie.Need-returns-2
-returns-2 c = place-unset (c .before .before .before .args .kind) (c .before .before .before .args .payload .now) (c .before .number-of .result) (omega arith) (c .before .number-of .ensures) (omega arith)
+returns-2 c =
+    let a = c .before .before .before .args in
+    let p = c .before .number-of in
+    place-unset (a .kind) (a .payload .now) (p .result) (omega arith) (p .ensures) (omega arith)
 
 pub place-spec : {M : Type 1} → statement M
 place-spec = tie.close (tie.spec number-of-requires returns returns-2)

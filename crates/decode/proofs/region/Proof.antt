@@ -25,7 +25,11 @@ number-of-requires-2 : tie.Need-number-of-requires-2
 number-of-requires-2 c κs = search needs
 
 returns : tie.Need-returns
-returns c = region-bad (c .before .before .before .before .before .before .args .payload .now) (c .before .before .before .number-of .result) (c .before .number-of2 .result) (omega arith) (c .before .before .before .number-of .ensures) (rest 1 (c .before .before .before .before .before .before .args .payload .now) (c .before .number-of2 .result) (c .before .number-of2 .ensures)) (omega arith)
+returns c =
+    let l = c .before .before .before .before .before .before .args .payload .now in
+    let b = c .before .before .before .number-of in
+    let x = c .before .number-of2 in
+    region-bad l (b .result) (x .result) (omega arith) (b .ensures) (rest 1 l (x .result) (x .ensures)) (omega arith)
 
 mul-p : tie.Need-mul-p
 mul-p c = search needs
@@ -34,7 +38,11 @@ add-p : tie.Need-add-p
 add-p c = search needs
 
 returns-2 : tie.Need-returns-2
-returns-2 c = region-good (c .before .before .before .before .before .before .args .payload .now) (c .before .before .before .number-of .result) (c .before .number-of2 .result) (omega arith) (c .before .before .before .number-of .ensures) (rest 1 (c .before .before .before .before .before .before .args .payload .now) (c .before .number-of2 .result) (c .before .number-of2 .ensures)) (omega arith)
+returns-2 c =
+    let l = c .before .before .before .before .before .before .args .payload .now in
+    let b = c .before .before .before .number-of in
+    let x = c .before .number-of2 in
+    region-good l (b .result) (x .result) (omega arith) (b .ensures) (rest 1 l (x .result) (x .ensures)) (omega arith)
 
 pub region-spec : {M : Type 1} → statement M
 region-spec =

@@ -17,7 +17,10 @@ records-fault-requires : tie.Need-records-fault-requires
 records-fault-requires c κs = let s = c .before .before .before .before .args .sheet .now in head-long s (told-yes s _ (c .before .before .has-head .ensures) (c .before .if1 .left))
 
 returns-2 : tie.Need-returns-2
-returns-2 c = header-good _ _ _ (told-yes (c .before .before .before .before .before .args .sheet .now) _ (c .before .before .before .has-head .ensures) (c .before .before .if1 .left)) (c .before .record-count .ensures) (c .records-fault .ensures)
+returns-2 c =
+    let s = c .before .before in
+    header-good _ _ _ (told-yes (s .before .before .before .args .sheet .now) _ (s .before .has-head .ensures) (s .if1 .left)) (c .before .record-count .ensures)
+    (c .records-fault .ensures)
 
 pub fault-spec : {M : Type 1} → statement M
 fault-spec =

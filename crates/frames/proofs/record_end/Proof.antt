@@ -1,23 +1,47 @@
+use Prim.Native.Nat.{_+_}
 use borrow.Author.Needs.{needs}
 use native.Mathlib.Omega.{arith}
-use Rattle.frames.proofs.Walks.{end-short, end-past, end-here}
+use Rattle.frames.proofs.Walks.{torn, whole}
 use Rattle.frames.proofs.record_end.Statement.{statement}
 use Rattle.frames.proofs.record_end.Tie as tie
 
-saturating-sub-requires : tie.Need-saturating-sub-requires
-saturating-sub-requires c κs = search needs
-
 returns : tie.Need-returns
-returns c = end-short _ _ _ (c .before .saturating-sub .ensures) (omega arith)
+returns c = torn _ _ (omega arith)
 
-add-pair : tie.Need-add-pair
-add-pair c = search needs
-
-pair-requires : tie.Need-pair-requires
-pair-requires c κs = search needs
+sub-last : tie.Need-sub-last
+sub-last c = search needs
 
 returns-2 : tie.Need-returns-2
-returns-2 c = end-past _ _ _ (c .before .before .before .saturating-sub .ensures) _ (omega arith) (c .before .pair .ensures .0) (omega arith)
+returns-2 c = torn _ _ (omega arith)
+
+add-n : tie.Need-add-n
+add-n c = search needs
+
+shared-slice-read-n : tie.Need-shared-slice-read-n
+shared-slice-read-n c = search needs
+
+cast-n : tie.Need-cast-n
+cast-n c = omega (arith, c .shared-slice-known .given (c .before .before .before .args .at + 1))
+
+mul-n : tie.Need-mul-n
+mul-n c = omega (arith, c .shared-slice-known .given (c .before .before .before .args .at + 1))
+
+add-n-2 : tie.Need-add-n-2
+add-n-2 c = search needs
+
+shared-slice-read-n-2 : tie.Need-shared-slice-read-n-2
+shared-slice-read-n-2 c = search needs
+
+cast-n-2 : tie.Need-cast-n-2
+cast-n-2 c = omega (arith, c .shared-slice-known2 .given (c .before .before .before .before .args .at + 2))
+
+add-n-3 : tie.Need-add-n-3
+add-n-3 c =
+    let at = c .before .before .before .before .args .at in
+    omega (arith, c .shared-slice-known2 .given (at + 1), c .shared-slice-known2 .given (at + 2))
+
+returns-3 : tie.Need-returns-3
+returns-3 c = torn _ _ (omega arith)
 
 add-result : tie.Need-add-result
 add-result c = search needs
@@ -25,18 +49,25 @@ add-result c = search needs
 add-result-2 : tie.Need-add-result-2
 add-result-2 c = search needs
 
-returns-3 : tie.Need-returns-3
-returns-3 c = end-here _ _ _ (c .before .before .before .saturating-sub .ensures) _ (omega arith) (c .before .pair .ensures .0) (omega arith)
+returns-4 : tie.Need-returns-4
+returns-4 c = whole _ _ (omega arith)
 
 pub record-end-spec : {M : Type 1} → statement M
 record-end-spec =
     tie.close
     (tie.spec
-    saturating-sub-requires
     returns
-    add-pair
-    pair-requires
+    sub-last
     returns-2
+    add-n
+    shared-slice-read-n
+    cast-n
+    mul-n
+    add-n-2
+    shared-slice-read-n-2
+    cast-n-2
+    add-n-3
+    returns-3
     add-result
     add-result-2
-    returns-3)
+    returns-4)

@@ -14,7 +14,10 @@ abbrev μ-loop : tie.MeasureT-loop
 μ-loop edition sheet n words₀ count₀ i₀ at₀ words count i at = n - i
 
 loop-holds : tie.Need-loop-holds Inv-loop μ-loop
-loop-holds c = let a = c .before .before .args in begins (a .edition) (a .sheet .now) (a .n) (a .words .now) (a .b .count) (c .before .before .pre .0) (λ k. omega (arith, c .slice-known .given k)) (c .before .before .pre .1)
+loop-holds c =
+    let a = c .before .before .args in
+    begins (a .edition) (a .sheet .now) (a .n) (a .words .now) (a .b .count) (c .before .before .pre .0) (λ k. omega (arith, c .slice-known .given k))
+    (c .before .before .pre .1)
 
 record-end-requires : tie.Need-record-end-requires Inv-loop μ-loop
 record-end-requires c κs = search needs
@@ -83,13 +86,21 @@ same-length-3 : tie.Need-same-length-3 Inv-loop μ-loop
 same-length-3 c = c .before .before .loop .inv .long
 
 returns-3 : tie.Need-returns-3 Inv-loop μ-loop
-returns-3 c = let l = c .before .before .loop in let a = c .before .before .before .before .before .args in came-refused _ _ _ _ _ (l .inv .long) (remain (a .edition) (a .sheet .now) (a .n) (a .words .now) (a .b .count) (l .words) (l .count) (l .i) (l .at) (l .inv) (omega arith) (omega arith))
+returns-3 c =
+    let l = c .before .before .loop in
+    let a = c .before .before .before .before .before .args in
+    came-refused _ _ _ _ _ (l .inv .long)
+    (remain (a .edition) (a .sheet .now) (a .n) (a .words .now) (a .b .count) (l .words) (l .count) (l .i) (l .at) (l .inv) (omega arith) (omega arith))
 
 same-length-4 : tie.Need-same-length-4 Inv-loop μ-loop
 same-length-4 c = c .before .before .loop .inv .long
 
 returns-4 : tie.Need-returns-4 Inv-loop μ-loop
-returns-4 c = let l = c .before .before .loop in let a = c .before .before .before .before .before .args in came-done _ _ _ _ _ (l .inv .long) (l .inv .fit) (l .inv .padded) (finished (a .edition) (a .sheet .now) (a .n) (a .words .now) (a .b .count) (l .words) (l .count) (l .i) (l .at) (l .inv) (omega arith) (omega arith))
+returns-4 c =
+    let l = c .before .before .loop in
+    let a = c .before .before .before .before .before .args in
+    came-done _ _ _ _ _ (l .inv .long) (l .inv .fit) (l .inv .padded)
+    (finished (a .edition) (a .sheet .now) (a .n) (a .words .now) (a .b .count) (l .words) (l .count) (l .i) (l .at) (l .inv) (omega arith) (omega arith))
 
 pub each-record-spec : {M : Type 1} → statement M
 each-record-spec =

@@ -37,7 +37,12 @@ same-length-2 : tie.Need-same-length-2
 same-length-2 c = search needs
 
 returns-3 : tie.Need-returns-3
-returns-3 c = (adds-duty _ _ (omega arith) _ (c .before .before .before .before .before .before .before .fault .ensures) (c .before .before .before .before .before .enum-told .given .1) _ _ _ _ _ _ (c .before .before .before .before .if2 .taken) (c .before .before .add-duty .ensures), (omega arith, omega arith, omega arith))
+returns-3 c = (
+  adds-duty _ _ (omega arith) _ (c .before .before .before .before .before .before .before .fault .ensures)
+      (c .before .before .before .before .before .enum-told .given .1) _ _ _ _ _ _ (c .before .before .before .before .if2 .taken)
+      (c .before .before .add-duty .ensures),
+  (omega arith, omega arith, omega arith),
+)
 
 add-remark-requires : tie.Need-add-remark-requires
 add-remark-requires c κs = adds-given _ _ (omega arith) _ (c .before .before .before .before .fault .ensures) (c .before .before .enum-told .given .1)
@@ -46,7 +51,12 @@ same-length-3 : tie.Need-same-length-3
 same-length-3 c = search needs
 
 returns-4 : tie.Need-returns-4
-returns-4 c = (adds-remark _ _ (omega arith) _ (c .before .before .before .before .before .before .before .fault .ensures) (c .before .before .before .before .before .enum-told .given .1) _ _ _ _ _ _ (c .before .before .before .before .if2 .left) (c .before .before .add-remark .ensures), (omega arith, omega arith, omega arith))
+returns-4 c = (
+  adds-remark _ _ (omega arith) _ (c .before .before .before .before .before .before .before .fault .ensures)
+      (c .before .before .before .before .before .enum-told .given .1) _ _ _ _ _ _ (c .before .before .before .before .if2 .left)
+      (c .before .before .add-remark .ensures),
+  (omega arith, omega arith, omega arith),
+)
 
 pub add-spec : {M : Type 1} → statement M
 add-spec =

@@ -19,19 +19,33 @@ payload-size-requires : tie.Need-payload-size-requires
 payload-size-requires c κs = search needs
 
 roomless-requires : tie.Need-roomless-requires
-roomless-requires c κs = let d = duty-good _ _ _ (c .before .before .before .before .before .payload-parts .ensures) _ _ _ (c .before .before .before .high .given .1) (c .before .payload-size .ensures) in (c .before .before .before .before .before .before .before .pre, omega (arith, d .small))
+roomless-requires c κs =
+    let s = c .before in
+    let d = duty-good _ _ _ (s .before .before .before .before .payload-parts .ensures) _ _ _ (s .before .before .high .given .1) (s .payload-size .ensures) in
+    (s .before .before .before .before .before .before .pre, omega (arith, d .small))
 
 same-length : tie.Need-same-length
 same-length c = search needs
 
 returns : tie.Need-returns
-returns c = let d = duty-good _ _ _ (c .before .before .before .before .before .before .before .payload-parts .ensures) _ _ _ (c .before .before .before .before .before .high .given .1) (c .before .before .before .payload-size .ensures) in by-good _ _ _ _ _ _ (d .asked) (refused _ _ _ _ _ _ (d .laid-out) _ (c .before .roomless .ensures) (c .if1 .taken))
+returns c =
+    let s = c .before .before .before in
+    let d = duty-good _ _ _ (s .before .before .before .before .payload-parts .ensures) _ _ _ (s .before .before .high .given .1) (s .payload-size .ensures) in
+    by-good _ _ _ _ _ _ (d .asked) (refused _ _ _ _ _ _ (d .laid-out) _ (c .before .roomless .ensures) (c .if1 .taken))
 
 add-put-head : tie.Need-add-put-head
-add-put-head c = let d = duty-good _ _ _ (c .before .before .before .before .before .before .before .before .payload-parts .ensures) _ _ _ (c .before .before .before .before .before .before .high .given .1) (c .before .before .before .before .payload-size .ensures) in omega (arith, d .kinds)
+add-put-head c =
+    let s = c .before .before .before .before in
+    let d = duty-good _ _ _ (s .before .before .before .before .payload-parts .ensures) _ _ _ (s .before .before .high .given .1) (s .payload-size .ensures) in
+    omega (arith, d .kinds)
 
 put-head-requires : tie.Need-put-head-requires
-put-head-requires c κs = let s = c .before in let d = duty-good _ _ _ (s .before .before .before .before .before .before .before .payload-parts .ensures) _ _ _ (s .before .before .before .before .before .high .given .1) (s .before .before .before .payload-size .ensures) in let r = room _ _ _ _ (s .before .roomless .ensures) (s .if1 .left) in (c .before .before .before .before .before .before .before .before .before .before .pre .headed, omega (arith, r .fits), omega (arith, d .kinds))
+put-head-requires c κs =
+    let l = c .before in
+    let s = l .before .before .before in
+    let d = duty-good _ _ _ (s .before .before .before .before .payload-parts .ensures) _ _ _ (s .before .before .high .given .1) (s .payload-size .ensures) in
+    let r = room _ _ _ _ (l .before .roomless .ensures) (l .if1 .left) in
+    (s .before .before .before .before .before .before .pre .headed, omega (arith, r .fits), omega (arith, d .kinds))
 
 add-put-parts : tie.Need-add-put-parts
 add-put-parts c = let s = c .before .before .before .before .before in let r = room _ _ _ _ (s .before .roomless .ensures) (s .if1 .left) in omega (arith, r .fits)
@@ -52,7 +66,13 @@ same-length-2 : tie.Need-same-length-2
 same-length-2 c = search needs
 
 returns-3 : tie.Need-returns-3
-returns-3 c = let s = c .before .before .before .before .before .before .before .before in let d = duty-good _ _ _ (s .before .before .before .before .before .before .before .payload-parts .ensures) _ _ _ (s .before .before .before .before .before .high .given .1) (s .before .before .before .payload-size .ensures) in by-good _ _ _ _ _ _ (d .asked) (done _ _ _ _ _ _ (d .laid-out) _ _ (room _ _ _ _ (s .before .roomless .ensures) (s .if1 .left)) (c .before .before .before .before .before .before .put-head .ensures) (c .before .before .put-parts .ensures))
+returns-3 c =
+    let l = c .before .before .before .before .before .before .before .before in
+    let s = l .before .before .before in
+    let d = duty-good _ _ _ (s .before .before .before .before .payload-parts .ensures) _ _ _ (s .before .before .high .given .1) (s .payload-size .ensures) in
+    by-good _ _ _ _ _ _ (d .asked)
+    (done _ _ _ _ _ _ (d .laid-out) _ _ (room _ _ _ _ (l .before .roomless .ensures) (l .if1 .left)) (c .before .before .before .before .before .before .put-head .ensures)
+    (c .before .before .put-parts .ensures))
 
 pub add-duty-spec : {M : Type 1} → statement M
 add-duty-spec =

@@ -21,7 +21,10 @@ returns-3 : tie.Need-returns-3
 returns-3 c = by-good _ _ _ _ _ _ (remark-good _ _ (omega arith) (omega arith)) (refused _ _ _ _ _ _ (remark-laid _ _) _ (c .before .roomless .ensures) (c .if3 .taken))
 
 put-head-requires : tie.Need-put-head-requires
-put-head-requires c κs = let s = c .before in let r = room _ _ _ _ (s .before .roomless .ensures) (s .if3 .left) in (c .before .before .before .before .before .before .before .before .pre .headed, omega (arith, r .fits), omega arith)
+put-head-requires c κs =
+    let s = c .before in
+    let r = room _ _ _ _ (s .before .roomless .ensures) (s .if3 .left) in
+    (s .before .before .before .before .before .before .before .pre .headed, omega (arith, r .fits), omega arith)
 
 add-copy : tie.Need-add-copy
 add-copy c = omega arith
@@ -39,7 +42,11 @@ same-length-2 : tie.Need-same-length-2
 same-length-2 c = search needs
 
 returns-4 : tie.Need-returns-4
-returns-4 c = let s = c .before .before .before .before .before .before .before .before in by-good _ _ _ _ _ _ (remark-good _ _ (omega arith) (omega arith)) (done _ _ _ _ _ _ (remark-laid _ _) _ _ (room _ _ _ _ (s .before .roomless .ensures) (s .if3 .left)) (c .before .before .before .before .before .before .put-head .ensures) (c .before .before .copy .ensures))
+returns-4 c =
+    let s = c .before .before .before .before .before .before .before .before in
+    by-good _ _ _ _ _ _ (remark-good _ _ (omega arith) (omega arith))
+    (done _ _ _ _ _ _ (remark-laid _ _) _ _ (room _ _ _ _ (s .before .roomless .ensures) (s .if3 .left)) (c .before .before .before .before .before .before .put-head .ensures)
+    (c .before .before .copy .ensures))
 
 pub add-remark-spec : {M : Type 1} → statement M
 add-remark-spec =

@@ -32,7 +32,9 @@ same-length : tie.Need-same-length
 same-length c = ap length (c .before .before .put2 .ensures) ∙ simp (length-sets, length-set) (ap length (c .before .before .before .before .before .before .put .ensures) ∙ simp length-sets)
 
 returns : tie.Need-returns
-returns c = put-head _ _ _ _ _ _ _ (c .before .before .before .before .before .before .before .before .record-count .ensures) (c .before .before .before .before .before .before .put .ensures) (c .before .before .put2 .ensures)
+returns c =
+    put-head _ _ _ _ _ _ _ (c .before .before .before .before .before .before .before .before .record-count .ensures) (c .before .before .before .before .before .before .put .ensures)
+    (c .before .before .put2 .ensures)
 
 pub put-head-spec : {M : Type 1} → statement M
 put-head-spec =

@@ -26,7 +26,9 @@ same-length : tie.Need-same-length
 same-length c = search needs
 
 returns : tie.Need-returns
-returns c = put-parts _ _ (omega arith) _ _ _ _ _ _ (c .before .before .before .before .before .before .before .before .max .ensures) (c .before .before .before .before .before .before .put .ensures) (c .before .before .put2 .ensures)
+returns c =
+    put-parts _ _ (omega arith) _ _ _ _ _ _ (c .before .before .before .before .before .before .before .before .max .ensures) (c .before .before .before .before .before .before .put .ensures)
+    (c .before .before .put2 .ensures)
 
 pub put-parts-spec : {M : Type 1} → statement M
 put-parts-spec =
