@@ -127,8 +127,7 @@ fn of_arch(op: Op, c: &Args) -> Out {
         "arch::select_u64" if x < c.z.count_ones() as usize => value(kernels::select_u64(c.z, x) as u64),
         "arch::select_u64" => value(64), // by rule: the Rust asks its caller for a bit of this rank
         "storage::grow" => filled(kernels::resize_zeroed(&c.a, x, y)),
-        _ if x > 67_108_864 => refused(1), // by rule: the Rust has no such test
-        _ if y > x => refused(2),
+        _ if y > x => refused(2), // by rule: the Rust has no such test
         _ => Out::default(),
     }
 }

@@ -5,44 +5,24 @@ use mathlib.Core.List.{List}
 use mathlib.Core.Logic.{inl, inr}
 use Prim.Native.Nat.{ℕ, zero, suc, _+_, _*_, _≤_, max}
 use native.Mathlib.Omega.{arith}
-use lib.ListN.{length}
 use lib.Dec.{eqb}
 use borrow.Author.Tests.{eqb-true, eqb-false}
 use Rattle.word.specs.Sets.{xorb, val, countBelow, Counted}
 use Rattle.word.proofs.Cases.{by-lt, by-test, and-true}
 use Rattle.word.proofs.Sets.{count-none, count-flat, count-empty, counts, counted}
-use Rattle.storage.specs.Refusals.{numberOf, guardNumber, numberNumber, numberValue, truthNumber, truthValue}
-use Rattle.storage.specs.Promises.{HandsNone, Hands, Tests, Guarded}
-use Rattle.storage.specs.Stores.{Bits, Bounded, checked, reading, view, size, combined, andNot}
-use Rattle.storage.specs.declared.Refusal.{Refusal}
-use Rattle.storage.specs.declared.Guard.the-variants.{Pass, Stop}
+use Rattle.storage.specs.Refusals.{numberNumber, numberValue, truthNumber, truthValue}
+use Rattle.storage.specs.Promises.{GuardedBoth, HandsNone, Hands, Tests}
+use Rattle.storage.specs.Stores.{Bits, Bounded, view, size, combined, andNot}
+use Rattle.storage.specs.declared.Bitmap.{Bitmap}
 use Rattle.storage.specs.declared.Number.{Number}
 use Rattle.storage.specs.declared.Number.the-variants.{Is, Refused}
 use Rattle.storage.specs.declared.Truth.{Truth}
 use Rattle.storage.specs.declared.Truth.the-variants.{Is, Refused}
 use Rattle.storage.proofs.Outcomes.{bounded-combined}
-use Rattle.storage.proofs.Promises.{guarded, guarded-map, reading-means}
+use Rattle.storage.proofs.Promises.{guarded-map, both-means}
 use Rattle.storage.proofs.Views.{view-out}
-use Rattle.algebra.specs.Algebra.{checkedBoth, readingBoth, emptyOf, countOf}
-use Rattle.algebra.specs.Promises.{isIn, isInBoth, GuardedBoth, CheckBothMeans, TestMeans, SubsetMeans, DisjointMeans, CountExact, CountMeans, CountsAddUp}
-
--- ---- 1 and 2 of both stores
-
-pub check-both-means : CheckBothMeans
-unfolding checkedBoth
-check-both-means c n d m =
-    guarded c n Stop (checked d m Stop Pass) (λ r k. guardNumber r ≡ k) (λ r. Guarded d m (λ k. guardNumber r ≡ k) (guardNumber r ≡ 0)) (λ e. refl)
-    (λ h l. guarded d m Stop Pass (λ r k. guardNumber r ≡ k) (λ r. guardNumber r ≡ 0) (λ e. refl) (λ h l. refl) (checked d m Stop Pass) refl)
-
--- a call that reads two bitmaps: what holds of its answer for every two holds of it here
-pub both-means : {A : Type 0} (refuse : Refusal → A) (g : Bits → Bits → A) (No : A → ℕ → Type 0) (Rest : Bits → Bits → A → Type 0)
-    → ((e : Refusal) → No (refuse e) (numberOf e)) → ((b o : Bits) → Bounded b → Bounded o → Rest b o (g b o))
-    → (ws : List ℕ) (n : ℕ) (os : List ℕ) (m : ℕ) (r : A) → r ≡ readingBoth ws n os m refuse g
-    → GuardedBoth (length ws) n (length os) m (No r) (Rest (view ws n) (view os m) r)
-unfolding readingBoth
-both-means refuse g No Rest stop rest ws n os m =
-    reading-means refuse (λ b. reading os m refuse (g b)) No (λ b a. Guarded (length os) m (No a) (Rest b (view os m) a)) stop
-    (λ b h. reading-means refuse (g b) No (Rest b) stop (λ o k. rest b o h k) os m (reading os m refuse (g b)) refl) ws n
+use Rattle.algebra.specs.Algebra.{emptyOf, countOf}
+use Rattle.algebra.specs.Promises.{isIn, isInBoth, TestMeans, SubsetMeans, DisjointMeans, CountExact, CountMeans, CountsAddUp}
 
 -- ---- the set has no member past the longer bitmap
 
@@ -91,24 +71,24 @@ tests-as : {P Q : Type 0} {x v : ℕ} → (P → Q) → (Q → P) → Tests P x 
 tests-as f g (e, inl x) = (e, inl (x .0, f (x .1)))
 tests-as f g (e, inr x) = (e, inr (x .0, λ q. x .1 (g q)))
 
-both-as : {c n d m : ℕ} {No : ℕ → Type 0} {P Q : Type 0} → (P → Q) → GuardedBoth c n d m No P → GuardedBoth c n d m No Q
-both-as f = guarded-map (λ h l. guarded-map (λ h' l'. f))
+both-as : {ws : List ℕ} {b : Bitmap} {os : List ℕ} {o : Bitmap} {No : ℕ → Type 0} {P Q : Type 0} → (P → Q) → GuardedBoth ws b os o No P → GuardedBoth ws b os o No Q
+both-as f = guarded-map (λ p. guarded-map (λ q. f))
 
 pub subset-means : SubsetMeans
-subset-means ws n os m r q =
+subset-means ws b os o r q =
     both-as
     (tests-as
-    (λ e i h. by-test (isIn os m i) (λ t. t) (λ t. absurd (false≢true (sym (e i) ∙ ap₂ andNot h t))))
-    (λ h i. by-test (isIn ws n i) (λ p. ap₂ andNot p (h i p)) (λ p. ap (λ (t : Bool). t && not (isIn os m i)) p)))
-    (test-means andNot refl ws n os m r q)
+    (λ e i h. by-test (isIn os o i) (λ t. t) (λ t. absurd (false≢true (sym (e i) ∙ ap₂ andNot h t))))
+    (λ h i. by-test (isIn ws b i) (λ p. ap₂ andNot p (h i p)) (λ p. ap (λ (t : Bool). t && not (isIn os o i)) p)))
+    (test-means andNot refl ws b os o r q)
 
 pub disjoint-means : DisjointMeans
-disjoint-means ws n os m r q =
+disjoint-means ws b os o r q =
     both-as
     (tests-as
     (λ e i p q. false≢true (sym (e i) ∙ ap₂ (λ (s t : Bool). s && t) p q))
-    (λ h i. by-test (isIn ws n i && isIn os m i) (λ p. let b = and-true (isIn ws n i) (isIn os m i) p in absurd (h i (b .0) (b .1))) (λ p. p)))
-    (test-means (λ p q. p && q) refl ws n os m r q)
+    (λ h i. by-test (isIn ws b i && isIn os o i) (λ p. let b = and-true (isIn ws b i) (isIn os o i) p in absurd (h i (b .0) (b .1))) (λ p. p)))
+    (test-means (λ p q. p && q) refl ws b os o r q)
 
 -- ---- counts
 
@@ -146,46 +126,46 @@ andnot-and-sum true false = refl
 andnot-and-sum false true = refl
 andnot-and-sum false false = refl
 
-module _ (ws : List ℕ) (n : ℕ) (os : List ℕ) (m : ℕ) where
+module _ (ws : List ℕ) (b : Bitmap) (os : List ℕ) (o : Bitmap) where
   -- the members that f makes of the two, below the longer bitmap's end
   total : (Bool → Bool → Bool) → ℕ
-  total f = countBelow (isInBoth f ws n os m) (64 * max n m)
+  total f = countBelow (isInBoth f ws b os o) (64 * max (b .count) (o .count))
 
-  first-is : (s : ℕ) → Counted (isIn ws n) (64 * n) s → total (λ p q. p) ≡ s
+  first-is : (s : ℕ) → Counted (isIn ws b) (64 * b .count) s → total (λ p q. p) ≡ s
   unfolding total
   first-is count c =
-      count-flat (isIn ws n) (64 * n) (64 * max n m) (omega arith) (λ i h. view-out ws n i h) ∙ c .all (countBelow (isIn ws n)) (counts (isIn ws n))
+      count-flat (isIn ws b) (64 * b .count) (64 * max (b .count) (o .count)) (omega arith) (λ i h. view-out ws (b .count) i h) ∙ c .all (countBelow (isIn ws b)) (counts (isIn ws b))
 
-  second-is : (t : ℕ) → Counted (isIn os m) (64 * m) t → total (λ p q. q) ≡ t
+  second-is : (t : ℕ) → Counted (isIn os o) (64 * o .count) t → total (λ p q. q) ≡ t
   unfolding total
   second-is count c =
-      count-flat (isIn os m) (64 * m) (64 * max n m) (omega arith) (λ i h. view-out os m i h) ∙ c .all (countBelow (isIn os m)) (counts (isIn os m))
+      count-flat (isIn os o) (64 * o .count) (64 * max (b .count) (o .count)) (omega arith) (λ i h. view-out os (o .count) i h) ∙ c .all (countBelow (isIn os o)) (counts (isIn os o))
 
   nothing : total (λ p q. false) ≡ 0
   unfolding total
-  nothing = count-none (λ i. false) (64 * max n m) (λ i l. refl)
+  nothing = count-none (λ i. false) (64 * max (b .count) (o .count)) (λ i l. refl)
 
   -- two truth tables that add up place by place to two others
   totals : (f g h k : Bool → Bool → Bool) → ((p q : Bool) → val (f p q) + val (g p q) ≡ val (h p q) + val (k p q)) → total f + total g ≡ total h + total k
   unfolding total
   totals f g h k e =
-      count-sum (isInBoth f ws n os m) (isInBoth g ws n os m) (isInBoth h ws n os m) (isInBoth k ws n os m) (λ i. e (isIn ws n i) (isIn os m i)) (64 * max n m)
+      count-sum (isInBoth f ws b os o) (isInBoth g ws b os o) (isInBoth h ws b os o) (isInBoth k ws b os o) (λ i. e (isIn ws b i) (isIn os o i)) (64 * max (b .count) (o .count))
 
 pub counts-add-up : CountsAddUp
 unfolding total
-counts-add-up ws n os m h l h' l' a o x d ea eo ex ed s t cs ct = record {
-  and-or = omega (arith, is _ refl a ea, is _ refl o eo, one, second-is ws n os m t ct, sums (λ p q. p && q) (λ p q. p || q) (λ p q. p) (λ p q. q) and-or-sum);
-  xor-and = omega (arith, is _ refl x ex, is _ refl a ea, is _ refl o eo, nothing ws n os m, sums xorb (λ p q. p && q) (λ p q. p || q) (λ p q. false) xor-and-sum);
-  andnot-and = omega (arith, is _ refl d ed, is _ refl a ea, one, nothing ws n os m, sums andNot (λ p q. p && q) (λ p q. p) (λ p q. false) andnot-and-sum);
+counts-add-up ws b os o h k a u x d ea eu ex ed s t cs ct = record {
+  and-or = omega (arith, is _ refl a ea, is _ refl u eu, one, second-is ws b os o t ct, sums (λ p q. p && q) (λ p q. p || q) (λ p q. p) (λ p q. q) and-or-sum);
+  xor-and = omega (arith, is _ refl x ex, is _ refl a ea, is _ refl u eu, nothing ws b os o, sums xorb (λ p q. p && q) (λ p q. p || q) (λ p q. false) xor-and-sum);
+  andnot-and = omega (arith, is _ refl d ed, is _ refl a ea, one, nothing ws b os o, sums andNot (λ p q. p && q) (λ p q. p) (λ p q. false) andnot-and-sum);
 }
   where
-    is : (f : Bool → Bool → Bool) → f false false ≡ false → (r : Number) → r ≡ countOf f ws n os m → numberValue r ≡ total ws n os m f
+    is : (f : Bool → Bool → Bool) → f false false ≡ false → (r : Number) → r ≡ countOf f ws b os o → numberValue r ≡ total ws b os o f
     is f ff r e =
-        sym (count-means f ff ws n os m r e .rest h l .rest h' l' .1 .all (64 * max n m) (omega arith) .all (countBelow (isInBoth f ws n os m)) (counts (isInBoth f ws n os m)))
+        sym (count-means f ff ws b os o r e .rest h .rest k .1 .all (64 * max (b .count) (o .count)) (omega arith) .all (countBelow (isInBoth f ws b os o)) (counts (isInBoth f ws b os o)))
 
-    one : total ws n os m (λ p q. p) ≡ s
-    one = first-is ws n os m s cs
+    one : total ws b os o (λ p q. p) ≡ s
+    one = first-is ws b os o s cs
 
     sums : (f g h k : Bool → Bool → Bool) → ((p q : Bool) → val (f p q) + val (g p q) ≡ val (h p q) + val (k p q))
-        → total ws n os m f + total ws n os m g ≡ total ws n os m h + total ws n os m k
-    sums = totals ws n os m
+        → total ws b os o f + total ws b os o g ≡ total ws b os o h + total ws b os o k
+    sums = totals ws b os o

@@ -13,27 +13,16 @@ ghost use Prim.Native.Nat.{_+_, _≤_};
 ghost use lib.ListN.{length};
 ghost use Rattle.word.specs.Sets.{xorb};
 ghost use Rattle.storage.specs.Stores.{limit, andNot, size};
-ghost use Rattle.algebra.specs.Algebra.{checkedBoth, emptyOf, countOf};
+ghost use Rattle.algebra.specs.Algebra.{emptyOf, countOf};
 ghost use Rattle.algebra.specs.Kernels.{made, commonSize, sizeFrom};
-
-// Refuses for a store of c words whose bitmap has n, then for one of d words whose bitmap has m.
-pub fn check_both(c: usize, n: usize, d: usize, m: usize) -> Guard
-    ensures { λ r. ⌜ r ≡ checkedBoth c n d m ⌝ }
-{
-    match storage::check(c, n) {
-        Guard::Stop(e) => return Guard::Stop(e),
-        Guard::Pass => {}
-    }
-    storage::check(d, m)
-}
 
 // Is every member of the first bitmap one of the second? The empty bitmap's are.
 pub fn is_subset(words: &[u64], b: Bitmap, other: &[u64], o: Bitmap) -> Truth
-    ensures { λ r. ⌜ r ≡ emptyOf andNot (now (words .entry)) (b .count) (now (other .entry)) (o .count) ⌝ }
+    ensures { λ r. ⌜ r ≡ emptyOf andNot (now (words .entry)) b (now (other .entry)) o ⌝ }
 {
     let n = b.count;
     let m = o.count;
-    match check_both(words.len(), n, other.len(), m) {
+    match storage::check_two(words, b, other, o) {
         Guard::Stop(e) => return Truth::Refused(e),
         Guard::Pass => {}
     }
@@ -42,11 +31,11 @@ pub fn is_subset(words: &[u64], b: Bitmap, other: &[u64], o: Bitmap) -> Truth
 
 // Have the two bitmaps no member in common?
 pub fn is_disjoint(words: &[u64], b: Bitmap, other: &[u64], o: Bitmap) -> Truth
-    ensures { λ r. ⌜ r ≡ emptyOf (λ p q. p && q) (now (words .entry)) (b .count) (now (other .entry)) (o .count) ⌝ }
+    ensures { λ r. ⌜ r ≡ emptyOf (λ p q. p && q) (now (words .entry)) b (now (other .entry)) o ⌝ }
 {
     let n = b.count;
     let m = o.count;
-    match check_both(words.len(), n, other.len(), m) {
+    match storage::check_two(words, b, other, o) {
         Guard::Stop(e) => return Truth::Refused(e),
         Guard::Pass => {}
     }
@@ -150,11 +139,11 @@ fn size_andnot(a: &[u64], b: &[u64]) -> usize
 
 // How many numbers are in both bitmaps.
 pub fn and_count(words: &[u64], b: Bitmap, other: &[u64], o: Bitmap) -> Number
-    ensures { λ r. ⌜ r ≡ countOf (λ p q. p && q) (now (words .entry)) (b .count) (now (other .entry)) (o .count) ⌝ }
+    ensures { λ r. ⌜ r ≡ countOf (λ p q. p && q) (now (words .entry)) b (now (other .entry)) o ⌝ }
 {
     let n = b.count;
     let m = o.count;
-    match check_both(words.len(), n, other.len(), m) {
+    match storage::check_two(words, b, other, o) {
         Guard::Stop(e) => return Number::Refused(e),
         Guard::Pass => {}
     }
@@ -163,11 +152,11 @@ pub fn and_count(words: &[u64], b: Bitmap, other: &[u64], o: Bitmap) -> Number
 
 // How many numbers are in either bitmap.
 pub fn or_count(words: &[u64], b: Bitmap, other: &[u64], o: Bitmap) -> Number
-    ensures { λ r. ⌜ r ≡ countOf (λ p q. p || q) (now (words .entry)) (b .count) (now (other .entry)) (o .count) ⌝ }
+    ensures { λ r. ⌜ r ≡ countOf (λ p q. p || q) (now (words .entry)) b (now (other .entry)) o ⌝ }
 {
     let n = b.count;
     let m = o.count;
-    match check_both(words.len(), n, other.len(), m) {
+    match storage::check_two(words, b, other, o) {
         Guard::Stop(e) => return Number::Refused(e),
         Guard::Pass => {}
     }
@@ -176,11 +165,11 @@ pub fn or_count(words: &[u64], b: Bitmap, other: &[u64], o: Bitmap) -> Number
 
 // How many numbers are in one bitmap and not in both.
 pub fn xor_count(words: &[u64], b: Bitmap, other: &[u64], o: Bitmap) -> Number
-    ensures { λ r. ⌜ r ≡ countOf xorb (now (words .entry)) (b .count) (now (other .entry)) (o .count) ⌝ }
+    ensures { λ r. ⌜ r ≡ countOf xorb (now (words .entry)) b (now (other .entry)) o ⌝ }
 {
     let n = b.count;
     let m = o.count;
-    match check_both(words.len(), n, other.len(), m) {
+    match storage::check_two(words, b, other, o) {
         Guard::Stop(e) => return Number::Refused(e),
         Guard::Pass => {}
     }
@@ -189,11 +178,11 @@ pub fn xor_count(words: &[u64], b: Bitmap, other: &[u64], o: Bitmap) -> Number
 
 // How many numbers are in the first bitmap and not in the second.
 pub fn andnot_count(words: &[u64], b: Bitmap, other: &[u64], o: Bitmap) -> Number
-    ensures { λ r. ⌜ r ≡ countOf andNot (now (words .entry)) (b .count) (now (other .entry)) (o .count) ⌝ }
+    ensures { λ r. ⌜ r ≡ countOf andNot (now (words .entry)) b (now (other .entry)) o ⌝ }
 {
     let n = b.count;
     let m = o.count;
-    match check_both(words.len(), n, other.len(), m) {
+    match storage::check_two(words, b, other, o) {
         Guard::Stop(e) => return Number::Refused(e),
         Guard::Pass => {}
     }

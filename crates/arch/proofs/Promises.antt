@@ -18,7 +18,9 @@ use Rattle.word.proofs.Sets.{Nth, count-le, count-add, counts-is, least, top, n
 use Rattle.word.proofs.Lists.{at-place, member-at, member-past, member-words, length-words, length-tab}
 use Rattle.arch.specs.Scans.{Alike, firstOther, wordFound, wordFlag, wordIndex, wordThere, nonzeroLen, isZero, countSet, filled}
 use Rattle.arch.specs.Select.{selectIn, selectTable, byteOf}
-use Rattle.arch.specs.Promises.{FirstOther, FirstNonzeroMeans, FirstNotOnesMeans, NonzeroLenMeans, IsZeroMeans, CountSetBitsMeans, CountIsWhole, FillWordsMeans, FillRegionMeans, TableRule, SelectsRank, SelectMeans, SelectByMeans, SelectPortableMeans}
+use Rattle.arch.specs.Promises.{FirstOther, FirstNonzeroMeans, FirstNotOnesMeans, NonzeroLenMeans, IsZeroMeans, CountSetBitsMeans}
+use Rattle.arch.specs.Promises.{CountIsWhole, FillWordsMeans, FillRegionMeans, TableRule, SelectsRank, SelectMeans, SelectByMeans}
+use Rattle.arch.specs.Promises.{SelectPortableMeans}
 use Rattle.arch.specs.declared.FoundWord.{FoundWord}
 use Rattle.arch.specs.declared.FoundWord.the-variants.{At, Nothing}
 use Rattle.arch.proofs.Scans.{nonzero-none, nonzero-le, nonzero-past, nonzero-last}

@@ -85,7 +85,9 @@ places-is from end k lo hi el eh =
     upper j = by-lt (64 * k + j) end (λ p. lt-ltb j (end - 64 * k) (omega arith) ∙ sym (lt-ltb (64 * k + j) end p)) (λ p. le-ltb j (end - 64 * k) (omega arith) ∙ sym (le-ltb (64 * k + j) end p))
 
     lower : (j : ℕ) → not (ltb j (from - 64 * k)) ≡ leb from (64 * k + j)
-    lower j = by-lt (64 * k + j) from (λ p. ap not (lt-ltb j (from - 64 * k) (omega arith)) ∙ sym (lt-leb from (64 * k + j) p)) (λ p. ap not (le-ltb j (from - 64 * k) (omega arith)) ∙ sym (le-leb from (64 * k + j) p))
+    lower j =
+        by-lt (64 * k + j) from (λ p. ap not (lt-ltb j (from - 64 * k) (omega arith)) ∙ sym (lt-leb from (64 * k + j) p))
+        (λ p. ap not (le-ltb j (from - 64 * k) (omega arith)) ∙ sym (le-leb from (64 * k + j) p))
 
     comm : (s t : Bool) → s && t ≡ t && s
     comm true true = refl

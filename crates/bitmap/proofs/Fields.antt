@@ -17,15 +17,16 @@ use Rattle.word.proofs.Cases.{by-lt, by-eq}
 use Rattle.word.proofs.Bits.{bit-mod, bit-zero, pack-bit, no-bits}
 use Rattle.word.proofs.Sets.{least}
 use Rattle.word.proofs.Words.{least-bit}
-use Rattle.storage.specs.Stores.{Bits, Outcome, refused, done, view, within, inRegion, passes, zeroed, answer, store, outcome, Changes}
+use Rattle.storage.specs.Stores.{Bits, Outcome, refused, done, withCount, view, held, within, inRegion, passes, zeroed, answer, store, outcome, Changes}
+use Rattle.storage.specs.Guards.{Passed}
 use Rattle.storage.specs.declared.Bitmap.{Bitmap}
 use Rattle.storage.specs.declared.Refusal.the-variants.{WidthOver, IndexOver, NoSpace}
 use Rattle.storage.specs.declared.Change.{Change}
 use Rattle.storage.specs.declared.Change.the-variants.{Done, Refused}
-use Rattle.storage.proofs.Checks.{Passed, within-ok, within-no}
+use Rattle.storage.proofs.Checks.{within-ok, within-no}
 use Rattle.storage.proofs.Views.{view-in}
 use Rattle.storage.proofs.Stores.{Stored, written-stored, outcome-ok, changes-done, changes-refused, changes-same}
-use Rattle.storage.proofs.Grown.{grown-long, grown-kept, grown-at}
+use Rattle.storage.proofs.Grown.{passed-grown, grown-long, grown-kept, grown-at}
 use Rattle.slice.specs.Slices.{withField, fieldSetting}
 use Rattle.slice.proofs.Fields.{low-digits}
 use Rattle.slice.proofs.Stricts.{setting-in}
@@ -110,24 +111,21 @@ module _ (i value width c : ℕ) (b : Bits) where
 -- ---- the call
 
 -- a strict field that was done, by its words
-strict-done : (z ws' : List ℕ) (m i value width : ℕ) (r : Change) → Passed (length z) m → 0 < width → width ≤ 64 → i + width ≤ 64 * m
-    → Changes (fieldSetting i value width) z (record { count = m }) r ws' → (r ≡ Done (record { count = m })) × Stored z m (withField i value width (view z m)) ws'
+strict-done : (z ws' : List ℕ) (b : Bitmap) (i value width : ℕ) (r : Change) → Passed z b → 0 < width → width ≤ 64 → i + width ≤ 64 * b .count
+    → Changes (fieldSetting i value width) z b r ws' → (r ≡ Done b) × Stored z (b .count) (withField i value width (held z b)) ws'
 unfolding answer store withField view
-strict-done z ws' m i value width r p pos wide end l = (
+strict-done z ws' b i value width r p pos wide end l = (
   l .answers ∙ ap (λ (o : Outcome). answer o b) e,
-  subst (Stored z m s) (sym (l .leaves ∙ ap (λ (o : Outcome). store o z m) e)) (written-stored z m s (p .inside) (p .inside)),
+  subst (Stored z (b .count) s) (sym (l .leaves ∙ ap (λ (o : Outcome). store o z (b .count)) e)) (written-stored z (b .count) s (p .inside) (p .inside)),
 )
   where
-    b : Bitmap
-    b = record { count = m }
-
     s : Bits
-    s = withField i value width (view z m)
+    s = withField i value width (held z b)
 
-    e : outcome (fieldSetting i value width) z m ≡ done s
+    e : outcome (fieldSetting i value width) z b ≡ done s
     e = outcome-ok (fieldSetting i value width) z b p ∙ setting-in z b i value width p pos wide end
 
-module _ (ws : List ℕ) (b : Bitmap) (i value width : ℕ) (p : Passed (length ws) (b .count)) where
+module _ (ws : List ℕ) (b : Bitmap) (i value width : ℕ) (p : Passed ws b) where
   pub wide-changes : 64 < width → Changes (settingField i value width) ws b (Refused WidthOver b) ws
   wide-changes h = changes-refused (settingField i value width) ws b WidthOver p (field-wide i value width (length ws) (view ws (b .count)) h)
 
@@ -150,7 +148,7 @@ module _ (ws : List ℕ) (b : Bitmap) (i value width : ℕ) (p : Passed (length 
           (field-some i value width (length ws) (view ws (b .count)) d (omega (arith, d .pos)) ∙ within-no (length ws) _ (omega (arith, d .pos)))
 
       pub grown-changes : (z ws' : List ℕ) (m : ℕ) (r : Change) → w < length ws → z ≡ zeroed (b .count) (w + 1) ws → m ≡ max (b .count) (w + 1)
-          → Changes (fieldSetting i value width) z (record { count = m }) r ws' → Changes (settingField i value width) ws b r ws'
+          → Changes (fieldSetting i value width) z (withCount b m) r ws' → Changes (settingField i value width) ws b r ws'
       unfolding withField view
       grown-changes z ws' m r h ez em l =
           subst (λ (x : Change). Changes (settingField i value width) ws b x ws') (sym (t .0))
@@ -173,5 +171,5 @@ module _ (ws : List ℕ) (b : Bitmap) (i value width : ℕ) (p : Passed (length 
           word : (i + width - 1) / 64 ≡ w
           word = omega (arith, d .pos)
 
-          t : (r ≡ Done (record { count = m })) × Stored z m (withField i value width (view z m)) ws'
-          t = strict-done z ws' m i value width r (record { short = omega (arith, grown-long ws z (b .count) (w + 1) ez, p .short); inside = omega (arith, grown-long ws z (b .count) (w + 1) ez, p .inside) }) (d .pos) (d .wide) (omega (arith, word)) l
+          t : (r ≡ Done (withCount b m)) × Stored z m (withField i value width (view z m)) ws'
+          t = strict-done z ws' (withCount b m) i value width r (passed-grown ws z b (w + 1) m p ez em (omega arith)) (d .pos) (d .wide) (omega (arith, word)) l

@@ -17,11 +17,12 @@ use Rattle.word.proofs.Bits.{bit-or}
 use Rattle.word.proofs.Words.{bit-single, single-lt}
 use Rattle.word.proofs.Lists.{Fit}
 use Rattle.word.proofs.Sweep.{getD-set}
-use Rattle.storage.specs.Stores.{Bits, view, zeroed, Changes}
+use Rattle.storage.specs.Stores.{withCount, Bits, view, zeroed, Changes}
+use Rattle.storage.specs.Guards.{Passed}
 use Rattle.storage.specs.declared.Bitmap.{Bitmap}
 use Rattle.storage.specs.declared.Refusal.the-variants.{NoSpace}
 use Rattle.storage.specs.declared.Change.the-variants.{Done, Refused}
-use Rattle.storage.proofs.Checks.{Passed, within-ok, within-no}
+use Rattle.storage.proofs.Checks.{within-ok, within-no}
 use Rattle.storage.proofs.Views.{view-count}
 use Rattle.storage.proofs.Stores.{changes-done, changes-refused, length-zeroed, zeroed-out, zeroed-fit, grown-bit}
 use Rattle.bitmap.specs.Bitmaps.{listed, reachOf, settingMany}
@@ -103,7 +104,9 @@ listed-next ws is ws' t x s h room ex =
     (record {
       long = length-set ws' k v ∙ s .long;
       fits = λ m f. by-eq m k
-          (λ e. subst (λ (y : ℕ). y < 2 ^ 64) (sym (here m e)) (or-lt 64 (getD ws' k 0) x (s .fits k (subst (λ (q : ℕ). getD ws q 0 < 2 ^ 64) e f)) (subst (λ (y : ℕ). y < 2 ^ 64) (sym ex) (single-lt 64 (i % 64)))))
+          (λ e. subst (λ (y : ℕ). y < 2 ^ 64) (sym (here m e))
+          (or-lt 64 (getD ws' k 0) x (s .fits k (subst (λ (q : ℕ). getD ws q 0 < 2 ^ 64) e f))
+          (subst (λ (y : ℕ). y < 2 ^ 64) (sym ex) (single-lt 64 (i % 64)))))
           (λ e. subst (λ (y : ℕ). y < 2 ^ 64) (sym (getD-set-other ws' k m v 0 e)) (s .fits m f));
       bits = λ m j l. place m j l ∙ or-back m j;
       above = past;
@@ -138,17 +141,18 @@ listed-next ws is ws' t x s h room ex =
         (ap (λ (y : ℕ). bit y j) ex ∙ bit-single 64 (i % 64) j l ∙ eqb-same j (i % 64) (64 * m + j) i (λ q. omega arith) (λ q. omega arith)))
         (λ e.
         ap (λ (y : ℕ). bit y j) (getD-set-other ws' k m v 0 e) ∙ s .bits m j l
-        ∙ sym (ap (λ (y : Bool). (bit (getD ws m 0) j || listed (take t is) (64 * m + j)) || y) (ne-eqb (64 * m + j) i (omega arith)) ∙ or-false (bit (getD ws m 0) j || listed (take t is) (64 * m + j))))
+        ∙ sym (ap (λ (y : Bool). (bit (getD ws m 0) j || listed (take t is) (64 * m + j)) || y) (ne-eqb (64 * m + j) i (omega arith)) ∙ or-false
+        (bit (getD ws m 0) j || listed (take t is) (64 * m + j))))
 
 -- ---- the call
 
-module _ (ws is : List ℕ) (b : Bitmap) (f : Fit ws) (p : Passed (length ws) (b .count)) where
+module _ (ws is : List ℕ) (b : Bitmap) (f : Fit ws) (p : Passed ws b) where
   pub many-refused : length ws < reachOf is → Changes (settingMany is) ws b (Refused NoSpace b) ws
   unfolding settingMany
   many-refused h = changes-refused (settingMany is) ws b NoSpace p (within-no (length ws) _ (omega arith))
 
   pub many-changes : (z ws' : List ℕ) (e r : ℕ) → e ≡ reachOf is → e ≤ length ws → z ≡ zeroed (b .count) e ws → Listed z is ws' → r ≡ max (b .count) e
-      → Changes (settingMany is) ws b (Done (record { count = r })) ws'
+      → Changes (settingMany is) ws b (Done (withCount b r)) ws'
   unfolding settingMany
   many-changes z ws' e r ee h ez t er =
       changes-done (settingMany is) ws b ws' s r p (within-ok (length ws) s (omega (arith, view-count ws n, p .inside)))

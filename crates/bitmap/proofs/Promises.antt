@@ -18,7 +18,8 @@ use Rattle.storage.proofs.Checks.{within-done}
 use Rattle.storage.proofs.Outcomes.{same, never, which, lacks, meets-nothing}
 use Rattle.storage.proofs.Promises.{least-count}
 use Rattle.bitmap.specs.Bitmaps.{trimming, setting, without, unsetting, listed, reachOf, settingMany, settingRegion, settingField, tidied, alone, keepingBit, droppingBit, flippingBit}
-use Rattle.bitmap.specs.Promises.{WithBit, WithListed, WithoutBit, Fewest, WithRegion, WithField, Tidied, Tidies, FlippedBit, Sets, SetsMany, Unsets, Trims, Regions, RegionUnchanged, FieldsSet, FieldUnchanged, KeepsBit, DropsBit, FlipsBit}
+use Rattle.bitmap.specs.Promises.{WithBit, WithListed, WithoutBit, Fewest, WithRegion, WithField, Tidied, Tidies, FlippedBit, Sets, SetsMany}
+use Rattle.bitmap.specs.Promises.{Unsets, Trims, Regions, RegionUnchanged, FieldsSet, FieldUnchanged, KeepsBit, DropsBit, FlipsBit}
 use Rattle.bitmap.proofs.Many.{reach-in, reach-who, reach-under, listed-at, listed-who}
 use Rattle.bitmap.proofs.Sounds.{setting-sound, many-sound, unsetting-sound, trimming-sound, region-sound, field-sound, keeping-sound, dropping-sound, flipping-sound}
 use Rattle.bitmap.proofs.Regions.{region-none, region-over, region-put}
@@ -214,7 +215,9 @@ keeps-bit i = record {
     alone i b,
     record {
       count = refl;
-      here = ap (λ (t : Bool). b .members i && (not (eqb (i / 64) (i / 64)) || t)) (eq-eqb i i refl) ∙ ap (λ (t : Bool). b .members i && t) (or-true (not (eqb (i / 64) (i / 64)))) ∙ and-keep (b .members i);
+      here =
+          ap (λ (t : Bool). b .members i && (not (eqb (i / 64) (i / 64)) || t)) (eq-eqb i i refl) ∙ ap (λ (t : Bool). b .members i && t) (or-true (not (eqb (i / 64) (i / 64))))
+          ∙ and-keep (b .members i);
       word = λ j p n.
           ap₂ (λ (x y : Bool). b .members j && (not x || y)) (eq-eqb (j / 64) (i / 64) p) (ne-eqb j i n) ∙ and-false (b .members j);
       others = λ j n. ap (λ (x : Bool). b .members j && (not x || eqb j i)) (ne-eqb (j / 64) (i / 64) n) ∙ and-keep (b .members j);

@@ -16,11 +16,12 @@ use Rattle.word.proofs.Lists.{Fit, member-at, words-fit}
 use Rattle.arch.specs.Scans.{filled}
 use Rattle.arch.specs.Promises.{Fills}
 use Rattle.arch.proofs.Promises.{fills}
-use Rattle.storage.specs.Stores.{Bits, refused, done, view, within, inRegion, zeroed, Changes}
+use Rattle.storage.specs.Stores.{withCount, Bits, refused, done, view, within, inRegion, zeroed, Changes}
+use Rattle.storage.specs.Guards.{Passed}
 use Rattle.storage.specs.declared.Bitmap.{Bitmap}
 use Rattle.storage.specs.declared.Refusal.the-variants.{IndexOver, NoSpace}
 use Rattle.storage.specs.declared.Change.the-variants.{Done, Refused}
-use Rattle.storage.proofs.Checks.{Passed, within-ok, within-no}
+use Rattle.storage.proofs.Checks.{within-ok, within-no}
 use Rattle.storage.proofs.Views.{view-count, view-part}
 use Rattle.storage.proofs.Stores.{changes-done, changes-refused, keeps-changes, part-changes, length-zeroed, zeroed-out, zeroed-fit, grown-bit}
 use Rattle.bitmap.specs.Bitmaps.{settingRegion}
@@ -74,7 +75,7 @@ module _ (i k c : ℕ) (v : Bool) (b : Bits) where
 
 -- ---- the call
 
-module _ (ws : List ℕ) (b : Bitmap) (i k : ℕ) (f : Fit ws) (p : Passed (length ws) (b .count)) where
+module _ (ws : List ℕ) (b : Bitmap) (i k : ℕ) (f : Fit ws) (p : Passed ws b) where
   pub region-nothing : (v : Bool) → k ≡ 0 → Changes (settingRegion i v k) ws b (Done b) ws
   region-nothing v e = keeps-changes (settingRegion i v k) ws b f p (region-none i k (length ws) v (view ws (b .count)) e)
 
@@ -88,7 +89,12 @@ module _ (ws : List ℕ) (b : Bitmap) (i k : ℕ) (f : Fit ws) (p : Passed (leng
     region-cleared v end part ev ee ep =
         part-changes (settingRegion i v k) ws part b (λ q. choose (leb i q && ltb q end) false (member (take (b .count) ws) q)) s p
         (region-put i k (length ws) v (view ws (b .count)) some (omega arith)
-        ∙ ap (λ (t : Bool). within (length ws) (record { members = λ q. choose (inRegion i k q) t (view ws (b .count) .members q); count = choose t (max (view ws (b .count) .count) ((i + k - 1) / 64 + 1)) (view ws (b .count) .count) })) ev
+        ∙ ap (λ (t : Bool). within (length ws)
+        (record {
+          members = λ q. choose (inRegion i k q) t (view ws (b .count) .members q);
+          count = choose t
+              (max (view ws (b .count) .count) ((i + k - 1) / 64 + 1)) (view ws (b .count) .count);
+        })) ev
         ∙ within-ok (length ws) s (omega (arith, view-count ws (b .count), p .inside)))
         (view-count ws (b .count)) ep
         (λ q l. ap₂ (λ (t : Bool) (u : Bool). choose (leb i q && t) false u) (same q l) (sym (view-part ws (b .count) q (p .inside))))
@@ -111,11 +117,16 @@ module _ (ws : List ℕ) (b : Bitmap) (i k : ℕ) (f : Fit ws) (p : Passed (leng
         big = subst (λ (t : Bool). length ws < choose t (max (view ws (b .count) .count) ((i + k - 1) / 64 + 1)) (view ws (b .count) .count)) (sym ev) (omega (arith, word))
 
     pub region-set : (v : Bool) (z ws' : List ℕ) (r : ℕ) → v ≡ true → last / 64 < length ws → z ≡ zeroed (b .count) (last / 64 + 1) ws → ws' ≡ filled i (last + 1) true z
-        → r ≡ max (b .count) (last / 64 + 1) → Changes (settingRegion i v k) ws b (Done (record { count = r })) ws'
+        → r ≡ max (b .count) (last / 64 + 1) → Changes (settingRegion i v k) ws b (Done (withCount b r)) ws'
     region-set v z ws' r ev h ez ew er =
         changes-done (settingRegion i v k) ws b ws' s r p
         (region-put i k (length ws) v (view ws (b .count)) some (omega arith)
-        ∙ ap (λ (t : Bool). within (length ws) (record { members = λ q. choose (inRegion i k q) t (view ws (b .count) .members q); count = choose t (max (view ws (b .count) .count) ((i + k - 1) / 64 + 1)) (view ws (b .count) .count) })) ev
+        ∙ ap (λ (t : Bool). within (length ws)
+        (record {
+          members = λ q. choose (inRegion i k q) t (view ws (b .count) .members q);
+          count = choose t
+              (max (view ws (b .count) .count) ((i + k - 1) / 64 + 1)) (view ws (b .count) .count);
+        })) ev
         ∙ within-ok (length ws) s (omega (arith, word, view-count ws (b .count), p .inside)))
         (record {
           long = ap length ew ∙ fills i (last + 1) true z .long ∙ long;

@@ -16,19 +16,20 @@ use Rattle.word.proofs.Bits.{bit-and, bit-or, bit-not}
 use Rattle.word.proofs.Words.{bit-single, single-lt}
 use Rattle.word.proofs.Lists.{Fit}
 use Rattle.arch.specs.Scans.{nonzeroLen}
-use Rattle.storage.specs.Stores.{Bits, view, trimmed, zeroed, Changes}
+use Rattle.storage.specs.Stores.{withCount, Bits, view, trimmed, zeroed, Changes}
+use Rattle.storage.specs.Guards.{Passed}
 use Rattle.storage.specs.declared.Bitmap.{Bitmap}
 use Rattle.storage.specs.declared.Refusal.the-variants.{NoSpace}
 use Rattle.storage.specs.declared.Change.the-variants.{Done, Refused}
-use Rattle.storage.proofs.Checks.{Passed, within-ok, within-no}
+use Rattle.storage.proofs.Checks.{within-ok, within-no}
 use Rattle.storage.proofs.Views.{view-count, view-in, view-out}
 use Rattle.storage.proofs.Stores.{changes-done, changes-refused, word-stored}
 use Rattle.storage.proofs.Grown.{grown-fit, grown-at, grown-word}
 use Rattle.storage.proofs.Trims.{trimmed-length, trimmed-stored}
 use Rattle.bitmap.specs.Bitmaps.{trimming, setting, without, unsetting}
 
-pub trim-changes : (ws : List ℕ) (b : Bitmap) (r : ℕ) → Fit ws → Passed (length ws) (b .count) → r ≡ nonzeroLen (take (b .count) ws)
-    → Changes trimming ws b (Done (record { count = r })) ws
+pub trim-changes : (ws : List ℕ) (b : Bitmap) (r : ℕ) → Fit ws → Passed ws b → r ≡ nonzeroLen (take (b .count) ws)
+    → Changes trimming ws b (Done (withCount b r)) ws
 unfolding trimming
 trim-changes ws b r f p e =
     changes-done trimming ws b ws (trimmed (view ws n)) r p refl
@@ -40,13 +41,13 @@ trim-changes ws b r f p e =
 
 -- ---- a bit set
 
-module _ (ws : List ℕ) (b : Bitmap) (i : ℕ) (f : Fit ws) (p : Passed (length ws) (b .count)) where
+module _ (ws : List ℕ) (b : Bitmap) (i : ℕ) (f : Fit ws) (p : Passed ws b) where
   pub set-refused : length ws ≤ i / 64 → Changes (setting i) ws b (Refused NoSpace b) ws
   unfolding setting
   set-refused h = changes-refused (setting i) ws b NoSpace p (within-no (length ws) _ (omega arith))
 
   pub set-changes : (z : List ℕ) (x r : ℕ) → i / 64 < length ws → z ≡ zeroed (b .count) (i / 64 + 1) ws → x ≡ single 64 (i % 64) → r ≡ max (b .count) (i / 64 + 1)
-      → Changes (setting i) ws b (Done (record { count = r })) (set z (i / 64) (bitOr (getD z (i / 64) 0) x))
+      → Changes (setting i) ws b (Done (withCount b r)) (set z (i / 64) (bitOr (getD z (i / 64) 0) x))
   unfolding setting
   set-changes z x r h ez ex er =
       changes-done (setting i) ws b (set z k v) s r p (within-ok (length ws) s (omega (arith, view-count ws n, p .inside)))
@@ -82,7 +83,8 @@ module _ (ws : List ℕ) (b : Bitmap) (i : ℕ) (f : Fit ws) (p : Passed (length
         fits = λ k l. f k;
         used = λ k j l m.
             sym (view-in ws (b .count) k j (omega (arith, view-count ws (b .count))) m)
-            ∙ sym (ap (λ (t : Bool). view ws (b .count) .members (64 * k + j) && not t) (ne-eqb (64 * k + j) i (omega (arith, view-count ws (b .count)))) ∙ and-keep (view ws (b .count) .members (64 * k + j)));
+            ∙ sym (ap (λ (t : Bool). view ws (b .count) .members (64 * k + j) && not t)
+            (ne-eqb (64 * k + j) i (omega (arith, view-count ws (b .count)))) ∙ and-keep (view ws (b .count) .members (64 * k + j)));
         dropped = λ k l m. absurd (omega (arith, view-count ws (b .count)));
         kept = λ k l m. refl;
       })

@@ -52,7 +52,8 @@ bounded-region i k true some b h = record {
       ap (λ (t : Bool). choose (leb i j && t) true (b .members j)) (le-ltb j (i + k) (omega arith))
       ∙ ap (λ (t : Bool). choose t true (b .members j)) (and-false (leb i j)) ∙ h .past j (omega arith);
 }
-bounded-region i k false some b h = record { past = λ j l. by-test (inRegion i k j) (λ y. ap (λ (t : Bool). choose t false (b .members j)) y) (λ n. ap (λ (t : Bool). choose t false (b .members j)) n ∙ h .past j l) }
+bounded-region i k false some b h =
+    record { past = λ j l. by-test (inRegion i k j) (λ y. ap (λ (t : Bool). choose t false (b .members j)) y) (λ n. ap (λ (t : Bool). choose t false (b .members j)) n ∙ h .past j l) }
 
 -- an operation that is always refused
 sound-never : (op : Op) (e : Refusal) → ((c : ℕ) (b : Bits) → op c b ≡ refused e) → Sound op

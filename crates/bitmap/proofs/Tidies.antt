@@ -20,11 +20,12 @@ use Rattle.word.proofs.Lists.{Fit}
 use Rattle.word.proofs.Sweep.{getD-set}
 use Rattle.arch.specs.Scans.{nonzeroLen}
 use Rattle.arch.proofs.Scans.{nonzero-le}
-use Rattle.storage.specs.Stores.{Bits, done, Op, view, within, flipped, trimmed, zeroed, Changes}
+use Rattle.storage.specs.Stores.{withCount, Bits, done, Op, view, within, flipped, trimmed, zeroed, Changes}
+use Rattle.storage.specs.Guards.{Passed}
 use Rattle.storage.specs.declared.Bitmap.{Bitmap}
 use Rattle.storage.specs.declared.Refusal.the-variants.{NoSpace}
 use Rattle.storage.specs.declared.Change.the-variants.{Done, Refused}
-use Rattle.storage.proofs.Checks.{Passed, within-ok, within-no}
+use Rattle.storage.proofs.Checks.{within-ok, within-no}
 use Rattle.storage.proofs.Views.{view-count, view-in, view-out}
 use Rattle.storage.proofs.Stores.{Stored, changes-done, changes-refused, word-stored}
 use Rattle.storage.proofs.Grown.{flip-stored}
@@ -95,7 +96,7 @@ module _ (ws ws' : List ℕ) (n k u : ℕ) (s : Bits) (fit : Fit ws') (c : s .co
 
 -- ---- the three calls
 
-module _ (ws : List ℕ) (b : Bitmap) (i : ℕ) (f : Fit ws) (p : Passed (length ws) (b .count)) where
+module _ (ws : List ℕ) (b : Bitmap) (i : ℕ) (f : Fit ws) (p : Passed ws b) where
   n : ℕ
   n = b .count
 
@@ -106,10 +107,11 @@ module _ (ws : List ℕ) (b : Bitmap) (i : ℕ) (f : Fit ws) (p : Passed (length
   in-place : (op : Op) (s : Bits) (v r : ℕ) → i / 64 < b .count → op (length ws) (view ws (b .count)) ≡ done (tidied (i / 64) s) → s .count ≡ b .count → v < 2 ^ 64
       → ((j : ℕ) → j < 64 → bit v j ≡ s .members (64 * (i / 64) + j))
       → ((m j : ℕ) → (m ≡ i / 64 → ⊥) → j < 64 → view ws (b .count) .members (64 * m + j) ≡ s .members (64 * m + j))
-      → r ≡ tidyCount (set ws (i / 64) v) (b .count) (i / 64) → Changes op ws b (Done (record { count = r })) (set ws (i / 64) v)
+      → r ≡ tidyCount (set ws (i / 64) v) (b .count) (i / 64) → Changes op ws b (Done (withCount b r)) (set ws (i / 64) v)
   in-place op s v r h e c hv here there er =
       let st : Stored ws (b .count) s (set ws (i / 64) v) = word-stored ws (b .count) (i / 64) v s f (p .inside) h c hv here there in
-      let t = tidied-stored ws (set ws (i / 64) v) (b .count) (i / 64) (b .count) s (fit-set v hv) c (omega arith) (omega (arith, length-set ws (i / 64) v, p .inside)) h st (λ q. absurd (omega arith)) in
+      let t = tidied-stored ws (set ws (i / 64) v) (b .count) (i / 64) (b .count) s (fit-set v hv) c (omega arith)
+      (omega (arith, length-set ws (i / 64) v, p .inside)) h st (λ q. absurd (omega arith)) in
       changes-done op ws b (set ws (i / 64) v) (tidied (i / 64) s) r p e (t .0) (er ∙ t .1)
     where
       fit-set : (v : ℕ) → v < 2 ^ 64 → Fit (set ws (i / 64) v)
@@ -149,7 +151,7 @@ module _ (ws : List ℕ) (b : Bitmap) (i : ℕ) (f : Fit ws) (p : Passed (length
   keep-there t m j q l = sym (ap (λ (u : Bool). t && (not u || eqb (64 * m + j) i)) (ne-eqb ((64 * m + j) / 64) (i / 64) (omega arith)) ∙ and-keep t)
 
   pub andi-changes : (x r : ℕ) → i / 64 < b .count → x ≡ single 64 (i % 64) → r ≡ tidyCount (set ws (i / 64) (bitAnd (getD ws (i / 64) 0) x)) (b .count) (i / 64)
-      → Changes (keepingBit i) ws b (Done (record { count = r })) (set ws (i / 64) (bitAnd (getD ws (i / 64) 0) x))
+      → Changes (keepingBit i) ws b (Done (withCount b r)) (set ws (i / 64) (bitAnd (getD ws (i / 64) 0) x))
   unfolding keepingBit
   andi-changes x r h ex er =
       in-place (keepingBit i) _ (bitAnd (getD ws (i / 64) 0) x) r h refl (view-count ws (b .count)) (and-lt 64 (getD ws (i / 64) 0) x (f (i / 64)) (x-lt x ex))
@@ -169,7 +171,7 @@ module _ (ws : List ℕ) (b : Bitmap) (i : ℕ) (f : Fit ws) (p : Passed (length
 
   pub andnoti-changes : (x r : ℕ) → i / 64 < b .count → x ≡ single 64 (i % 64)
       → r ≡ tidyCount (set ws (i / 64) (bitAnd (getD ws (i / 64) 0) ((2 ^ 64 - 1) - x))) (b .count) (i / 64)
-      → Changes (droppingBit i) ws b (Done (record { count = r })) (set ws (i / 64) (bitAnd (getD ws (i / 64) 0) ((2 ^ 64 - 1) - x)))
+      → Changes (droppingBit i) ws b (Done (withCount b r)) (set ws (i / 64) (bitAnd (getD ws (i / 64) 0) ((2 ^ 64 - 1) - x)))
   unfolding droppingBit
   andnoti-changes x r h ex er =
       in-place (droppingBit i) _ (bitAnd (getD ws (i / 64) 0) ((2 ^ 64 - 1) - x)) r h refl (view-count ws (b .count))
@@ -187,7 +189,7 @@ module _ (ws : List ℕ) (b : Bitmap) (i : ℕ) (f : Fit ws) (p : Passed (length
   -- `xori`: a word that grew in holds the flipped bit alone, so it is never dropped
   pub xori-changes : (z : List ℕ) (x u r : ℕ) → i / 64 < length ws → z ≡ zeroed (b .count) (i / 64 + 1) ws → x ≡ single 64 (i % 64) → u ≡ max (b .count) (i / 64 + 1)
       → r ≡ tidyCount (set z (i / 64) (bitXor (getD z (i / 64) 0) x)) u (i / 64)
-      → Changes (flippingBit i) ws b (Done (record { count = r })) (set z (i / 64) (bitXor (getD z (i / 64) 0) x))
+      → Changes (flippingBit i) ws b (Done (withCount b r)) (set z (i / 64) (bitXor (getD z (i / 64) 0) x))
   unfolding flippingBit
   xori-changes z x u r h ez ex eu er =
       changes-done (flippingBit i) ws b ws' (tidied (i / 64) s) r p (within-ok (length ws) (tidied (i / 64) s) (omega (arith, t .1, small))) (t .0) (er ∙ t .1)
@@ -227,7 +229,9 @@ module _ (ws : List ℕ) (b : Bitmap) (i : ℕ) (f : Fit ws) (p : Passed (length
   unfolding flippingBit tidied wordOf
   xori-refused h =
       changes-refused (flippingBit i) ws b NoSpace p
-      (ap (λ (t : Bool). within (length ws) (choose t (trimmed s) s)) (ap (λ (t : Bool). eqb (suc (i / 64)) (s .count) && t) (ne-eqb (wordOf (s .members) (i / 64)) 0 full) ∙ and-false (eqb (suc (i / 64)) (s .count)))
+      (ap (λ (t : Bool). within (length ws) (choose t (trimmed s) s))
+      (ap (λ (t : Bool). eqb (suc (i / 64)) (s .count) && t) (ne-eqb (wordOf (s .members) (i / 64)) 0 full) ∙ and-false
+      (eqb (suc (i / 64)) (s .count)))
       ∙ within-no (length ws) s (omega arith))
     where
       s : Bits

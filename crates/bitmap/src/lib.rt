@@ -8,7 +8,8 @@ ghost use mathlib.Core.Path.{_≡_};
 ghost use Prim.Native.Nat.{_≤_, _<_};
 ghost use lib.ListN.{length};
 ghost use Rattle.storage.specs.Stores.{Changes};
-ghost use Rattle.bitmap.specs.Bitmaps.{trimming, setting, unsetting, settingMany, settingRegion, settingField, keepingBit, droppingBit, flippingBit, reachOf};
+ghost use Rattle.bitmap.specs.Bitmaps.{trimming, setting, unsetting, settingMany, settingRegion};
+ghost use Rattle.bitmap.specs.Bitmaps.{settingField, keepingBit, droppingBit, flippingBit, reachOf};
 ghost use Rattle.bitmap.specs.Kernels.{Listed, tidyCount};
 
 // Drops trailing zero words.
@@ -16,12 +17,13 @@ pub fn trim(words: &[u64], b: Bitmap) -> Change
     ensures { λ r. ⌜ Changes trimming (now (words .entry)) b r (now (words .entry)) ⌝ }
 {
     let n = b.count;
-    match storage::check(words.len(), n) {
+    match storage::check(words, b) {
         Guard::Stop(e) => return Change::Refused(e, b),
         Guard::Pass => {}
     }
     Change::Done(Bitmap {
         count: arch::nonzero_len(&words[..n]),
+        ..b
     })
 }
 
@@ -30,7 +32,7 @@ pub fn set(words: &mut [u64], b: Bitmap, i: usize) -> Change
     ensures { λ r. ⌜ Changes (setting i) (now (words .entry)) b r (now (words .exit)) ⌝ }
 {
     let n = b.count;
-    match storage::check(words.len(), n) {
+    match storage::check(words, b) {
         Guard::Stop(e) => return Change::Refused(e, b),
         Guard::Pass => {}
     }
@@ -42,6 +44,7 @@ pub fn set(words: &mut [u64], b: Bitmap, i: usize) -> Change
     words[k] = words[k] | Word::bit(i);
     Change::Done(Bitmap {
         count: word::max(n, k + 1),
+        ..b
     })
 }
 
@@ -50,7 +53,7 @@ pub fn unset(words: &mut [u64], b: Bitmap, i: usize) -> Change
     ensures { λ r. ⌜ Changes (unsetting i) (now (words .entry)) b r (now (words .exit)) ⌝ }
 {
     let n = b.count;
-    match storage::check(words.len(), n) {
+    match storage::check(words, b) {
         Guard::Stop(e) => return Change::Refused(e, b),
         Guard::Pass => {}
     }
@@ -93,7 +96,7 @@ pub fn set_many(words: &mut [u64], b: Bitmap, bits: &[usize]) -> Change
     ensures { λ r. ⌜ Changes (settingMany (now (bits .entry))) (now (words .entry)) b r (now (words .exit)) ⌝ }
 {
     let n = b.count;
-    match storage::check(words.len(), n) {
+    match storage::check(words, b) {
         Guard::Stop(e) => return Change::Refused(e, b),
         Guard::Pass => {}
     }
@@ -105,6 +108,7 @@ pub fn set_many(words: &mut [u64], b: Bitmap, bits: &[usize]) -> Change
     set_listed(words, bits);
     Change::Done(Bitmap {
         count: word::max(n, need),
+        ..b
     })
 }
 
@@ -113,7 +117,7 @@ pub fn set_region(words: &mut [u64], b: Bitmap, i: usize, value: bool, k: usize)
     ensures { λ r. ⌜ Changes (settingRegion i value k) (now (words .entry)) b r (now (words .exit)) ⌝ }
 {
     let n = b.count;
-    match storage::check(words.len(), n) {
+    match storage::check(words, b) {
         Guard::Stop(e) => return Change::Refused(e, b),
         Guard::Pass => {}
     }
@@ -136,6 +140,7 @@ pub fn set_region(words: &mut [u64], b: Bitmap, i: usize, value: bool, k: usize)
     arch::fill_region(words, i, last + 1, true);
     Change::Done(Bitmap {
         count: word::max(n, w + 1),
+        ..b
     })
 }
 
@@ -145,7 +150,7 @@ pub fn set_field(words: &mut [u64], b: Bitmap, i: usize, value: u64, width: usiz
     ensures { λ r. ⌜ Changes (settingField i value width) (now (words .entry)) b r (now (words .exit)) ⌝ }
 {
     let n = b.count;
-    match storage::check(words.len(), n) {
+    match storage::check(words, b) {
         Guard::Stop(e) => return Change::Refused(e, b),
         Guard::Pass => {}
     }
@@ -165,7 +170,7 @@ pub fn set_field(words: &mut [u64], b: Bitmap, i: usize, value: u64, width: usiz
     }
     storage::grow(words, n, w + 1);
     let used = word::max(n, w + 1);
-    slice::set_field_strict(words, Bitmap { count: used }, i, value, width)
+    slice::set_field_strict(words, Bitmap { count: used, ..b }, i, value, width)
 }
 
 // The count when word k was worked on: trailing zero words go where it is the last and is zero.
@@ -187,7 +192,7 @@ pub fn andi(words: &mut [u64], b: Bitmap, i: usize) -> Change
     ensures { λ r. ⌜ Changes (keepingBit i) (now (words .entry)) b r (now (words .exit)) ⌝ }
 {
     let n = b.count;
-    match storage::check(words.len(), n) {
+    match storage::check(words, b) {
         Guard::Stop(e) => return Change::Refused(e, b),
         Guard::Pass => {}
     }
@@ -198,6 +203,7 @@ pub fn andi(words: &mut [u64], b: Bitmap, i: usize) -> Change
     words[k] = words[k] & Word::bit(i);
     Change::Done(Bitmap {
         count: tidy(words, n, k),
+        ..b
     })
 }
 
@@ -206,7 +212,7 @@ pub fn andnoti(words: &mut [u64], b: Bitmap, i: usize) -> Change
     ensures { λ r. ⌜ Changes (droppingBit i) (now (words .entry)) b r (now (words .exit)) ⌝ }
 {
     let n = b.count;
-    match storage::check(words.len(), n) {
+    match storage::check(words, b) {
         Guard::Stop(e) => return Change::Refused(e, b),
         Guard::Pass => {}
     }
@@ -217,6 +223,7 @@ pub fn andnoti(words: &mut [u64], b: Bitmap, i: usize) -> Change
     words[k] = words[k] & !Word::bit(i);
     Change::Done(Bitmap {
         count: tidy(words, n, k),
+        ..b
     })
 }
 
@@ -225,7 +232,7 @@ pub fn xori(words: &mut [u64], b: Bitmap, i: usize) -> Change
     ensures { λ r. ⌜ Changes (flippingBit i) (now (words .entry)) b r (now (words .exit)) ⌝ }
 {
     let n = b.count;
-    match storage::check(words.len(), n) {
+    match storage::check(words, b) {
         Guard::Stop(e) => return Change::Refused(e, b),
         Guard::Pass => {}
     }
@@ -237,5 +244,6 @@ pub fn xori(words: &mut [u64], b: Bitmap, i: usize) -> Change
     words[k] = words[k] ^ Word::bit(i);
     Change::Done(Bitmap {
         count: tidy(words, word::max(n, k + 1), k),
+        ..b
     })
 }

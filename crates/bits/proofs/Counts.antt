@@ -19,20 +19,21 @@ use Rattle.word.proofs.Sets.{count-le, count-ext, count-add, count-none}
 use Rattle.word.proofs.Lists.{member-at}
 use Rattle.arch.specs.Scans.{countSet}
 use Rattle.arch.proofs.Promises.{count-is-whole}
-use Rattle.storage.specs.Stores.{view, size}
-use Rattle.storage.proofs.Checks.{Passed}
+use Rattle.storage.specs.Stores.{view, held, size}
+use Rattle.storage.specs.Guards.{Passed}
+use Rattle.storage.specs.declared.Bitmap.{Bitmap}
 use Rattle.storage.proofs.Views.{view-count, view-part, view-out}
 use Rattle.storage.proofs.Sizes.{size-counted}
 use Rattle.bits.specs.Bits.{clearSize, countRegion, rankOf}
 
-pub clear-size : (ws : List ℕ) (n c : ℕ) → Passed (length ws) n → c ≡ countSet (take n ws) → 64 * n - c ≡ clearSize (view ws n)
+pub clear-size : (ws : List ℕ) (b : Bitmap) (c : ℕ) → Passed ws b → c ≡ countSet (take (b .count) ws) → 64 * b .count - c ≡ clearSize (held ws b)
 unfolding clearSize
-clear-size ws n c p e = ap₂ (λ (m k : ℕ). 64 * m - k) (sym (view-count ws n)) (e ∙ size-counted ws n p)
+clear-size ws b c p e = ap₂ (λ (m k : ℕ). 64 * m - k) (sym (view-count ws (b .count))) (e ∙ size-counted ws b p)
 
-pub counted-le : (ws : List ℕ) (n c : ℕ) → Passed (length ws) n → c ≡ countSet (take n ws) → c ≤ 64 * n
+pub counted-le : (ws : List ℕ) (b : Bitmap) (c : ℕ) → Passed ws b → c ≡ countSet (take (b .count) ws) → c ≤ 64 * b .count
 unfolding size
-counted-le ws n c p e =
-    omega (arith, e ∙ size-counted ws n p, count-le (view ws n .members) (64 * view ws n .count), view-count ws n)
+counted-le ws b c p e =
+    omega (arith, e ∙ size-counted ws b p, count-le (held ws b .members) (64 * held ws b .count), view-count ws (b .count))
 
 -- ---- a range of a set, cut in two
 

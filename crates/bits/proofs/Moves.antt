@@ -18,10 +18,10 @@ use Rattle.word.proofs.Bits.{bit-not, bit-xor}
 use Rattle.word.proofs.Words.{mirrors, bit-single, single-lt}
 use Rattle.word.proofs.Lists.{Fit, FitTo, member-at}
 use Rattle.storage.specs.Stores.{Bits, refused, done, view, Changes}
+use Rattle.storage.specs.Guards.{Passed}
 use Rattle.storage.specs.declared.Bitmap.{Bitmap}
 use Rattle.storage.specs.declared.Change.the-variants.{Done, Refused}
 use Rattle.storage.specs.declared.Refusal.the-variants.{PastLength}
-use Rattle.storage.proofs.Checks.{Passed}
 use Rattle.storage.proofs.Views.{view-count, view-in, view-part}
 use Rattle.storage.proofs.Stores.{part-changes, changes-done, changes-refused, word-stored}
 use Rattle.bits.specs.Bits.{toggling, inverting, reversing}
@@ -35,7 +35,7 @@ inverted-is ws ws' e f s h =
     (λ k j l m. bit-not (getD ws k 0) 64 j (f .at k (omega arith)) m ∙ ap not (sym (member-at ws k j m)))
 
 -- the call, from what its kernel left of the words in use
-pub invert-changes : (ws part : List ℕ) (b : Bitmap) → Passed (length ws) (b .count)
+pub invert-changes : (ws part : List ℕ) (b : Bitmap) → Passed ws b
     → part ≡ wordsOf (λ i. not (member (take (b .count) ws) i)) (length (take (b .count) ws)) → Changes inverting ws b (Done b) (part ++ drop (b .count) ws)
 unfolding inverting
 invert-changes ws part b p e =
@@ -63,7 +63,7 @@ reversed-is ws ws' f s =
     place : (k j : ℕ) → k < length ws → j < 64 → 64 * (length ws - suc k) + (63 - j) ≡ 64 * length ws - suc (64 * k + j)
     place k j l m = omega arith
 
-pub reverse-changes : (ws part : List ℕ) (b : Bitmap) → Passed (length ws) (b .count)
+pub reverse-changes : (ws part : List ℕ) (b : Bitmap) → Passed ws b
     → part ≡ wordsOf (λ i. member (take (b .count) ws) (64 * length (take (b .count) ws) - suc i)) (length (take (b .count) ws))
     → Changes reversing ws b (Done b) (part ++ drop (b .count) ws)
 unfolding reversing
@@ -79,7 +79,7 @@ reverse-changes ws part b p e =
 
 -- ---- one bit
 
-pub toggle-changes : (ws : List ℕ) (b : Bitmap) (i x : ℕ) → Fit ws → Passed (length ws) (b .count) → i / 64 < b .count → x ≡ single 64 (i % 64)
+pub toggle-changes : (ws : List ℕ) (b : Bitmap) (i x : ℕ) → Fit ws → Passed ws b → i / 64 < b .count → x ≡ single 64 (i % 64)
     → Changes (toggling i) ws b (Done b) (set ws (i / 64) (bitXor (getD ws (i / 64) 0) x))
 unfolding toggling
 toggle-changes ws b i x f p h e =
@@ -117,6 +117,6 @@ pub toggling-past : (i c : ℕ) (s : Bits) → 64 * s .count ≤ i → toggling 
 unfolding toggling
 toggling-past i c s h = rw (le-ltb i (64 * s .count) h)
 
-pub toggle-past : (ws : List ℕ) (b : Bitmap) (i : ℕ) → Passed (length ws) (b .count) → b .count ≤ i / 64 → Changes (toggling i) ws b (Refused PastLength b) ws
+pub toggle-past : (ws : List ℕ) (b : Bitmap) (i : ℕ) → Passed ws b → b .count ≤ i / 64 → Changes (toggling i) ws b (Refused PastLength b) ws
 toggle-past ws b i p h =
     changes-refused (toggling i) ws b PastLength p (toggling-past i (length ws) (view ws (b .count)) (omega (arith, view-count ws (b .count))))

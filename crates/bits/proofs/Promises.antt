@@ -24,7 +24,8 @@ use Rattle.storage.specs.declared.Number.the-variants.{Is}
 use Rattle.storage.proofs.Outcomes.{same, never, which, sound-done}
 use Rattle.storage.proofs.Promises.{number-call, found-call}
 use Rattle.bits.specs.Bits.{toggling, inverting, reversing, clearSize, countRegion, rankOf, selected}
-use Rattle.bits.specs.Promises.{Toggled, Toggles, Inverted, Inverts, Reversed, Reverses, InvertWordsMeans, ReverseWordsMeans, CountClearBitsMeans, CountRegionMeans, RankMeans, Selected, SelectMeans}
+use Rattle.bits.specs.Promises.{Toggled, Toggles, Inverted, Inverts, Reversed, Reverses, InvertWordsMeans, ReverseWordsMeans}
+use Rattle.bits.specs.Promises.{CountClearBitsMeans, CountRegionMeans, RankMeans, Selected, SelectMeans}
 use Rattle.bits.proofs.Moves.{toggling-past}
 
 -- ---- toggle

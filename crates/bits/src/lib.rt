@@ -21,7 +21,7 @@ pub fn toggle(words: &mut [u64], b: Bitmap, i: usize) -> Change
     ensures { λ r. ⌜ Changes (toggling i) (now (words .entry)) b r (now (words .exit)) ⌝ }
 {
     let n = b.count;
-    match storage::check(words.len(), n) {
+    match storage::check(words, b) {
         Guard::Stop(e) => return Change::Refused(e, b),
         Guard::Pass => {}
     }
@@ -49,7 +49,7 @@ pub fn invert(words: &mut [u64], b: Bitmap) -> Change
     ensures { λ r. ⌜ Changes inverting (now (words .entry)) b r (now (words .exit)) ⌝ }
 {
     let n = b.count;
-    match storage::check(words.len(), n) {
+    match storage::check(words, b) {
         Guard::Stop(e) => return Change::Refused(e, b),
         Guard::Pass => {}
     }
@@ -78,7 +78,7 @@ pub fn reverse(words: &mut [u64], b: Bitmap) -> Change
     ensures { λ r. ⌜ Changes reversing (now (words .entry)) b r (now (words .exit)) ⌝ }
 {
     let n = b.count;
-    match storage::check(words.len(), n) {
+    match storage::check(words, b) {
         Guard::Stop(e) => return Change::Refused(e, b),
         Guard::Pass => {}
     }
@@ -88,10 +88,10 @@ pub fn reverse(words: &mut [u64], b: Bitmap) -> Change
 
 // The number of clear bits below the length.
 pub fn count_clear_bits(words: &[u64], b: Bitmap) -> Number
-    ensures { λ r. ⌜ r ≡ reading (now (words .entry)) (b .count) Number.Refused (λ s. Number.Is (clearSize s)) ⌝ }
+    ensures { λ r. ⌜ r ≡ reading (now (words .entry)) b Number.Refused (λ s. Number.Is (clearSize s)) ⌝ }
 {
     let n = b.count;
-    match storage::check(words.len(), n) {
+    match storage::check(words, b) {
         Guard::Stop(e) => return Number::Refused(e),
         Guard::Pass => {}
     }
@@ -129,10 +129,10 @@ fn count_between(words: &[u64], i: usize, end: usize) -> usize
 
 // The number of set bits among the k bits from i on; it stops at the length.
 pub fn count_region(words: &[u64], b: Bitmap, i: usize, k: usize) -> Number
-    ensures { λ r. ⌜ r ≡ reading (now (words .entry)) (b .count) Number.Refused (λ s. Number.Is (countRegion i k s)) ⌝ }
+    ensures { λ r. ⌜ r ≡ reading (now (words .entry)) b Number.Refused (λ s. Number.Is (countRegion i k s)) ⌝ }
 {
     let n = b.count;
-    match storage::check(words.len(), n) {
+    match storage::check(words, b) {
         Guard::Stop(e) => return Number::Refused(e),
         Guard::Pass => {}
     }
@@ -145,10 +145,10 @@ pub fn count_region(words: &[u64], b: Bitmap, i: usize, k: usize) -> Number
 
 // The number of set bits below bit i.
 pub fn rank(words: &[u64], b: Bitmap, i: usize) -> Number
-    ensures { λ r. ⌜ r ≡ reading (now (words .entry)) (b .count) Number.Refused (λ s. Number.Is (rankOf i s)) ⌝ }
+    ensures { λ r. ⌜ r ≡ reading (now (words .entry)) b Number.Refused (λ s. Number.Is (rankOf i s)) ⌝ }
 {
     let n = b.count;
-    match storage::check(words.len(), n) {
+    match storage::check(words, b) {
         Guard::Stop(e) => return Number::Refused(e),
         Guard::Pass => {}
     }
@@ -184,7 +184,8 @@ fn skip_eights(words: &[u64], r: usize) -> Skip
 // Passes words until one has more set bits than are left of the rank.
 fn skip_words(words: &[u64], r: usize) -> Skip
     requires { ⌜ length (now words) ≤ limit ⌝ }
-    ensures { λ s. ⌜ Passing (now (words .entry)) r (s .at) (s .left) × (s .at < length (now (words .entry)) → s .left < countBelow (bit (getD (now (words .entry)) (s .at) 0)) 64) ⌝ }
+    ensures { λ s. ⌜ Passing (now (words .entry)) r (s .at) (s .left) ×
+        (s .at < length (now (words .entry)) → s .left < countBelow (bit (getD (now (words .entry)) (s .at) 0)) 64) ⌝ }
 {
     let from = skip_eights(words, r);
     let mut at = from.at;
@@ -202,10 +203,10 @@ fn skip_words(words: &[u64], r: usize) -> Skip
 
 // The set bit with exactly r set bits below it.
 pub fn select(words: &[u64], b: Bitmap, r: usize) -> Found
-    ensures { λ f. ⌜ f ≡ reading (now (words .entry)) (b .count) Found.Refused (selected r) ⌝ }
+    ensures { λ f. ⌜ f ≡ reading (now (words .entry)) b Found.Refused (selected r) ⌝ }
 {
     let n = b.count;
-    match storage::check(words.len(), n) {
+    match storage::check(words, b) {
         Guard::Stop(e) => return Found::Refused(e),
         Guard::Pass => {}
     }

@@ -1,6 +1,8 @@
 // Calls of word, arch and storage at their edges.
 use crate::show;
 use arch::FoundWord;
+use storage::Bitmap;
+use storage::EMPTY;
 use storage::Guard;
 use word::Word;
 
@@ -71,12 +73,11 @@ fn kernels() {
 }
 
 fn stores() {
-    show::put(b"store of 67108864 words, all in use: number");
-    guard(storage::check(67_108_864, 67_108_864));
-    show::put(b"store of 67108865 words, none in use: number");
-    guard(storage::check(67_108_865, 0));
+    let two = [0u64; 2];
+    show::put(b"store of 2 words, both in use: number");
+    guard(storage::check(&two, Bitmap { count: 2, ..EMPTY }));
     show::put(b"store of 2 words, 3 in use: number");
-    guard(storage::check(2, 3));
+    guard(storage::check(&two, Bitmap { count: 3, ..EMPTY }));
     let mut store = [7u64; 4];
     storage::grow(&mut store, 1, 3);
     show::put(b"four words of 7, grown from 1 to 3:");

@@ -2,12 +2,13 @@
 use crate::show;
 use sheet::Reading;
 use storage::Bitmap;
+use storage::EMPTY;
 
 // `append` starts at a word boundary: it undoes `split_off` at a multiple of 64 only.
 fn append_after_split(at: usize) {
     let mut store: [u64; 4] = [0; 4];
     let mut tail: [u64; 4] = [0; 4];
-    let whole = show::record(bitmap::set_many(&mut store, Bitmap { count: 0 }, &[3, 69, 70, 100]));
+    let whole = show::record(bitmap::set_many(&mut store, EMPTY, &[3, 69, 70, 100]));
     show::put(b"bits 3, 69, 70, 100:");
     show::words_of(&store);
     show::end();
@@ -25,11 +26,11 @@ fn trim_before_rotation() {
     let mut store: [u64; 2] = [1, 0];
     show::put(b"[1 0] rotated right by 1:");
     show::change(
-        shift::rotate_right(&mut store, Bitmap { count: 2 }, 1),
+        shift::rotate_right(&mut store, Bitmap { count: 2, ..EMPTY }, 1),
         &store,
     );
     let mut same: [u64; 2] = [1, 0];
-    let trimmed = show::record(bitmap::trim(&same, Bitmap { count: 2 }));
+    let trimmed = show::record(bitmap::trim(&same, Bitmap { count: 2, ..EMPTY }));
     show::put(b"trimmed before:");
     show::change(shift::rotate_right(&mut same, trimmed, 1), &same);
 }
@@ -39,7 +40,7 @@ fn reading(edition: usize, sheet: &[u8]) {
     let mut store: [u64; 2] = [7; 2];
     show::number(edition);
     show::put(b":");
-    match reader::read(edition, sheet, &old, Bitmap { count: 0 }, &mut store) {
+    match reader::read(edition, sheet, &old, EMPTY, &mut store) {
         Reading::Done(records, b) => {
             show::number(0);
             show::number(records);
@@ -74,12 +75,12 @@ fn half_a_field() {
     let mut store: [u64; 2] = [0; 2];
     show::put(b"one word of two in use, set_field_strict(60, ff, 8):");
     show::change(
-        slice::set_field_strict(&mut store, Bitmap { count: 1 }, 60, 0xff, 8),
+        slice::set_field_strict(&mut store, Bitmap { count: 1, ..EMPTY }, 60, 0xff, 8),
         &store,
     );
     show::put(b"both in use:");
     show::change(
-        slice::set_field_strict(&mut store, Bitmap { count: 2 }, 60, 0xff, 8),
+        slice::set_field_strict(&mut store, Bitmap { count: 2, ..EMPTY }, 60, 0xff, 8),
         &store,
     );
 }

@@ -2,13 +2,14 @@
 use crate::show;
 use shape::Split;
 use storage::Bitmap;
+use storage::EMPTY;
 
 const FAR: usize = 18_446_744_073_709_551_615;
 
 // Width 0 or region length 0 does nothing, whatever the index.
 fn nothing() {
     let mut store: [u64; 2] = [5; 2];
-    let b = Bitmap { count: 1 };
+    let b = Bitmap { count: 1, ..EMPTY };
     show::put(b"set_region(2^64 - 1, true, 0):");
     show::change(bitmap::set_region(&mut store, b, FAR, true, 0), &store);
     show::put(b"toggle_region(2^64 - 1, 0):");
@@ -22,7 +23,7 @@ fn nothing() {
 // The width before the last index, the last index before the space.
 fn first_number() {
     let mut store: [u64; 1] = [5; 1];
-    let b = Bitmap { count: 1 };
+    let b = Bitmap { count: 1, ..EMPTY };
     show::put(b"set_field(2^64 - 1, 1, 65):");
     show::change(bitmap::set_field(&mut store, b, FAR, 1, 65), &store);
     show::put(b"set_field(2^64 - 1, 1, 2):");
@@ -35,7 +36,7 @@ fn first_number() {
     show::change(shape::shift_left(&mut store, b, FAR - 1), &store);
     show::put(b"the same of two words in a store of one:");
     show::change(
-        shape::shift_left(&mut store, Bitmap { count: 2 }, FAR - 1),
+        shape::shift_left(&mut store, Bitmap { count: 2, ..EMPTY }, FAR - 1),
         &store,
     );
 }
@@ -44,20 +45,23 @@ fn first_number() {
 fn words_in_use() {
     let mut store: [u64; 4] = [9; 4];
     show::put(b"four words of 9, one in use, set(128):");
-    show::change(bitmap::set(&mut store, Bitmap { count: 1 }, 128), &store);
+    show::change(
+        bitmap::set(&mut store, Bitmap { count: 1, ..EMPTY }, 128),
+        &store,
+    );
     show::put(b"truncate_bits(3):");
     show::change(
-        shape::truncate_bits(&mut store, Bitmap { count: 3 }, 3),
+        shape::truncate_bits(&mut store, Bitmap { count: 3, ..EMPTY }, 3),
         &store,
     );
     show::put(b"resize_bits(65):");
     show::change(
-        shape::resize_bits(&mut store, Bitmap { count: 1 }, 65),
+        shape::resize_bits(&mut store, Bitmap { count: 1, ..EMPTY }, 65),
         &store,
     );
     show::put(b"resize_bits(257):");
     show::change(
-        shape::resize_bits(&mut store, Bitmap { count: 2 }, 257),
+        shape::resize_bits(&mut store, Bitmap { count: 2, ..EMPTY }, 257),
         &store,
     );
 }
@@ -67,20 +71,29 @@ fn field_growth() {
     let mut store: [u64; 3] = [0xff; 3];
     show::put(b"one word of ff, set_field(4, 0, 64):");
     show::change(
-        bitmap::set_field(&mut store, Bitmap { count: 1 }, 4, 0, 64),
+        bitmap::set_field(&mut store, Bitmap { count: 1, ..EMPTY }, 4, 0, 64),
         &store,
     );
     show::put(b"set_field(4, 1, 64):");
     show::change(
-        bitmap::set_field(&mut store, Bitmap { count: 1 }, 4, 1, 64),
+        bitmap::set_field(&mut store, Bitmap { count: 1, ..EMPTY }, 4, 1, 64),
         &store,
     );
     show::put(b"andi(4):");
-    show::change(bitmap::andi(&mut store, Bitmap { count: 2 }, 4), &store);
+    show::change(
+        bitmap::andi(&mut store, Bitmap { count: 2, ..EMPTY }, 4),
+        &store,
+    );
     show::put(b"andnoti(4), two words in use:");
-    show::change(bitmap::andnoti(&mut store, Bitmap { count: 2 }, 4), &store);
+    show::change(
+        bitmap::andnoti(&mut store, Bitmap { count: 2, ..EMPTY }, 4),
+        &store,
+    );
     show::put(b"andnoti(64), two words in use:");
-    show::change(bitmap::andnoti(&mut store, Bitmap { count: 2 }, 64), &store);
+    show::change(
+        bitmap::andnoti(&mut store, Bitmap { count: 2, ..EMPTY }, 64),
+        &store,
+    );
 }
 
 fn halves(s: Split, head: &[u64], tail: &[u64]) {
@@ -106,7 +119,7 @@ fn split() {
     let mut store: [u64; 2] = [3; 2];
     let mut short: [u64; 1] = [6; 1];
     let mut tail: [u64; 2] = [6; 2];
-    let b = Bitmap { count: 2 };
+    let b = Bitmap { count: 2, ..EMPTY };
     show::put(b"two words of 3, split_off(0), one word for the tail:");
     halves(
         shape::split_off(&mut store, b, 0, &mut short),
@@ -127,16 +140,13 @@ fn split() {
 fn length_nothing() {
     let mut store: [u64; 1] = [3; 1];
     show::put(b"no word in use, rotate_left(5):");
-    show::change(
-        shift::rotate_left(&mut store, Bitmap { count: 0 }, 5),
-        &store,
-    );
+    show::change(shift::rotate_left(&mut store, EMPTY, 5), &store);
     show::put(b"reverse:");
-    show::change(bits::reverse(&mut store, Bitmap { count: 0 }), &store);
+    show::change(bits::reverse(&mut store, EMPTY), &store);
     show::put(b"next_clear(7):");
-    show::counted(slice::next_clear(&store, Bitmap { count: 0 }, 7));
+    show::counted(slice::next_clear(&store, EMPTY, 7));
     show::put(b"last_set:");
-    show::found(slice::last_set(&store, Bitmap { count: 0 }));
+    show::found(slice::last_set(&store, EMPTY));
 }
 
 pub(crate) fn books() {

@@ -7,10 +7,10 @@ use mathlib.Core.Logic.{_⊎_, inl, inr}
 use native.Mathlib.Omega.{arith}
 use lib.ListN.{length}
 use borrow.Author.Tests.{ne-eqb}
-use Rattle.word.proofs.Cases.{by-lt}
 use Rattle.storage.specs.Refusals.{foundNumber, foundFlag, foundValue, numberNumber, numberValue, fieldNumber, fieldValue, truthNumber, truthValue}
-use Rattle.storage.specs.Stores.{Op, limit, view}
-use Rattle.storage.specs.Promises.{Guarded, HandsNone, FindsNone, Kept, EndsAs}
+use Rattle.storage.specs.Stores.{Bits, Op, view}
+use Rattle.storage.specs.Guards.{Stopped, Passed}
+use Rattle.storage.specs.Promises.{Guarded, GuardedBoth, HandsNone, FindsNone, Kept, EndsAs, CallEnds, BesideEnds}
 use Rattle.storage.specs.declared.Found.{Found}
 use Rattle.storage.specs.declared.Found.the-variants.{Refused}
 use Rattle.storage.specs.declared.Number.{Number}
@@ -20,8 +20,7 @@ use Rattle.storage.specs.declared.Field.the-variants.{Refused}
 use Rattle.storage.specs.declared.Truth.{Truth}
 use Rattle.storage.specs.declared.Truth.the-variants.{Refused}
 use Rattle.storage.proofs.Promises as storage
-use Rattle.algebra.specs.Promises.{GuardedBoth}
-use Rattle.algebra.proofs.Promises as algebra
+use Rattle.storage.proofs.Checks.{which-way}
 use Rattle.combine.proofs.Promises as combine
 use Rattle.shape.specs.Promises.{SplitMeans}
 use Rattle.shape.proofs.Halves as halves
@@ -36,8 +35,8 @@ use Rattle.sheet.specs.declared.Added.the-variants.{Done, Refused}
 use Rattle.sheet.proofs.Readings.{reading-means}
 use Rattle.sheet.proofs.Writings.{starting-means, adding-means}
 use Rattle.answers.specs.Answers.{AddedOut}
-use Rattle.capi.specs.Calls.{Changed, Split, Printed, Written}
-use Rattle.capi.specs.Promises.{ChangesMean, ReadingsMean, OthersMean, TruthIn, RefusalKeeps}
+use Rattle.capi.specs.Calls.{bitmapOf, Changed, Split, Printed, Written}
+use Rattle.capi.specs.Promises.{ChangesMean, ReadingsMean, OthersMean, CountIn, TruthIn, RefusalKeeps}
 
 -- ---- what crosses is what the answer is
 
@@ -52,49 +51,63 @@ carry-three P {f = f} {v = v} {r = r} p q s h = carry (P r) q s (subst (λ (y : 
 pub changes-mean : ChangesMean
 changes-mean = record {
   alone = λ op rule why meets ws ws' n r n' h.
-      carry (λ x m. Guarded (length ws) n (Kept n ws x m ws') (EndsAs rule why (view ws n) ws x m ws')) (h .out .number) (h .out .count)
-      (storage.change-means op rule why meets ws ws' (record { count = n }) _ (record { answers = refl; leaves = h .leaves }));
+      carry (λ x m. CallEnds rule why ws (bitmapOf n) x m ws') (h .out .number) (h .out .count)
+      (storage.change-means op rule why meets ws ws' (bitmapOf n) _ (record { answers = refl; leaves = h .leaves }));
   with-one = λ op rule why meets os ws ws' m n r n' h.
-      carry
-      (λ x c. Guarded (length ws) n (Kept n ws x c ws') (Guarded (length os) m (Kept n ws x c ws') (EndsAs (rule (view os m)) (why (view os m)) (view ws n) ws x c ws')))
-      (h .out .number) (h .out .count)
-      (storage.beside-means op rule why meets os ws ws' m (record { count = n }) _ (record { answers = refl; leaves = h .leaves }));
+      carry (λ x c. BesideEnds rule why os (bitmapOf m) ws (bitmapOf n) x c ws') (h .out .number) (h .out .count)
+      (storage.beside-means op rule why meets os ws ws' (bitmapOf m) (bitmapOf n) _ (record { answers = refl; leaves = h .leaves }));
   with-two = λ op rule why meets xs ys ws ws' k m n r n' h.
+      let x : Bits = view xs k in
+      let y : Bits = view ys m in
       carry
-      (λ x c. Guarded (length ws) n (Kept n ws x c ws')
-      (Guarded (length xs) k (Kept n ws x c ws')
-      (Guarded (length ys) m (Kept n ws x c ws') (EndsAs (rule (view xs k) (view ys m)) (why (view xs k) (view ys m)) (view ws n) ws x c ws'))))
+      (λ a c. Guarded ws (bitmapOf n) (Kept n ws a c ws')
+      (GuardedBoth xs (bitmapOf k) ys (bitmapOf m) (Kept n ws a c ws') (EndsAs (rule x y) (why x y) (view ws n) ws a c ws')))
       (h .out .number) (h .out .count)
-      (combine.both-means op rule why meets xs k ys m ws (record { count = n }) _ ws' (record { answers = refl; leaves = h .leaves }));
+      (combine.both-means op rule why meets xs (bitmapOf k) ys (bitmapOf m) ws (bitmapOf n) _ ws' (record { answers = refl; leaves = h .leaves }));
 }
 
 -- ---- reading calls
 
+-- what a refusal hands out
+abbrev noFound : Found → ℕ → Type 0
+noFound a = FindsNone (foundNumber a) (foundFlag a) (foundValue a)
+
+abbrev noNumber : Number → ℕ → Type 0
+noNumber a = HandsNone (numberNumber a) (numberValue a)
+
+abbrev noField : Field → ℕ → Type 0
+noField a = HandsNone (fieldNumber a) (fieldValue a)
+
+abbrev noTruth : Truth → ℕ → Type 0
+noTruth a = HandsNone (truthNumber a) (truthValue a)
+
 pub readings-mean : ReadingsMean
 readings-mean = record {
   found = λ rule g holds ws n r f v o.
-      carry-three (λ x t y. Guarded (length ws) n (FindsNone x t y) (rule (view ws n) x t y)) (o .number) (o .found) (o .place)
-      (storage.reading-means Found.Refused g (λ a. FindsNone (foundNumber a) (foundFlag a) (foundValue a))
-      (λ b a. rule b (foundNumber a) (foundFlag a) (foundValue a)) (λ e. (refl, refl, refl)) holds ws n _ refl);
+      carry-three (λ x t y. Guarded ws (bitmapOf n) (FindsNone x t y) (rule (view ws n) x t y)) (o .number) (o .found) (o .place)
+      (storage.reading-means Found.Refused g noFound (λ b a. rule b (foundNumber a) (foundFlag a) (foundValue a)) (λ e. (refl, refl, refl)) holds
+      ws (bitmapOf n) _ refl);
   number = λ rule g holds ws n r v o.
-      carry (λ x y. Guarded (length ws) n (HandsNone x y) (rule (view ws n) x y)) (o .number) (o .value)
-      (storage.reading-means Number.Refused g (λ a. HandsNone (numberNumber a) (numberValue a)) (λ b a. rule b (numberNumber a) (numberValue a)) (λ e. (refl, refl)) holds ws n _ refl);
+      carry (λ x y. Guarded ws (bitmapOf n) (HandsNone x y) (rule (view ws n) x y)) (o .number) (o .value)
+      (storage.reading-means Number.Refused g noNumber (λ b a. rule b (numberNumber a) (numberValue a)) (λ e. (refl, refl)) holds ws (bitmapOf n) _ refl);
   field = λ rule g holds ws n r v o.
-      carry (λ x y. Guarded (length ws) n (HandsNone x y) (rule (view ws n) x y)) (o .number) (o .value)
-      (storage.reading-means Field.Refused g (λ a. HandsNone (fieldNumber a) (fieldValue a)) (λ b a. rule b (fieldNumber a) (fieldValue a)) (λ e. (refl, refl)) holds ws n _ refl);
+      carry (λ x y. Guarded ws (bitmapOf n) (HandsNone x y) (rule (view ws n) x y)) (o .number) (o .value)
+      (storage.reading-means Field.Refused g noField (λ b a. rule b (fieldNumber a) (fieldValue a)) (λ e. (refl, refl)) holds ws (bitmapOf n) _ refl);
   truth = λ rule g holds ws n r v o.
-      carry (λ x y. Guarded (length ws) n (HandsNone x y) (rule (view ws n) x y)) (o .number) (o .value)
-      (storage.reading-means Truth.Refused g (λ a. HandsNone (truthNumber a) (truthValue a)) (λ b a. rule b (truthNumber a) (truthValue a)) (λ e. (refl, refl)) holds ws n _ refl);
+      carry (λ x y. Guarded ws (bitmapOf n) (HandsNone x y) (rule (view ws n) x y)) (o .number) (o .value)
+      (storage.reading-means Truth.Refused g noTruth (λ b a. rule b (truthNumber a) (truthValue a)) (λ e. (refl, refl)) holds ws (bitmapOf n) _ refl);
   found-both = λ rule g holds ws os n m r f v o.
-      carry-three (λ x t y. GuardedBoth (length ws) n (length os) m (FindsNone x t y) (rule (view ws n) (view os m) x t y)) (o .number) (o .found) (o .place)
-      (algebra.both-means Found.Refused g (λ a. FindsNone (foundNumber a) (foundFlag a) (foundValue a))
-      (λ b c a. rule b c (foundNumber a) (foundFlag a) (foundValue a)) (λ e. (refl, refl, refl)) holds ws n os m _ refl);
+      carry-three (λ x t y. GuardedBoth ws (bitmapOf n) os (bitmapOf m) (FindsNone x t y) (rule (view ws n) (view os m) x t y)) (o .number) (o .found) (o .place)
+      (storage.both-means Found.Refused g noFound (λ b c a. rule b c (foundNumber a) (foundFlag a) (foundValue a)) (λ e. (refl, refl, refl)) holds
+      ws (bitmapOf n) os (bitmapOf m) _ refl);
   number-both = λ rule g holds ws os n m r v o.
-      carry (λ x y. GuardedBoth (length ws) n (length os) m (HandsNone x y) (rule (view ws n) (view os m) x y)) (o .number) (o .value)
-      (algebra.both-means Number.Refused g (λ a. HandsNone (numberNumber a) (numberValue a)) (λ b c a. rule b c (numberNumber a) (numberValue a)) (λ e. (refl, refl)) holds ws n os m _ refl);
+      carry (λ x y. GuardedBoth ws (bitmapOf n) os (bitmapOf m) (HandsNone x y) (rule (view ws n) (view os m) x y)) (o .number) (o .value)
+      (storage.both-means Number.Refused g noNumber (λ b c a. rule b c (numberNumber a) (numberValue a)) (λ e. (refl, refl)) holds
+      ws (bitmapOf n) os (bitmapOf m) _ refl);
   truth-both = λ rule g holds ws os n m r v o.
-      carry (λ x y. GuardedBoth (length ws) n (length os) m (HandsNone x y) (rule (view ws n) (view os m) x y)) (o .number) (o .value)
-      (algebra.both-means Truth.Refused g (λ a. HandsNone (truthNumber a) (truthValue a)) (λ b c a. rule b c (truthNumber a) (truthValue a)) (λ e. (refl, refl)) holds ws n os m _ refl);
+      carry (λ x y. GuardedBoth ws (bitmapOf n) os (bitmapOf m) (HandsNone x y) (rule (view ws n) (view os m) x y)) (o .number) (o .value)
+      (storage.both-means Truth.Refused g noTruth (λ b c a. rule b c (truthNumber a) (truthValue a)) (λ e. (refl, refl)) holds
+      ws (bitmapOf n) os (bitmapOf m) _ refl);
 }
 
 -- ---- the other calls
@@ -102,15 +115,18 @@ readings-mean = record {
 pub others-mean : OthersMean
 others-mean = record {
   split = λ at ws ts ws' ts' n r n' t h.
-      carry-three (λ x m k. SplitMeans at ws n ts x m k ws' ts') (h .out .number) (h .out .count) (h .out .tail)
-      (halves.split-means at ws (record { count = n }) ts _ ws' ts' (record { answers = refl; head = h .head; tail = h .tail }));
+      carry-three (λ x m k. SplitMeans at ws (bitmapOf n) ts x m k ws' ts') (h .out .number) (h .out .count) (h .out .tail)
+      (halves.split-means at ws (bitmapOf n) ts _ ws' ts' (record { answers = refl; head = h .head; tail = h .tail }));
   print = λ ws bs bs' n r v h.
-      carry (λ x y. PrintsText ws n bs x y bs') (h .out .number) (h .out .value) (prints-text ws n bs _ bs' (record { answers = refl; leaves = h .leaves }));
-  read = λ e sheet ws res res' n r k m h. (_, h .out, reading-means e sheet ws n res _ res' (record { answers = refl; leaves = h .leaves }));
+      carry (λ x y. PrintsText ws (bitmapOf n) bs x y bs') (h .out .number) (h .out .value) (prints-text ws (bitmapOf n) bs _ bs' (record { answers = refl; leaves = h .leaves }));
+  read = λ e sheet ws res res' n r k m h. (_, h .out, reading-means e sheet ws (bitmapOf n) res _ res' (record { answers = refl; leaves = h .leaves }));
   start = λ bs bs' n r n' h. (_, h .out, starting-means bs _ bs' (record { answers = refl; leaves = h .leaves }));
   add-duty = λ bs bs' payload f n kind r n' h. (_, h .out, adding-means .duties bs n kind f payload _ bs' (record { answers = refl; leaves = h .leaves }));
   add-remark = λ bs bs' payload f n kind r n' h. (_, h .out, adding-means .remarks bs n kind f payload _ bs' (record { answers = refl; leaves = h .leaves }));
 }
+
+pub count-in : CountIn
+count-in n = refl
 
 pub truth-in : TruthIn
 truth-in = record { zero = refl; other = λ v h. ap not (ne-eqb v 0 (omega arith)) }
@@ -119,22 +135,28 @@ truth-in = record { zero = refl; other = λ v h. ap not (ne-eqb v 0 (omega arith
 
 change : (op : Op) (ws ws' : List ℕ) (n r n' : ℕ) → Changed op ws n r ws' n' → 0 < r → (n' ≡ n) × (ws' ≡ ws)
 change op ws ws' n r n' h p =
-    let k = storage.refusal-keeps op ws ws' (record { count = n }) _ (record { answers = refl; leaves = h .leaves }) (omega (arith, h .out .number)) in
+    let k = storage.refusal-keeps op ws ws' (bitmapOf n) _ (record { answers = refl; leaves = h .leaves }) (omega (arith, h .out .number)) in
     (h .out .count ∙ ap (λ (b : Bitmap). b .count) (k .0), k .1)
 
 split : (at : ℕ) (ws ts ws' ts' : List ℕ) (n r n' t : ℕ) → Split at ws n ts r ws' n' ts' t → 0 < r → (n' ≡ n) × (ws' ≡ ws) × (ts' ≡ ts)
 split at ws ts ws' ts' n r n' t h p =
-    let k = halves.split-keeps at ws (record { count = n }) ts _ ws' ts' (record { answers = refl; head = h .head; tail = h .tail }) (omega (arith, h .out .number)) in
+    let k = halves.split-keeps at ws (bitmapOf n) ts _ ws' ts' (record { answers = refl; head = h .head; tail = h .tail }) (omega (arith, h .out .number)) in
     (h .out .count ∙ ap (λ (b : Bitmap). b .count) (k .0), k .2, k .3)
 
 print : (ws bs bs' : List ℕ) (n r v : ℕ) → Printed ws n bs r bs' v → 0 < r → bs' ≡ bs
 print ws bs bs' n r v h p =
-    let q = others-mean .print ws bs bs' n r v h in
-    by-lt limit (length ws) (λ l. q .long l .bytes) (λ l. by-lt (length ws) n (λ m. q .over l m .bytes) (λ m. ends (q .rest l m .2)))
+    way (which-way ws (bitmapOf n))
   where
+    q : PrintsText ws (bitmapOf n) bs r v bs'
+    q = others-mean .print ws bs bs' n r v h
+
     ends : {t : List ℕ} → ((length t ≤ length bs) × TextPut t bs r v bs') ⊎ ((length bs < length t) × NotPrinted bs r v bs' 6) → bs' ≡ bs
     ends (inl x) = absurd (omega (arith, x .1 .number))
     ends (inr x) = x .1 .bytes
+
+    way : ((x : ℕ) × Stopped ws (bitmapOf n) x) ⊎ Passed ws (bitmapOf n) → bs' ≡ bs
+    way (inl (x, s)) = q .stop x s .bytes
+    way (inr t) = ends (q .rest t .2)
 
 kept : (a : Added) (bs bs' : List ℕ) (n r n' : ℕ) → AddedOut a n r n' → Leaves bs a bs' → 0 < r → (n' ≡ n) × (bs' ≡ bs)
 kept (Done m) bs bs' n r n' o k p = absurd (omega (arith, o .number))

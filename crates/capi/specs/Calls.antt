@@ -4,9 +4,9 @@ use Prim.Native.Nat.{ℕ}
 use mathlib.Core.Path.{_≡_}
 use mathlib.Core.Bool.{Bool, not}
 use mathlib.Core.List.{List}
-use lib.ListN.{length}
 use lib.Dec.{eqb}
-use Rattle.storage.specs.Stores.{Op, reading, answer, store, outcome}
+use Rattle.storage.specs.Stores.{Op, withCount, noWords, reading, answer, store, outcome}
+use Rattle.storage.specs.declared.Bitmap.{Bitmap}
 use Rattle.storage.specs.declared.Number.{Number}
 use Rattle.storage.specs.declared.Number.the-variants.{Refused}
 use Rattle.shape.specs.Shapes.{headOutcome, tailOutcome, splitAnswer}
@@ -19,26 +19,30 @@ use Rattle.answers.specs.Answers.{ChangeOut, SplitOut, NumberOut, ReadingOut, A
 abbrev pub truth : ℕ → Bool
 truth v = not (eqb v 0)
 
+-- a record crosses as its count
+abbrev pub bitmapOf : ℕ → Bitmap
+bitmapOf n = withCount noWords n
+
 -- a changing call on the first n words of the store ws: the count goes in and out
 pub record Changed (op : Op) (ws : List ℕ) (n r : ℕ) (ws' : List ℕ) (n' : ℕ) : Type 0 where
-  pub out : ChangeOut (answer (outcome op ws n) (record { count = n })) r n'
-  pub leaves : ws' ≡ store (outcome op ws n) ws n
+  pub out : ChangeOut (answer (outcome op ws (bitmapOf n)) (bitmapOf n)) r n'
+  pub leaves : ws' ≡ store (outcome op ws (bitmapOf n)) ws n
 
 -- `split_off`: the head's count goes in and out, the tail's goes out
 pub record Split (at : ℕ) (ws : List ℕ) (n : ℕ) (ts : List ℕ) (r : ℕ) (ws' : List ℕ) (n' : ℕ) (ts' : List ℕ) (t : ℕ) : Type 0 where
-  pub out : SplitOut (splitAnswer (headOutcome at ws n ts) (tailOutcome at ws n ts) (record { count = n })) r n' t
-  pub head : ws' ≡ store (headOutcome at ws n ts) ws n
-  pub tail : ts' ≡ store (tailOutcome at ws n ts) ts 0
+  pub out : SplitOut (splitAnswer (headOutcome at ws (bitmapOf n) ts) (tailOutcome at ws (bitmapOf n) ts) (bitmapOf n)) r n' t
+  pub head : ws' ≡ store (headOutcome at ws (bitmapOf n) ts) ws n
+  pub tail : ts' ≡ store (tailOutcome at ws (bitmapOf n) ts) ts 0
 
 -- `write_list` of the first n words of ws into the buffer bs: the text's length goes out
 pub record Printed (ws : List ℕ) (n : ℕ) (bs : List ℕ) (r : ℕ) (bs' : List ℕ) (v : ℕ) : Type 0 where
-  pub out : NumberOut (reading ws n Number.Refused (λ s. fitted (textOf s) bs)) r v
-  pub leaves : bs' ≡ reading ws n (λ e. bs) (λ s. replaced (textOf s) bs)
+  pub out : NumberOut (reading ws (bitmapOf n) Number.Refused (λ s. fitted (textOf s) bs)) r v
+  pub leaves : bs' ≡ reading ws (bitmapOf n) (λ e. bs) (λ s. replaced (textOf s) bs)
 
 -- a reading in edition e of a sheet, from the first n words of ws, into the store res: record and count go out
 pub record Read (e : ℕ) (sheet ws : List ℕ) (n : ℕ) (res : List ℕ) (r : ℕ) (res' : List ℕ) (k m : ℕ) : Type 0 where
-  pub out : ReadingOut (readAnswer (course e sheet ws n (length res))) r k m
-  pub leaves : res' ≡ readStore (course e sheet ws n (length res)) res
+  pub out : ReadingOut (readAnswer (course e sheet ws (bitmapOf n) res)) r k m
+  pub leaves : res' ≡ readStore (course e sheet ws (bitmapOf n) res) res
 
 -- a writer's call that came to l: the sheet's length goes in and out
 pub record Written (l : Left) (n r : ℕ) (buf' : List ℕ) (n' : ℕ) : Type 0 where

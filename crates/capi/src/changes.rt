@@ -1,5 +1,6 @@
 // Changes that grow and trim.
 use storage::Bitmap;
+use storage::EMPTY;
 ghost use Rattle.bitmap.specs.Bitmaps.{trimming, setting, unsetting, settingMany, settingRegion, settingField, keepingBit, droppingBit, flippingBit};
 ghost use Rattle.capi.specs.Calls.{Changed, truth};
 
@@ -8,7 +9,8 @@ ghost use Rattle.capi.specs.Calls.{Changed, truth};
 pub extern "C" fn taxolbin_trim(words: &[u64], count: &mut usize) -> u32
     ensures { λ r. ⌜ Changed trimming (now (words .entry)) (now (count .entry)) r (now (words .entry)) (now (count .exit)) ⌝ }
 {
-    let a = bitmap::trim(words, Bitmap { count: *count });
+    let n = *count;
+    let a = bitmap::trim(words, Bitmap { count: n, ..EMPTY });
     answers::change(a, count)
 }
 
@@ -17,7 +19,8 @@ pub extern "C" fn taxolbin_trim(words: &[u64], count: &mut usize) -> u32
 pub extern "C" fn taxolbin_set(words: &mut [u64], count: &mut usize, i: usize) -> u32
     ensures { λ r. ⌜ Changed (setting i) (now (words .entry)) (now (count .entry)) r (now (words .exit)) (now (count .exit)) ⌝ }
 {
-    let a = bitmap::set(words, Bitmap { count: *count }, i);
+    let n = *count;
+    let a = bitmap::set(words, Bitmap { count: n, ..EMPTY }, i);
     answers::change(a, count)
 }
 
@@ -26,7 +29,8 @@ pub extern "C" fn taxolbin_set(words: &mut [u64], count: &mut usize, i: usize) -
 pub extern "C" fn taxolbin_unset(words: &mut [u64], count: &mut usize, i: usize) -> u32
     ensures { λ r. ⌜ Changed (unsetting i) (now (words .entry)) (now (count .entry)) r (now (words .exit)) (now (count .exit)) ⌝ }
 {
-    let a = bitmap::unset(words, Bitmap { count: *count }, i);
+    let n = *count;
+    let a = bitmap::unset(words, Bitmap { count: n, ..EMPTY }, i);
     answers::change(a, count)
 }
 
@@ -35,7 +39,8 @@ pub extern "C" fn taxolbin_unset(words: &mut [u64], count: &mut usize, i: usize)
 pub extern "C" fn taxolbin_set_many(words: &mut [u64], count: &mut usize, bits: &[usize]) -> u32
     ensures { λ r. ⌜ Changed (settingMany (now (bits .entry))) (now (words .entry)) (now (count .entry)) r (now (words .exit)) (now (count .exit)) ⌝ }
 {
-    let a = bitmap::set_many(words, Bitmap { count: *count }, bits);
+    let n = *count;
+    let a = bitmap::set_many(words, Bitmap { count: n, ..EMPTY }, bits);
     answers::change(a, count)
 }
 
@@ -50,7 +55,8 @@ pub extern "C" fn taxolbin_set_region(
 ) -> u32
     ensures { λ r. ⌜ Changed (settingRegion i (truth value) k) (now (words .entry)) (now (count .entry)) r (now (words .exit)) (now (count .exit)) ⌝ }
 {
-    let a = bitmap::set_region(words, Bitmap { count: *count }, i, value != 0, k);
+    let n = *count;
+    let a = bitmap::set_region(words, Bitmap { count: n, ..EMPTY }, i, value != 0, k);
     answers::change(a, count)
 }
 
@@ -65,7 +71,8 @@ pub extern "C" fn taxolbin_set_field(
 ) -> u32
     ensures { λ r. ⌜ Changed (settingField i value width) (now (words .entry)) (now (count .entry)) r (now (words .exit)) (now (count .exit)) ⌝ }
 {
-    let a = bitmap::set_field(words, Bitmap { count: *count }, i, value, width);
+    let n = *count;
+    let a = bitmap::set_field(words, Bitmap { count: n, ..EMPTY }, i, value, width);
     answers::change(a, count)
 }
 
@@ -74,7 +81,8 @@ pub extern "C" fn taxolbin_set_field(
 pub extern "C" fn taxolbin_andi(words: &mut [u64], count: &mut usize, i: usize) -> u32
     ensures { λ r. ⌜ Changed (keepingBit i) (now (words .entry)) (now (count .entry)) r (now (words .exit)) (now (count .exit)) ⌝ }
 {
-    let a = bitmap::andi(words, Bitmap { count: *count }, i);
+    let n = *count;
+    let a = bitmap::andi(words, Bitmap { count: n, ..EMPTY }, i);
     answers::change(a, count)
 }
 
@@ -83,7 +91,8 @@ pub extern "C" fn taxolbin_andi(words: &mut [u64], count: &mut usize, i: usize) 
 pub extern "C" fn taxolbin_andnoti(words: &mut [u64], count: &mut usize, i: usize) -> u32
     ensures { λ r. ⌜ Changed (droppingBit i) (now (words .entry)) (now (count .entry)) r (now (words .exit)) (now (count .exit)) ⌝ }
 {
-    let a = bitmap::andnoti(words, Bitmap { count: *count }, i);
+    let n = *count;
+    let a = bitmap::andnoti(words, Bitmap { count: n, ..EMPTY }, i);
     answers::change(a, count)
 }
 
@@ -92,6 +101,7 @@ pub extern "C" fn taxolbin_andnoti(words: &mut [u64], count: &mut usize, i: usiz
 pub extern "C" fn taxolbin_xori(words: &mut [u64], count: &mut usize, i: usize) -> u32
     ensures { λ r. ⌜ Changed (flippingBit i) (now (words .entry)) (now (count .entry)) r (now (words .exit)) (now (count .exit)) ⌝ }
 {
-    let a = bitmap::xori(words, Bitmap { count: *count }, i);
+    let n = *count;
+    let a = bitmap::xori(words, Bitmap { count: n, ..EMPTY }, i);
     answers::change(a, count)
 }

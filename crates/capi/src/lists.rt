@@ -1,5 +1,6 @@
 // List text.
 use storage::Bitmap;
+use storage::EMPTY;
 ghost use Rattle.text.specs.Readings.{readingList};
 ghost use Rattle.capi.specs.Calls.{Changed, Printed};
 
@@ -8,7 +9,8 @@ ghost use Rattle.capi.specs.Calls.{Changed, Printed};
 pub extern "C" fn taxolbin_from_list(words: &mut [u64], count: &mut usize, list: &[u8]) -> u32
     ensures { λ r. ⌜ Changed (readingList (now (list .entry))) (now (words .entry)) (now (count .entry)) r (now (words .exit)) (now (count .exit)) ⌝ }
 {
-    let a = text::from_list(words, Bitmap { count: *count }, list);
+    let n = *count;
+    let a = text::from_list(words, Bitmap { count: n, ..EMPTY }, list);
     answers::change(a, count)
 }
 
@@ -22,6 +24,6 @@ pub extern "C" fn taxolbin_write_list(
 ) -> u32
     ensures { λ r. ⌜ Printed (now (words .entry)) count (now (out .entry)) r (now (out .exit)) (now (length .exit)) ⌝ }
 {
-    let a = print::write_list(words, Bitmap { count }, out);
+    let a = print::write_list(words, Bitmap { count, ..EMPTY }, out);
     answers::number(a, length)
 }

@@ -1,14 +1,16 @@
 // Two bitmaps compared, counted and walked.
 use storage::Bitmap;
+use storage::EMPTY;
 ghost use mathlib.Core.Bool.{_&&_, _||_};
 ghost use Rattle.word.specs.Sets.{xorb};
-ghost use Rattle.storage.specs.Stores.{reading, andNot};
+ghost use Rattle.storage.specs.Stores.{andNot, readingBoth};
 ghost use Rattle.storage.specs.declared.Truth.{Truth};
 ghost use Rattle.storage.specs.declared.Truth.the-variants.{Is, Refused};
 ghost use Rattle.slice.specs.Slices.{equal};
 ghost use Rattle.algebra.specs.Algebra.{emptyOf, countOf};
 ghost use Rattle.walk.specs.Walks.{walkOf};
 ghost use Rattle.answers.specs.Answers.{FoundOut, NumberOut, TruthOut};
+ghost use Rattle.capi.specs.Calls.{bitmapOf};
 
 // Whether both hold the same set.
 #[no_mangle]
@@ -19,10 +21,14 @@ pub extern "C" fn taxolbin_eq(
     ocount: usize,
     value: &mut usize,
 ) -> u32
-    ensures { λ r. ⌜ TruthOut (reading (now (words .entry)) count Truth.Refused (λ s. reading (now (other .entry)) ocount Truth.Refused (λ t. Truth.Is (equal s t)))) r (now (value .exit)) ⌝ }
+    ensures { λ r. ⌜ TruthOut (readingBoth (now (words .entry)) (bitmapOf count) (now (other .entry)) (bitmapOf ocount) Truth.Refused
+        (λ s t. Truth.Is (equal s t))) r (now (value .exit)) ⌝ }
 {
-    let o = Bitmap { count: ocount };
-    let a = slice::eq(words, Bitmap { count }, other, o);
+    let o = Bitmap {
+        count: ocount,
+        ..EMPTY
+    };
+    let a = slice::eq(words, Bitmap { count, ..EMPTY }, other, o);
     answers::truth(a, value)
 }
 
@@ -35,10 +41,13 @@ pub extern "C" fn taxolbin_is_subset(
     ocount: usize,
     value: &mut usize,
 ) -> u32
-    ensures { λ r. ⌜ TruthOut (emptyOf andNot (now (words .entry)) count (now (other .entry)) ocount) r (now (value .exit)) ⌝ }
+    ensures { λ r. ⌜ TruthOut (emptyOf andNot (now (words .entry)) (bitmapOf count) (now (other .entry)) (bitmapOf ocount)) r (now (value .exit)) ⌝ }
 {
-    let o = Bitmap { count: ocount };
-    let a = algebra::is_subset(words, Bitmap { count }, other, o);
+    let o = Bitmap {
+        count: ocount,
+        ..EMPTY
+    };
+    let a = algebra::is_subset(words, Bitmap { count, ..EMPTY }, other, o);
     answers::truth(a, value)
 }
 
@@ -51,10 +60,13 @@ pub extern "C" fn taxolbin_is_disjoint(
     ocount: usize,
     value: &mut usize,
 ) -> u32
-    ensures { λ r. ⌜ TruthOut (emptyOf (λ p q. p && q) (now (words .entry)) count (now (other .entry)) ocount) r (now (value .exit)) ⌝ }
+    ensures { λ r. ⌜ TruthOut (emptyOf (λ p q. p && q) (now (words .entry)) (bitmapOf count) (now (other .entry)) (bitmapOf ocount)) r (now (value .exit)) ⌝ }
 {
-    let o = Bitmap { count: ocount };
-    let a = algebra::is_disjoint(words, Bitmap { count }, other, o);
+    let o = Bitmap {
+        count: ocount,
+        ..EMPTY
+    };
+    let a = algebra::is_disjoint(words, Bitmap { count, ..EMPTY }, other, o);
     answers::truth(a, value)
 }
 
@@ -67,10 +79,13 @@ pub extern "C" fn taxolbin_and_count(
     ocount: usize,
     value: &mut usize,
 ) -> u32
-    ensures { λ r. ⌜ NumberOut (countOf (λ p q. p && q) (now (words .entry)) count (now (other .entry)) ocount) r (now (value .exit)) ⌝ }
+    ensures { λ r. ⌜ NumberOut (countOf (λ p q. p && q) (now (words .entry)) (bitmapOf count) (now (other .entry)) (bitmapOf ocount)) r (now (value .exit)) ⌝ }
 {
-    let o = Bitmap { count: ocount };
-    let a = algebra::and_count(words, Bitmap { count }, other, o);
+    let o = Bitmap {
+        count: ocount,
+        ..EMPTY
+    };
+    let a = algebra::and_count(words, Bitmap { count, ..EMPTY }, other, o);
     answers::number(a, value)
 }
 
@@ -83,10 +98,13 @@ pub extern "C" fn taxolbin_or_count(
     ocount: usize,
     value: &mut usize,
 ) -> u32
-    ensures { λ r. ⌜ NumberOut (countOf (λ p q. p || q) (now (words .entry)) count (now (other .entry)) ocount) r (now (value .exit)) ⌝ }
+    ensures { λ r. ⌜ NumberOut (countOf (λ p q. p || q) (now (words .entry)) (bitmapOf count) (now (other .entry)) (bitmapOf ocount)) r (now (value .exit)) ⌝ }
 {
-    let o = Bitmap { count: ocount };
-    let a = algebra::or_count(words, Bitmap { count }, other, o);
+    let o = Bitmap {
+        count: ocount,
+        ..EMPTY
+    };
+    let a = algebra::or_count(words, Bitmap { count, ..EMPTY }, other, o);
     answers::number(a, value)
 }
 
@@ -99,10 +117,13 @@ pub extern "C" fn taxolbin_xor_count(
     ocount: usize,
     value: &mut usize,
 ) -> u32
-    ensures { λ r. ⌜ NumberOut (countOf xorb (now (words .entry)) count (now (other .entry)) ocount) r (now (value .exit)) ⌝ }
+    ensures { λ r. ⌜ NumberOut (countOf xorb (now (words .entry)) (bitmapOf count) (now (other .entry)) (bitmapOf ocount)) r (now (value .exit)) ⌝ }
 {
-    let o = Bitmap { count: ocount };
-    let a = algebra::xor_count(words, Bitmap { count }, other, o);
+    let o = Bitmap {
+        count: ocount,
+        ..EMPTY
+    };
+    let a = algebra::xor_count(words, Bitmap { count, ..EMPTY }, other, o);
     answers::number(a, value)
 }
 
@@ -115,10 +136,13 @@ pub extern "C" fn taxolbin_andnot_count(
     ocount: usize,
     value: &mut usize,
 ) -> u32
-    ensures { λ r. ⌜ NumberOut (countOf andNot (now (words .entry)) count (now (other .entry)) ocount) r (now (value .exit)) ⌝ }
+    ensures { λ r. ⌜ NumberOut (countOf andNot (now (words .entry)) (bitmapOf count) (now (other .entry)) (bitmapOf ocount)) r (now (value .exit)) ⌝ }
 {
-    let o = Bitmap { count: ocount };
-    let a = algebra::andnot_count(words, Bitmap { count }, other, o);
+    let o = Bitmap {
+        count: ocount,
+        ..EMPTY
+    };
+    let a = algebra::andnot_count(words, Bitmap { count, ..EMPTY }, other, o);
     answers::number(a, value)
 }
 
@@ -133,10 +157,14 @@ pub extern "C" fn taxolbin_iter_and(
     found: &mut usize,
     place: &mut usize,
 ) -> u32
-    ensures { λ r. ⌜ FoundOut (walkOf (λ p q. p && q) (now (words .entry)) count (now (other .entry)) ocount i) r (now (found .exit)) (now (place .exit)) ⌝ }
+    ensures { λ r. ⌜ FoundOut (walkOf (λ p q. p && q) (now (words .entry)) (bitmapOf count) (now (other .entry))
+        (bitmapOf ocount) i) r (now (found .exit)) (now (place .exit)) ⌝ }
 {
-    let o = Bitmap { count: ocount };
-    let a = walk::iter_and(words, Bitmap { count }, other, o, i);
+    let o = Bitmap {
+        count: ocount,
+        ..EMPTY
+    };
+    let a = walk::iter_and(words, Bitmap { count, ..EMPTY }, other, o, i);
     answers::found(a, found, place)
 }
 
@@ -151,10 +179,14 @@ pub extern "C" fn taxolbin_iter_or(
     found: &mut usize,
     place: &mut usize,
 ) -> u32
-    ensures { λ r. ⌜ FoundOut (walkOf (λ p q. p || q) (now (words .entry)) count (now (other .entry)) ocount i) r (now (found .exit)) (now (place .exit)) ⌝ }
+    ensures { λ r. ⌜ FoundOut (walkOf (λ p q. p || q) (now (words .entry)) (bitmapOf count) (now (other .entry))
+        (bitmapOf ocount) i) r (now (found .exit)) (now (place .exit)) ⌝ }
 {
-    let o = Bitmap { count: ocount };
-    let a = walk::iter_or(words, Bitmap { count }, other, o, i);
+    let o = Bitmap {
+        count: ocount,
+        ..EMPTY
+    };
+    let a = walk::iter_or(words, Bitmap { count, ..EMPTY }, other, o, i);
     answers::found(a, found, place)
 }
 
@@ -169,10 +201,14 @@ pub extern "C" fn taxolbin_iter_xor(
     found: &mut usize,
     place: &mut usize,
 ) -> u32
-    ensures { λ r. ⌜ FoundOut (walkOf xorb (now (words .entry)) count (now (other .entry)) ocount i) r (now (found .exit)) (now (place .exit)) ⌝ }
+    ensures { λ r. ⌜ FoundOut (walkOf xorb (now (words .entry)) (bitmapOf count) (now (other .entry)) (bitmapOf ocount) i) r
+        (now (found .exit)) (now (place .exit)) ⌝ }
 {
-    let o = Bitmap { count: ocount };
-    let a = walk::iter_xor(words, Bitmap { count }, other, o, i);
+    let o = Bitmap {
+        count: ocount,
+        ..EMPTY
+    };
+    let a = walk::iter_xor(words, Bitmap { count, ..EMPTY }, other, o, i);
     answers::found(a, found, place)
 }
 
@@ -187,9 +223,13 @@ pub extern "C" fn taxolbin_iter_andnot(
     found: &mut usize,
     place: &mut usize,
 ) -> u32
-    ensures { λ r. ⌜ FoundOut (walkOf andNot (now (words .entry)) count (now (other .entry)) ocount i) r (now (found .exit)) (now (place .exit)) ⌝ }
+    ensures { λ r. ⌜ FoundOut (walkOf andNot (now (words .entry)) (bitmapOf count) (now (other .entry)) (bitmapOf ocount) i) r
+        (now (found .exit)) (now (place .exit)) ⌝ }
 {
-    let o = Bitmap { count: ocount };
-    let a = walk::iter_andnot(words, Bitmap { count }, other, o, i);
+    let o = Bitmap {
+        count: ocount,
+        ..EMPTY
+    };
+    let a = walk::iter_andnot(words, Bitmap { count, ..EMPTY }, other, o, i);
     answers::found(a, found, place)
 }

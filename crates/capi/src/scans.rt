@@ -1,5 +1,6 @@
 // What one bitmap holds: bits, fields, scans and counts.
 use storage::Bitmap;
+use storage::EMPTY;
 ghost use Rattle.storage.specs.Stores.{reading, nextFrom, size};
 ghost use Rattle.storage.specs.declared.Found.{Found};
 ghost use Rattle.storage.specs.declared.Found.the-variants.{Refused};
@@ -12,13 +13,14 @@ ghost use Rattle.storage.specs.declared.Truth.the-variants.{Is, Refused};
 ghost use Rattle.slice.specs.Slices.{fieldAt, lastSet, nextClear};
 ghost use Rattle.bits.specs.Bits.{clearSize, countRegion, rankOf, selected};
 ghost use Rattle.answers.specs.Answers.{FoundOut, NumberOut, FieldOut, TruthOut};
+ghost use Rattle.capi.specs.Calls.{bitmapOf};
 
 // Whether bit i is set; it is not past the length.
 #[no_mangle]
 pub extern "C" fn taxolbin_get(words: &[u64], count: usize, i: usize, value: &mut usize) -> u32
-    ensures { λ r. ⌜ TruthOut (reading (now (words .entry)) count Truth.Refused (λ s. Truth.Is (s .members i))) r (now (value .exit)) ⌝ }
+    ensures { λ r. ⌜ TruthOut (reading (now (words .entry)) (bitmapOf count) Truth.Refused (λ s. Truth.Is (s .members i))) r (now (value .exit)) ⌝ }
 {
-    let a = slice::get(words, Bitmap { count }, i);
+    let a = slice::get(words, Bitmap { count, ..EMPTY }, i);
     answers::truth(a, value)
 }
 
@@ -31,9 +33,9 @@ pub extern "C" fn taxolbin_get_field(
     width: usize,
     value: &mut u64,
 ) -> u32
-    ensures { λ r. ⌜ FieldOut (reading (now (words .entry)) count Field.Refused (fieldAt i width)) r (now (value .exit)) ⌝ }
+    ensures { λ r. ⌜ FieldOut (reading (now (words .entry)) (bitmapOf count) Field.Refused (fieldAt i width)) r (now (value .exit)) ⌝ }
 {
-    let a = slice::get_field(words, Bitmap { count }, i, width);
+    let a = slice::get_field(words, Bitmap { count, ..EMPTY }, i, width);
     answers::field(a, value)
 }
 
@@ -45,9 +47,9 @@ pub extern "C" fn taxolbin_first_set(
     found: &mut usize,
     place: &mut usize,
 ) -> u32
-    ensures { λ r. ⌜ FoundOut (reading (now (words .entry)) count Found.Refused (λ s. nextFrom s 0)) r (now (found .exit)) (now (place .exit)) ⌝ }
+    ensures { λ r. ⌜ FoundOut (reading (now (words .entry)) (bitmapOf count) Found.Refused (λ s. nextFrom s 0)) r (now (found .exit)) (now (place .exit)) ⌝ }
 {
-    let a = slice::first_set(words, Bitmap { count });
+    let a = slice::first_set(words, Bitmap { count, ..EMPTY });
     answers::found(a, found, place)
 }
 
@@ -59,9 +61,9 @@ pub extern "C" fn taxolbin_last_set(
     found: &mut usize,
     place: &mut usize,
 ) -> u32
-    ensures { λ r. ⌜ FoundOut (reading (now (words .entry)) count Found.Refused lastSet) r (now (found .exit)) (now (place .exit)) ⌝ }
+    ensures { λ r. ⌜ FoundOut (reading (now (words .entry)) (bitmapOf count) Found.Refused lastSet) r (now (found .exit)) (now (place .exit)) ⌝ }
 {
-    let a = slice::last_set(words, Bitmap { count });
+    let a = slice::last_set(words, Bitmap { count, ..EMPTY });
     answers::found(a, found, place)
 }
 
@@ -74,9 +76,9 @@ pub extern "C" fn taxolbin_next_set(
     found: &mut usize,
     place: &mut usize,
 ) -> u32
-    ensures { λ r. ⌜ FoundOut (reading (now (words .entry)) count Found.Refused (λ s. nextFrom s i)) r (now (found .exit)) (now (place .exit)) ⌝ }
+    ensures { λ r. ⌜ FoundOut (reading (now (words .entry)) (bitmapOf count) Found.Refused (λ s. nextFrom s i)) r (now (found .exit)) (now (place .exit)) ⌝ }
 {
-    let a = slice::next_set(words, Bitmap { count }, i);
+    let a = slice::next_set(words, Bitmap { count, ..EMPTY }, i);
     answers::found(a, found, place)
 }
 
@@ -89,18 +91,18 @@ pub extern "C" fn taxolbin_select(
     found: &mut usize,
     place: &mut usize,
 ) -> u32
-    ensures { λ r. ⌜ FoundOut (reading (now (words .entry)) count Found.Refused (selected rank)) r (now (found .exit)) (now (place .exit)) ⌝ }
+    ensures { λ r. ⌜ FoundOut (reading (now (words .entry)) (bitmapOf count) Found.Refused (selected rank)) r (now (found .exit)) (now (place .exit)) ⌝ }
 {
-    let a = bits::select(words, Bitmap { count }, rank);
+    let a = bits::select(words, Bitmap { count, ..EMPTY }, rank);
     answers::found(a, found, place)
 }
 
 // The least clear bit; the length where all are set.
 #[no_mangle]
 pub extern "C" fn taxolbin_first_clear(words: &[u64], count: usize, value: &mut usize) -> u32
-    ensures { λ r. ⌜ NumberOut (reading (now (words .entry)) count Number.Refused (λ s. Number.Is (nextClear s 0))) r (now (value .exit)) ⌝ }
+    ensures { λ r. ⌜ NumberOut (reading (now (words .entry)) (bitmapOf count) Number.Refused (λ s. Number.Is (nextClear s 0))) r (now (value .exit)) ⌝ }
 {
-    let a = slice::first_clear(words, Bitmap { count });
+    let a = slice::first_clear(words, Bitmap { count, ..EMPTY });
     answers::number(a, value)
 }
 
@@ -112,27 +114,27 @@ pub extern "C" fn taxolbin_next_clear(
     i: usize,
     value: &mut usize,
 ) -> u32
-    ensures { λ r. ⌜ NumberOut (reading (now (words .entry)) count Number.Refused (λ s. Number.Is (nextClear s i))) r (now (value .exit)) ⌝ }
+    ensures { λ r. ⌜ NumberOut (reading (now (words .entry)) (bitmapOf count) Number.Refused (λ s. Number.Is (nextClear s i))) r (now (value .exit)) ⌝ }
 {
-    let a = slice::next_clear(words, Bitmap { count }, i);
+    let a = slice::next_clear(words, Bitmap { count, ..EMPTY }, i);
     answers::number(a, value)
 }
 
 // How many bits are set.
 #[no_mangle]
 pub extern "C" fn taxolbin_count_set_bits(words: &[u64], count: usize, value: &mut usize) -> u32
-    ensures { λ r. ⌜ NumberOut (reading (now (words .entry)) count Number.Refused (λ s. Number.Is (size s))) r (now (value .exit)) ⌝ }
+    ensures { λ r. ⌜ NumberOut (reading (now (words .entry)) (bitmapOf count) Number.Refused (λ s. Number.Is (size s))) r (now (value .exit)) ⌝ }
 {
-    let a = slice::count_set_bits(words, Bitmap { count });
+    let a = slice::count_set_bits(words, Bitmap { count, ..EMPTY });
     answers::number(a, value)
 }
 
 // How many bits within the length are clear.
 #[no_mangle]
 pub extern "C" fn taxolbin_count_clear_bits(words: &[u64], count: usize, value: &mut usize) -> u32
-    ensures { λ r. ⌜ NumberOut (reading (now (words .entry)) count Number.Refused (λ s. Number.Is (clearSize s))) r (now (value .exit)) ⌝ }
+    ensures { λ r. ⌜ NumberOut (reading (now (words .entry)) (bitmapOf count) Number.Refused (λ s. Number.Is (clearSize s))) r (now (value .exit)) ⌝ }
 {
-    let a = bits::count_clear_bits(words, Bitmap { count });
+    let a = bits::count_clear_bits(words, Bitmap { count, ..EMPTY });
     answers::number(a, value)
 }
 
@@ -145,17 +147,17 @@ pub extern "C" fn taxolbin_count_region(
     k: usize,
     value: &mut usize,
 ) -> u32
-    ensures { λ r. ⌜ NumberOut (reading (now (words .entry)) count Number.Refused (λ s. Number.Is (countRegion i k s))) r (now (value .exit)) ⌝ }
+    ensures { λ r. ⌜ NumberOut (reading (now (words .entry)) (bitmapOf count) Number.Refused (λ s. Number.Is (countRegion i k s))) r (now (value .exit)) ⌝ }
 {
-    let a = bits::count_region(words, Bitmap { count }, i, k);
+    let a = bits::count_region(words, Bitmap { count, ..EMPTY }, i, k);
     answers::number(a, value)
 }
 
 // How many bits below i are set.
 #[no_mangle]
 pub extern "C" fn taxolbin_rank(words: &[u64], count: usize, i: usize, value: &mut usize) -> u32
-    ensures { λ r. ⌜ NumberOut (reading (now (words .entry)) count Number.Refused (λ s. Number.Is (rankOf i s))) r (now (value .exit)) ⌝ }
+    ensures { λ r. ⌜ NumberOut (reading (now (words .entry)) (bitmapOf count) Number.Refused (λ s. Number.Is (rankOf i s))) r (now (value .exit)) ⌝ }
 {
-    let a = bits::rank(words, Bitmap { count }, i);
+    let a = bits::rank(words, Bitmap { count, ..EMPTY }, i);
     answers::number(a, value)
 }

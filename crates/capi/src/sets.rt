@@ -1,11 +1,12 @@
 // Set operations: of a bitmap with another, of two into a third store, and of two into a store with no earlier count.
 use storage::Bitmap;
+use storage::EMPTY;
 ghost use mathlib.Core.Bool.{_&&_};
 ghost use Rattle.word.specs.Sets.{xorb};
 ghost use Rattle.storage.specs.Stores.{andNot, beside};
 ghost use Rattle.setops.specs.Setops.{combining, uniting};
 ghost use Rattle.combine.specs.Combine.{combiningFrom, unitingFrom, besideBoth};
-ghost use Rattle.capi.specs.Calls.{Changed};
+ghost use Rattle.capi.specs.Calls.{bitmapOf, Changed};
 
 // Keeps the bits that are set in both.
 #[no_mangle]
@@ -15,10 +16,15 @@ pub extern "C" fn taxolbin_and(
     other: &[u64],
     ocount: usize,
 ) -> u32
-    ensures { λ r. ⌜ Changed (beside (now (other .entry)) ocount (combining _&&_)) (now (words .entry)) (now (count .entry)) r (now (words .exit)) (now (count .exit)) ⌝ }
+    ensures { λ r. ⌜ Changed (beside (now (other .entry)) (bitmapOf ocount) (combining _&&_)) (now (words .entry))
+        (now (count .entry)) r (now (words .exit)) (now (count .exit)) ⌝ }
 {
-    let o = Bitmap { count: ocount };
-    let a = setops::and(words, Bitmap { count: *count }, other, o);
+    let n = *count;
+    let o = Bitmap {
+        count: ocount,
+        ..EMPTY
+    };
+    let a = setops::and(words, Bitmap { count: n, ..EMPTY }, other, o);
     answers::change(a, count)
 }
 
@@ -30,10 +36,15 @@ pub extern "C" fn taxolbin_andnot(
     other: &[u64],
     ocount: usize,
 ) -> u32
-    ensures { λ r. ⌜ Changed (beside (now (other .entry)) ocount (combining andNot)) (now (words .entry)) (now (count .entry)) r (now (words .exit)) (now (count .exit)) ⌝ }
+    ensures { λ r. ⌜ Changed (beside (now (other .entry)) (bitmapOf ocount) (combining andNot)) (now (words .entry))
+        (now (count .entry)) r (now (words .exit)) (now (count .exit)) ⌝ }
 {
-    let o = Bitmap { count: ocount };
-    let a = setops::andnot(words, Bitmap { count: *count }, other, o);
+    let n = *count;
+    let o = Bitmap {
+        count: ocount,
+        ..EMPTY
+    };
+    let a = setops::andnot(words, Bitmap { count: n, ..EMPTY }, other, o);
     answers::change(a, count)
 }
 
@@ -45,10 +56,15 @@ pub extern "C" fn taxolbin_or(
     other: &[u64],
     ocount: usize,
 ) -> u32
-    ensures { λ r. ⌜ Changed (beside (now (other .entry)) ocount uniting) (now (words .entry)) (now (count .entry)) r (now (words .exit)) (now (count .exit)) ⌝ }
+    ensures { λ r. ⌜ Changed (beside (now (other .entry)) (bitmapOf ocount) uniting) (now (words .entry)) (now (count .entry)) r
+        (now (words .exit)) (now (count .exit)) ⌝ }
 {
-    let o = Bitmap { count: ocount };
-    let a = setops::or(words, Bitmap { count: *count }, other, o);
+    let n = *count;
+    let o = Bitmap {
+        count: ocount,
+        ..EMPTY
+    };
+    let a = setops::or(words, Bitmap { count: n, ..EMPTY }, other, o);
     answers::change(a, count)
 }
 
@@ -60,10 +76,15 @@ pub extern "C" fn taxolbin_xor(
     other: &[u64],
     ocount: usize,
 ) -> u32
-    ensures { λ r. ⌜ Changed (beside (now (other .entry)) ocount (combining xorb)) (now (words .entry)) (now (count .entry)) r (now (words .exit)) (now (count .exit)) ⌝ }
+    ensures { λ r. ⌜ Changed (beside (now (other .entry)) (bitmapOf ocount) (combining xorb)) (now (words .entry))
+        (now (count .entry)) r (now (words .exit)) (now (count .exit)) ⌝ }
 {
-    let o = Bitmap { count: ocount };
-    let a = setops::xor(words, Bitmap { count: *count }, other, o);
+    let n = *count;
+    let o = Bitmap {
+        count: ocount,
+        ..EMPTY
+    };
+    let a = setops::xor(words, Bitmap { count: n, ..EMPTY }, other, o);
     answers::change(a, count)
 }
 
@@ -77,11 +98,19 @@ pub extern "C" fn taxolbin_and_from(
     right: &[u64],
     rcount: usize,
 ) -> u32
-    ensures { λ r. ⌜ Changed (besideBoth (now (left .entry)) lcount (now (right .entry)) rcount (combiningFrom _&&_)) (now (words .entry)) (now (count .entry)) r (now (words .exit)) (now (count .exit)) ⌝ }
+    ensures { λ r. ⌜ Changed (besideBoth (now (left .entry)) (bitmapOf lcount) (now (right .entry)) (bitmapOf rcount)
+        (combiningFrom _&&_)) (now (words .entry)) (now (count .entry)) r (now (words .exit)) (now (count .exit)) ⌝ }
 {
-    let l = Bitmap { count: lcount };
-    let r = Bitmap { count: rcount };
-    let a = combine::and_from(words, Bitmap { count: *count }, left, l, right, r);
+    let n = *count;
+    let l = Bitmap {
+        count: lcount,
+        ..EMPTY
+    };
+    let r = Bitmap {
+        count: rcount,
+        ..EMPTY
+    };
+    let a = combine::and_from(words, Bitmap { count: n, ..EMPTY }, left, l, right, r);
     answers::change(a, count)
 }
 
@@ -95,11 +124,19 @@ pub extern "C" fn taxolbin_andnot_from(
     right: &[u64],
     rcount: usize,
 ) -> u32
-    ensures { λ r. ⌜ Changed (besideBoth (now (left .entry)) lcount (now (right .entry)) rcount (combiningFrom andNot)) (now (words .entry)) (now (count .entry)) r (now (words .exit)) (now (count .exit)) ⌝ }
+    ensures { λ r. ⌜ Changed (besideBoth (now (left .entry)) (bitmapOf lcount) (now (right .entry)) (bitmapOf rcount)
+        (combiningFrom andNot)) (now (words .entry)) (now (count .entry)) r (now (words .exit)) (now (count .exit)) ⌝ }
 {
-    let l = Bitmap { count: lcount };
-    let r = Bitmap { count: rcount };
-    let a = combine::andnot_from(words, Bitmap { count: *count }, left, l, right, r);
+    let n = *count;
+    let l = Bitmap {
+        count: lcount,
+        ..EMPTY
+    };
+    let r = Bitmap {
+        count: rcount,
+        ..EMPTY
+    };
+    let a = combine::andnot_from(words, Bitmap { count: n, ..EMPTY }, left, l, right, r);
     answers::change(a, count)
 }
 
@@ -113,11 +150,19 @@ pub extern "C" fn taxolbin_or_from(
     right: &[u64],
     rcount: usize,
 ) -> u32
-    ensures { λ r. ⌜ Changed (besideBoth (now (left .entry)) lcount (now (right .entry)) rcount unitingFrom) (now (words .entry)) (now (count .entry)) r (now (words .exit)) (now (count .exit)) ⌝ }
+    ensures { λ r. ⌜ Changed (besideBoth (now (left .entry)) (bitmapOf lcount) (now (right .entry)) (bitmapOf rcount) unitingFrom)
+        (now (words .entry)) (now (count .entry)) r (now (words .exit)) (now (count .exit)) ⌝ }
 {
-    let l = Bitmap { count: lcount };
-    let r = Bitmap { count: rcount };
-    let a = combine::or_from(words, Bitmap { count: *count }, left, l, right, r);
+    let n = *count;
+    let l = Bitmap {
+        count: lcount,
+        ..EMPTY
+    };
+    let r = Bitmap {
+        count: rcount,
+        ..EMPTY
+    };
+    let a = combine::or_from(words, Bitmap { count: n, ..EMPTY }, left, l, right, r);
     answers::change(a, count)
 }
 
@@ -131,11 +176,19 @@ pub extern "C" fn taxolbin_xor_from(
     right: &[u64],
     rcount: usize,
 ) -> u32
-    ensures { λ r. ⌜ Changed (besideBoth (now (left .entry)) lcount (now (right .entry)) rcount (combiningFrom xorb)) (now (words .entry)) (now (count .entry)) r (now (words .exit)) (now (count .exit)) ⌝ }
+    ensures { λ r. ⌜ Changed (besideBoth (now (left .entry)) (bitmapOf lcount) (now (right .entry)) (bitmapOf rcount)
+        (combiningFrom xorb)) (now (words .entry)) (now (count .entry)) r (now (words .exit)) (now (count .exit)) ⌝ }
 {
-    let l = Bitmap { count: lcount };
-    let r = Bitmap { count: rcount };
-    let a = combine::xor_from(words, Bitmap { count: *count }, left, l, right, r);
+    let n = *count;
+    let l = Bitmap {
+        count: lcount,
+        ..EMPTY
+    };
+    let r = Bitmap {
+        count: rcount,
+        ..EMPTY
+    };
+    let a = combine::xor_from(words, Bitmap { count: n, ..EMPTY }, left, l, right, r);
     answers::change(a, count)
 }
 
@@ -149,10 +202,17 @@ pub extern "C" fn taxolbin_dup_and(
     right: &[u64],
     rcount: usize,
 ) -> u32
-    ensures { λ r. ⌜ Changed (besideBoth (now (left .entry)) lcount (now (right .entry)) rcount (combiningFrom _&&_)) (now (words .entry)) 0 r (now (words .exit)) (now (count .exit)) ⌝ }
+    ensures { λ r. ⌜ Changed (besideBoth (now (left .entry)) (bitmapOf lcount) (now (right .entry)) (bitmapOf rcount)
+        (combiningFrom _&&_)) (now (words .entry)) 0 r (now (words .exit)) (now (count .exit)) ⌝ }
 {
-    let l = Bitmap { count: lcount };
-    let r = Bitmap { count: rcount };
+    let l = Bitmap {
+        count: lcount,
+        ..EMPTY
+    };
+    let r = Bitmap {
+        count: rcount,
+        ..EMPTY
+    };
     let a = combine::dup_and(words, left, l, right, r);
     answers::change(a, count)
 }
@@ -167,10 +227,17 @@ pub extern "C" fn taxolbin_dup_andnot(
     right: &[u64],
     rcount: usize,
 ) -> u32
-    ensures { λ r. ⌜ Changed (besideBoth (now (left .entry)) lcount (now (right .entry)) rcount (combiningFrom andNot)) (now (words .entry)) 0 r (now (words .exit)) (now (count .exit)) ⌝ }
+    ensures { λ r. ⌜ Changed (besideBoth (now (left .entry)) (bitmapOf lcount) (now (right .entry)) (bitmapOf rcount)
+        (combiningFrom andNot)) (now (words .entry)) 0 r (now (words .exit)) (now (count .exit)) ⌝ }
 {
-    let l = Bitmap { count: lcount };
-    let r = Bitmap { count: rcount };
+    let l = Bitmap {
+        count: lcount,
+        ..EMPTY
+    };
+    let r = Bitmap {
+        count: rcount,
+        ..EMPTY
+    };
     let a = combine::dup_andnot(words, left, l, right, r);
     answers::change(a, count)
 }
@@ -185,10 +252,17 @@ pub extern "C" fn taxolbin_dup_or(
     right: &[u64],
     rcount: usize,
 ) -> u32
-    ensures { λ r. ⌜ Changed (besideBoth (now (left .entry)) lcount (now (right .entry)) rcount unitingFrom) (now (words .entry)) 0 r (now (words .exit)) (now (count .exit)) ⌝ }
+    ensures { λ r. ⌜ Changed (besideBoth (now (left .entry)) (bitmapOf lcount) (now (right .entry)) (bitmapOf rcount) unitingFrom)
+        (now (words .entry)) 0 r (now (words .exit)) (now (count .exit)) ⌝ }
 {
-    let l = Bitmap { count: lcount };
-    let r = Bitmap { count: rcount };
+    let l = Bitmap {
+        count: lcount,
+        ..EMPTY
+    };
+    let r = Bitmap {
+        count: rcount,
+        ..EMPTY
+    };
     let a = combine::dup_or(words, left, l, right, r);
     answers::change(a, count)
 }
@@ -203,10 +277,17 @@ pub extern "C" fn taxolbin_dup_xor(
     right: &[u64],
     rcount: usize,
 ) -> u32
-    ensures { λ r. ⌜ Changed (besideBoth (now (left .entry)) lcount (now (right .entry)) rcount (combiningFrom xorb)) (now (words .entry)) 0 r (now (words .exit)) (now (count .exit)) ⌝ }
+    ensures { λ r. ⌜ Changed (besideBoth (now (left .entry)) (bitmapOf lcount) (now (right .entry)) (bitmapOf rcount)
+        (combiningFrom xorb)) (now (words .entry)) 0 r (now (words .exit)) (now (count .exit)) ⌝ }
 {
-    let l = Bitmap { count: lcount };
-    let r = Bitmap { count: rcount };
+    let l = Bitmap {
+        count: lcount,
+        ..EMPTY
+    };
+    let r = Bitmap {
+        count: rcount,
+        ..EMPTY
+    };
     let a = combine::dup_xor(words, left, l, right, r);
     answers::change(a, count)
 }

@@ -1,16 +1,18 @@
 // Flips, shifts, resizing, splitting, joining and gaps, growing and trimming.
 use storage::Bitmap;
+use storage::EMPTY;
 ghost use Rattle.storage.specs.Stores.{beside};
 ghost use Rattle.shape.specs.Shapes.{toggling, togglingRegion, raising, lowering, truncating, resizing, appending};
 ghost use Rattle.gap.specs.Gaps.{opening, closing};
-ghost use Rattle.capi.specs.Calls.{Changed, Split};
+ghost use Rattle.capi.specs.Calls.{bitmapOf, Changed, Split};
 
 // Flips bit i; grows to its word.
 #[no_mangle]
 pub extern "C" fn taxolbin_toggle(words: &mut [u64], count: &mut usize, i: usize) -> u32
     ensures { λ r. ⌜ Changed (toggling i) (now (words .entry)) (now (count .entry)) r (now (words .exit)) (now (count .exit)) ⌝ }
 {
-    let a = shape::toggle(words, Bitmap { count: *count }, i);
+    let n = *count;
+    let a = shape::toggle(words, Bitmap { count: n, ..EMPTY }, i);
     answers::change(a, count)
 }
 
@@ -24,7 +26,8 @@ pub extern "C" fn taxolbin_toggle_region(
 ) -> u32
     ensures { λ r. ⌜ Changed (togglingRegion i k) (now (words .entry)) (now (count .entry)) r (now (words .exit)) (now (count .exit)) ⌝ }
 {
-    let a = shape::toggle_region(words, Bitmap { count: *count }, i, k);
+    let n = *count;
+    let a = shape::toggle_region(words, Bitmap { count: n, ..EMPTY }, i, k);
     answers::change(a, count)
 }
 
@@ -33,7 +36,8 @@ pub extern "C" fn taxolbin_toggle_region(
 pub extern "C" fn taxolbin_shift_left(words: &mut [u64], count: &mut usize, k: usize) -> u32
     ensures { λ r. ⌜ Changed (raising k) (now (words .entry)) (now (count .entry)) r (now (words .exit)) (now (count .exit)) ⌝ }
 {
-    let a = shape::shift_left(words, Bitmap { count: *count }, k);
+    let n = *count;
+    let a = shape::shift_left(words, Bitmap { count: n, ..EMPTY }, k);
     answers::change(a, count)
 }
 
@@ -42,7 +46,8 @@ pub extern "C" fn taxolbin_shift_left(words: &mut [u64], count: &mut usize, k: u
 pub extern "C" fn taxolbin_shift_right(words: &mut [u64], count: &mut usize, k: usize) -> u32
     ensures { λ r. ⌜ Changed (lowering k) (now (words .entry)) (now (count .entry)) r (now (words .exit)) (now (count .exit)) ⌝ }
 {
-    let a = shape::shift_right(words, Bitmap { count: *count }, k);
+    let n = *count;
+    let a = shape::shift_right(words, Bitmap { count: n, ..EMPTY }, k);
     answers::change(a, count)
 }
 
@@ -51,7 +56,8 @@ pub extern "C" fn taxolbin_shift_right(words: &mut [u64], count: &mut usize, k: 
 pub extern "C" fn taxolbin_truncate_bits(words: &mut [u64], count: &mut usize, k: usize) -> u32
     ensures { λ r. ⌜ Changed (truncating k) (now (words .entry)) (now (count .entry)) r (now (words .exit)) (now (count .exit)) ⌝ }
 {
-    let a = shape::truncate_bits(words, Bitmap { count: *count }, k);
+    let n = *count;
+    let a = shape::truncate_bits(words, Bitmap { count: n, ..EMPTY }, k);
     answers::change(a, count)
 }
 
@@ -60,7 +66,8 @@ pub extern "C" fn taxolbin_truncate_bits(words: &mut [u64], count: &mut usize, k
 pub extern "C" fn taxolbin_resize_bits(words: &mut [u64], count: &mut usize, k: usize) -> u32
     ensures { λ r. ⌜ Changed (resizing k) (now (words .entry)) (now (count .entry)) r (now (words .exit)) (now (count .exit)) ⌝ }
 {
-    let a = shape::resize_bits(words, Bitmap { count: *count }, k);
+    let n = *count;
+    let a = shape::resize_bits(words, Bitmap { count: n, ..EMPTY }, k);
     answers::change(a, count)
 }
 
@@ -72,10 +79,15 @@ pub extern "C" fn taxolbin_append(
     other: &[u64],
     ocount: usize,
 ) -> u32
-    ensures { λ r. ⌜ Changed (beside (now (other .entry)) ocount appending) (now (words .entry)) (now (count .entry)) r (now (words .exit)) (now (count .exit)) ⌝ }
+    ensures { λ r. ⌜ Changed (beside (now (other .entry)) (bitmapOf ocount) appending) (now (words .entry)) (now (count .entry)) r
+        (now (words .exit)) (now (count .exit)) ⌝ }
 {
-    let o = Bitmap { count: ocount };
-    let a = shape::append(words, Bitmap { count: *count }, other, o);
+    let n = *count;
+    let o = Bitmap {
+        count: ocount,
+        ..EMPTY
+    };
+    let a = shape::append(words, Bitmap { count: n, ..EMPTY }, other, o);
     answers::change(a, count)
 }
 
@@ -88,9 +100,11 @@ pub extern "C" fn taxolbin_split_off(
     tail: &mut [u64],
     tcount: &mut usize,
 ) -> u32
-    ensures { λ r. ⌜ Split at (now (words .entry)) (now (count .entry)) (now (tail .entry)) r (now (words .exit)) (now (count .exit)) (now (tail .exit)) (now (tcount .exit)) ⌝ }
+    ensures { λ r. ⌜ Split at (now (words .entry)) (now (count .entry)) (now (tail .entry)) r (now (words .exit)) (now (count .exit))
+        (now (tail .exit)) (now (tcount .exit)) ⌝ }
 {
-    let a = shape::split_off(words, Bitmap { count: *count }, at, tail);
+    let n = *count;
+    let a = shape::split_off(words, Bitmap { count: n, ..EMPTY }, at, tail);
     answers::split(a, count, tcount)
 }
 
@@ -99,7 +113,8 @@ pub extern "C" fn taxolbin_split_off(
 pub extern "C" fn taxolbin_open_gap(words: &mut [u64], count: &mut usize, p: usize, k: usize) -> u32
     ensures { λ r. ⌜ Changed (opening p k) (now (words .entry)) (now (count .entry)) r (now (words .exit)) (now (count .exit)) ⌝ }
 {
-    let a = gap::open_gap(words, Bitmap { count: *count }, p, k);
+    let n = *count;
+    let a = gap::open_gap(words, Bitmap { count: n, ..EMPTY }, p, k);
     answers::change(a, count)
 }
 
@@ -113,6 +128,7 @@ pub extern "C" fn taxolbin_close_gap(
 ) -> u32
     ensures { λ r. ⌜ Changed (closing p k) (now (words .entry)) (now (count .entry)) r (now (words .exit)) (now (count .exit)) ⌝ }
 {
-    let a = gap::close_gap(words, Bitmap { count: *count }, p, k);
+    let n = *count;
+    let a = gap::close_gap(words, Bitmap { count: n, ..EMPTY }, p, k);
     answers::change(a, count)
 }

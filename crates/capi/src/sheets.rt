@@ -1,6 +1,7 @@
 // The change sheet: read, started, added to.
 use sheet::Fields;
 use storage::Bitmap;
+use storage::EMPTY;
 ghost use Rattle.sheet.specs.Writer.{started, added, requested};
 ghost use Rattle.capi.specs.Calls.{Read, Written, truth};
 
@@ -15,9 +16,10 @@ pub extern "C" fn taxolbin_read(
     at: &mut usize,
     rcount: &mut usize,
 ) -> u32
-    ensures { λ r. ⌜ Read edition (now (sheet .entry)) (now (words .entry)) count (now (result .entry)) r (now (result .exit)) (now (at .exit)) (now (rcount .exit)) ⌝ }
+    ensures { λ r. ⌜ Read edition (now (sheet .entry)) (now (words .entry)) count (now (result .entry)) r (now (result .exit))
+        (now (at .exit)) (now (rcount .exit)) ⌝ }
 {
-    let a = reader::read(edition, sheet, words, Bitmap { count }, result);
+    let a = reader::read(edition, sheet, words, Bitmap { count, ..EMPTY }, result);
     answers::reading(a, at, rcount)
 }
 
@@ -45,7 +47,9 @@ pub extern "C" fn taxolbin_add(
     size: usize,
     payload: &[u8],
 ) -> u32
-    ensures { λ r. ⌜ Written (added (now (buffer .entry)) (now (length .entry)) (requested (truth duty) kind (record { p = p; k = k; flag = truth flag; width = width; value = value; size = size }) (now (payload .entry)))) (now (length .entry)) r (now (buffer .exit)) (now (length .exit)) ⌝ }
+    ensures { λ r. ⌜ Written (added (now (buffer .entry)) (now (length .entry))
+        (requested (truth duty) kind (record { p = p; k = k; flag = truth flag; width = width; value = value; size = size })
+        (now (payload .entry)))) (now (length .entry)) r (now (buffer .exit)) (now (length .exit)) ⌝ }
 {
     let fields = Fields {
         p,

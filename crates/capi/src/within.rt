@@ -1,5 +1,6 @@
 // Changes within the length: the count stays.
 use storage::Bitmap;
+use storage::EMPTY;
 ghost use Rattle.slice.specs.Slices.{fieldSetting};
 ghost use Rattle.bits.specs.Bits.{toggling, inverting, reversing};
 ghost use Rattle.shift.specs.Shifts.{shiftingLeft, shiftingRight, rotatingLeft, rotatingRight};
@@ -16,7 +17,8 @@ pub extern "C" fn taxolbin_set_field_strict(
 ) -> u32
     ensures { λ r. ⌜ Changed (fieldSetting i value width) (now (words .entry)) (now (count .entry)) r (now (words .exit)) (now (count .exit)) ⌝ }
 {
-    let a = slice::set_field_strict(words, Bitmap { count: *count }, i, value, width);
+    let n = *count;
+    let a = slice::set_field_strict(words, Bitmap { count: n, ..EMPTY }, i, value, width);
     answers::change(a, count)
 }
 
@@ -25,7 +27,8 @@ pub extern "C" fn taxolbin_set_field_strict(
 pub extern "C" fn taxolbin_slice_toggle(words: &mut [u64], count: &mut usize, i: usize) -> u32
     ensures { λ r. ⌜ Changed (toggling i) (now (words .entry)) (now (count .entry)) r (now (words .exit)) (now (count .exit)) ⌝ }
 {
-    let a = bits::toggle(words, Bitmap { count: *count }, i);
+    let n = *count;
+    let a = bits::toggle(words, Bitmap { count: n, ..EMPTY }, i);
     answers::change(a, count)
 }
 
@@ -34,7 +37,8 @@ pub extern "C" fn taxolbin_slice_toggle(words: &mut [u64], count: &mut usize, i:
 pub extern "C" fn taxolbin_invert(words: &mut [u64], count: &mut usize) -> u32
     ensures { λ r. ⌜ Changed inverting (now (words .entry)) (now (count .entry)) r (now (words .exit)) (now (count .exit)) ⌝ }
 {
-    let a = bits::invert(words, Bitmap { count: *count });
+    let n = *count;
+    let a = bits::invert(words, Bitmap { count: n, ..EMPTY });
     answers::change(a, count)
 }
 
@@ -43,7 +47,8 @@ pub extern "C" fn taxolbin_invert(words: &mut [u64], count: &mut usize) -> u32
 pub extern "C" fn taxolbin_reverse(words: &mut [u64], count: &mut usize) -> u32
     ensures { λ r. ⌜ Changed reversing (now (words .entry)) (now (count .entry)) r (now (words .exit)) (now (count .exit)) ⌝ }
 {
-    let a = bits::reverse(words, Bitmap { count: *count });
+    let n = *count;
+    let a = bits::reverse(words, Bitmap { count: n, ..EMPTY });
     answers::change(a, count)
 }
 
@@ -52,7 +57,8 @@ pub extern "C" fn taxolbin_reverse(words: &mut [u64], count: &mut usize) -> u32
 pub extern "C" fn taxolbin_slice_shift_left(words: &mut [u64], count: &mut usize, k: usize) -> u32
     ensures { λ r. ⌜ Changed (shiftingLeft k) (now (words .entry)) (now (count .entry)) r (now (words .exit)) (now (count .exit)) ⌝ }
 {
-    let a = shift::shift_left(words, Bitmap { count: *count }, k);
+    let n = *count;
+    let a = shift::shift_left(words, Bitmap { count: n, ..EMPTY }, k);
     answers::change(a, count)
 }
 
@@ -61,7 +67,8 @@ pub extern "C" fn taxolbin_slice_shift_left(words: &mut [u64], count: &mut usize
 pub extern "C" fn taxolbin_slice_shift_right(words: &mut [u64], count: &mut usize, k: usize) -> u32
     ensures { λ r. ⌜ Changed (shiftingRight k) (now (words .entry)) (now (count .entry)) r (now (words .exit)) (now (count .exit)) ⌝ }
 {
-    let a = shift::shift_right(words, Bitmap { count: *count }, k);
+    let n = *count;
+    let a = shift::shift_right(words, Bitmap { count: n, ..EMPTY }, k);
     answers::change(a, count)
 }
 
@@ -70,7 +77,8 @@ pub extern "C" fn taxolbin_slice_shift_right(words: &mut [u64], count: &mut usiz
 pub extern "C" fn taxolbin_rotate_left(words: &mut [u64], count: &mut usize, k: usize) -> u32
     ensures { λ r. ⌜ Changed (rotatingLeft k) (now (words .entry)) (now (count .entry)) r (now (words .exit)) (now (count .exit)) ⌝ }
 {
-    let a = shift::rotate_left(words, Bitmap { count: *count }, k);
+    let n = *count;
+    let a = shift::rotate_left(words, Bitmap { count: n, ..EMPTY }, k);
     answers::change(a, count)
 }
 
@@ -79,6 +87,7 @@ pub extern "C" fn taxolbin_rotate_left(words: &mut [u64], count: &mut usize, k: 
 pub extern "C" fn taxolbin_rotate_right(words: &mut [u64], count: &mut usize, k: usize) -> u32
     ensures { λ r. ⌜ Changed (rotatingRight k) (now (words .entry)) (now (count .entry)) r (now (words .exit)) (now (count .exit)) ⌝ }
 {
-    let a = shift::rotate_right(words, Bitmap { count: *count }, k);
+    let n = *count;
+    let a = shift::rotate_right(words, Bitmap { count: n, ..EMPTY }, k);
     answers::change(a, count)
 }

@@ -6,7 +6,8 @@ use lib.ListN.{length}
 use Rattle.word.specs.Sets.{countBelow, leastFrom, topBelow, nth}
 use Rattle.word.specs.Bits.{bit, pack, wordOf, member, tabFrom, wordsOf}
 use Rattle.arch.specs.Scans.{filledWords}
-use Rattle.storage.specs.Stores.{andThen, checked, view, reading, size, combined, foundBelow, within, wordsFor, trimmedCount, wordAt, written, zeroed, answer, store, outcome}
+use Rattle.storage.specs.Stores.{Outcome, andThen, noWords, checked, view, reading, readingBoth, size, combined, foundBelow, within}
+use Rattle.storage.specs.Stores.{wordsFor, trimmedCount, wordAt, written, zeroed, answer, store, outcome}
 use Rattle.slice.specs.Slices.{equal, fieldAt, nextClear}
 use Rattle.bits.specs.Bits.{selected}
 use Rattle.shift.specs.Shifts.{movedUp, movedDown, turnedDown, rotatingRight}
@@ -21,6 +22,7 @@ use Rattle.sheet.specs.Bytes.{number}
 use Rattle.sheet.specs.Kinds.{rowOf, sizeIn, ruleOf}
 use Rattle.sheet.specs.Reader as sheets
 use Rattle.sheet.specs.Reads.{step, editionOf, course}
+use Rattle.storage.specs.declared.Bitmap.{Bitmap}
 use Rattle.storage.specs.declared.Number.{Number}
 use Rattle.storage.specs.declared.Number.the-variants.{Is, Refused}
 use Rattle.storage.specs.declared.Field.{Field}
@@ -33,34 +35,37 @@ use Rattle.print.specs.Texts.{textOf, fitted, replaced}
 use Rattle.sheet.specs.Reads.{readAnswer, readStore, readingCount}
 use Rattle.shape.specs.declared.Split.{Split}
 use Rattle.sheet.specs.declared.Reading.{Reading}
-use Rattle.cases.specs.Cases.{Ask, from-list, next-clear, first-clear, get-field, select, eq, rotate-right, xori, split-off, read, zeros, changed, found, counted, fielded, tested, parted, sheeted, Comes, Row, row, Hold, starred, StarredHold}
+use Rattle.cases.specs.Cases.{Ask, from-list, next-clear, first-clear, get-field, select, eq, rotate-right, xori, split-off, read, zeros, first, whole, changed, found, counted, fielded}
+use Rattle.cases.specs.Cases.{tested, parted, sheeted, Comes, Row, row, Hold, starred, StarredHold}
 
 -- a reading's answer, and its result printed
 printing : Reading → List ℕ → List ℕ
 printing r ws =
-    let n = readingCount r in
-    sheeted r (reading ws n Number.Refused (λ s. fitted (textOf s) (zeros 16))) (reading ws n (λ e. zeros 16) (λ s. replaced (textOf s) (zeros 16)))
+    let b = first (readingCount r) in
+    sheeted r (reading ws b Number.Refused (λ s. fitted (textOf s) (zeros 16))) (reading ws b (λ e. zeros 16) (λ s. replaced (textOf s) (zeros 16)))
+
+-- a call that came to the outcome o on the bitmap b in ws
+changedBy : Outcome → Bitmap → List ℕ → List ℕ
+changedBy o b ws = changed (answer o b) (store o ws (b .count))
 
 -- what the contract of a call makes of it
 outOf : Ask → List ℕ
-outOf (from-list bytes c) = let o = outcome (read.readingList bytes) (zeros c) 0 in changed (answer o (record { count = 0 })) (store o (zeros c) 0)
-outOf (next-clear ws i) = counted (reading ws (length ws) Number.Refused (λ s. Number.Is (nextClear s i)))
-outOf (first-clear ws) = counted (reading ws (length ws) Number.Refused (λ s. Number.Is (nextClear s 0)))
-outOf (get-field ws i width) = fielded (reading ws (length ws) Field.Refused (fieldAt i width))
-outOf (select ws k) = found (reading ws (length ws) Found.Refused (selected k))
-outOf (eq ws os) = tested (reading ws (length ws) Truth.Refused (λ s. reading os (length os) Truth.Refused (λ t. Truth.Is (equal s t))))
-outOf (rotate-right ws k) =
-    let o = outcome (rotatingRight k) ws (length ws) in
-    changed (answer o (record { count = length ws })) (store o ws (length ws))
-outOf (xori ws n i) = let o = outcome (flippingBit i) ws n in changed (answer o (record { count = n })) (store o ws n)
+outOf (from-list bytes c) = changedBy (outcome (read.readingList bytes) (zeros c) noWords) noWords (zeros c)
+outOf (next-clear ws i) = counted (reading ws (whole ws) Number.Refused (λ s. Number.Is (nextClear s i)))
+outOf (first-clear ws) = counted (reading ws (whole ws) Number.Refused (λ s. Number.Is (nextClear s 0)))
+outOf (get-field ws i width) = fielded (reading ws (whole ws) Field.Refused (fieldAt i width))
+outOf (select ws k) = found (reading ws (whole ws) Found.Refused (selected k))
+outOf (eq ws os) = tested (readingBoth ws (whole ws) os (whole os) Truth.Refused (λ s t. Truth.Is (equal s t)))
+outOf (rotate-right ws k) = changedBy (outcome (rotatingRight k) ws (whole ws)) (whole ws) ws
+outOf (xori ws n i) = changedBy (outcome (flippingBit i) ws (first n)) (first n) ws
 outOf (split-off ws at c) =
-    let h = headOutcome at ws (length ws) (zeros c) in
-    let t = tailOutcome at ws (length ws) (zeros c) in
-    parted (splitAnswer h t (record { count = length ws })) (store h ws (length ws)) (store t (zeros c) 0)
-outOf (read e sheet c) = let k = course e sheet [] 0 (length (zeros c)) in printing (readAnswer k) (readStore k (zeros c))
+    let h = headOutcome at ws (whole ws) (zeros c) in
+    let t = tailOutcome at ws (whole ws) (zeros c) in
+    parted (splitAnswer h t (whole ws)) (store h ws (length ws)) (store t (zeros c) 0)
+outOf (read e sheet c) = let k = course e sheet [] noWords (zeros c) in printing (readAnswer k) (readStore k (zeros c))
 
 comes : (a : Ask) → Comes a (outOf a)
-unfolding printing outOf
+unfolding printing changedBy outOf
 comes (from-list bytes c) = λ r ws h. ap₂ changed (h .answers) (h .leaves)
 comes (next-clear ws i) = λ r h. ap counted h
 comes (first-clear ws) = λ r h. ap counted h
@@ -70,9 +75,9 @@ comes (eq ws os) = λ r h. ap tested h
 comes (rotate-right ws k) = λ r ws' h. ap₂ changed (h .answers) (h .leaves)
 comes (xori ws n i) = λ r ws' h. ap₂ changed (h .answers) (h .leaves)
 comes (split-off ws at c) = λ r ws' ts h.
-    let h₀ = headOutcome at ws (length ws) (zeros c) in
-    let t₀ = tailOutcome at ws (length ws) (zeros c) in
-    ap (λ (x : Split). parted x ws' ts) (h .answers) ∙ ap₂ (parted (splitAnswer h₀ t₀ (record { count = length ws }))) (h .head) (h .tail)
+    let h₀ = headOutcome at ws (whole ws) (zeros c) in
+    let t₀ = tailOutcome at ws (whole ws) (zeros c) in
+    ap (λ (x : Split). parted x ws' ts) (h .answers) ∙ ap₂ (parted (splitAnswer h₀ t₀ (whole ws))) (h .head) (h .tail)
 comes (read e sheet c) = λ r ws p bytes h q.
     ap₂ (sheeted r) (q .answers) (q .leaves)
     ∙ ap₂ printing (h .answers) (h .leaves)
@@ -88,7 +93,11 @@ each (r ∷ rs) = (comes (r .asked), each rs)
 
 -- the rows, computed
 computed : again starred ≡ starred
-unfolding countBelow leastFrom topBelow nth bit pack wordOf member tabFrom wordsOf filledWords andThen checked view reading size combined foundBelow within wordsFor trimmedCount wordAt written zeroed answer store outcome equal fieldAt nextClear selected movedUp movedDown turnedDown rotatingRight settingRegion uniting tidied flippingBit raising lowered truncated tailOutcome headOutcome splitAnswer opening plain covers highest read.kind read.value read.token read.empty read.step read.next read.reads read.parsed read.parse read.readingList runsFrom decimalFrom printed others text number rowOf sizeIn ruleOf sheets.act sheets.records sheets.read step editionOf course printing outOf again
+unfolding countBelow leastFrom topBelow nth bit pack wordOf member tabFrom wordsOf filledWords andThen checked view reading readingBoth size combined foundBelow
+    within wordsFor trimmedCount wordAt written zeroed answer store outcome equal fieldAt nextClear selected movedUp movedDown turnedDown rotatingRight
+    settingRegion uniting tidied flippingBit raising lowered truncated tailOutcome headOutcome splitAnswer opening plain covers highest read.kind
+    read.value read.token read.empty read.step read.next read.reads read.parsed read.parse read.readingList runsFrom decimalFrom printed others text
+    number rowOf sizeIn ruleOf sheets.act sheets.records sheets.read step editionOf course printing changedBy outOf again
 computed = refl
 
 pub starred-hold : StarredHold

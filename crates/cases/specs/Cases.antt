@@ -4,7 +4,8 @@ use mathlib.Core.Path.{_≡_}
 use mathlib.Core.List.{List, [], _∷_, _++_}
 use lib.ListN.{length, take}
 use Rattle.storage.specs.Refusals.{changeNumber, changeRecord, foundNumber, foundFlag, foundValue, numberNumber, numberValue, fieldNumber, fieldValue, truthNumber, truthValue}
-use Rattle.storage.specs.Stores.{reading, Changes}
+use Rattle.storage.specs.Stores.{withCount, noWords, reading, readingBoth, Changes}
+use Rattle.storage.specs.declared.Bitmap.{Bitmap}
 use Rattle.storage.specs.declared.Change.{Change}
 use Rattle.storage.specs.declared.Found.{Found}
 use Rattle.storage.specs.declared.Number.{Number}
@@ -39,6 +40,13 @@ abbrev pub zeros : ℕ → List ℕ
 zeros zero = []
 zeros (suc n) = 0 ∷ zeros n
 
+-- the record of the first n words of a store, and of all of them
+abbrev pub first : ℕ → Bitmap
+first n = withCount noWords n
+
+abbrev pub whole : List ℕ → Bitmap
+whole ws = first (length ws)
+
 -- the number, the count, and every word of the store
 abbrev pub changed : Change → List ℕ → List ℕ
 changed r ws = changeNumber r ∷ changeRecord r .count ∷ ws
@@ -66,23 +74,21 @@ sheeted r p bytes = readingNumber r ∷ readingRecord r ∷ readingCount r ∷ t
 
 -- whatever meets the call's contract comes out so; the result of a sheet is printed into sixteen bytes
 abbrev pub Comes : Ask → List ℕ → Type 0
-Comes (from-list text c) out =
-    (r : Change) (ws : List ℕ) → Changes (readingList text) (zeros c) (record { count = 0 }) r ws → changed r ws ≡ out
-Comes (next-clear ws i) out = (r : Number) → r ≡ reading ws (length ws) Number.Refused (λ s. Number.Is (nextClear s i)) → counted r ≡ out
-Comes (first-clear ws) out = (r : Number) → r ≡ reading ws (length ws) Number.Refused (λ s. Number.Is (nextClear s 0)) → counted r ≡ out
-Comes (get-field ws i width) out = (r : Field) → r ≡ reading ws (length ws) Field.Refused (fieldAt i width) → fielded r ≡ out
-Comes (select ws k) out = (r : Found) → r ≡ reading ws (length ws) Found.Refused (selected k) → found r ≡ out
+Comes (from-list text c) out = (r : Change) (ws : List ℕ) → Changes (readingList text) (zeros c) noWords r ws → changed r ws ≡ out
+Comes (next-clear ws i) out = (r : Number) → r ≡ reading ws (whole ws) Number.Refused (λ s. Number.Is (nextClear s i)) → counted r ≡ out
+Comes (first-clear ws) out = (r : Number) → r ≡ reading ws (whole ws) Number.Refused (λ s. Number.Is (nextClear s 0)) → counted r ≡ out
+Comes (get-field ws i width) out = (r : Field) → r ≡ reading ws (whole ws) Field.Refused (fieldAt i width) → fielded r ≡ out
+Comes (select ws k) out = (r : Found) → r ≡ reading ws (whole ws) Found.Refused (selected k) → found r ≡ out
 Comes (eq ws os) out =
-    (r : Truth) → r ≡ reading ws (length ws) Truth.Refused (λ s. reading os (length os) Truth.Refused (λ t. Truth.Is (equal s t)))
-    → tested r ≡ out
+    (r : Truth) → r ≡ readingBoth ws (whole ws) os (whole os) Truth.Refused (λ s t. Truth.Is (equal s t)) → tested r ≡ out
 Comes (rotate-right ws k) out =
-    (r : Change) (ws' : List ℕ) → Changes (rotatingRight k) ws (record { count = length ws }) r ws' → changed r ws' ≡ out
-Comes (xori ws n i) out = (r : Change) (ws' : List ℕ) → Changes (flippingBit i) ws (record { count = n }) r ws' → changed r ws' ≡ out
+    (r : Change) (ws' : List ℕ) → Changes (rotatingRight k) ws (whole ws) r ws' → changed r ws' ≡ out
+Comes (xori ws n i) out = (r : Change) (ws' : List ℕ) → Changes (flippingBit i) ws (first n) r ws' → changed r ws' ≡ out
 Comes (split-off ws at c) out =
-    (r : Split) (ws' ts : List ℕ) → Splits at ws (record { count = length ws }) (zeros c) r ws' ts → parted r ws' ts ≡ out
+    (r : Split) (ws' ts : List ℕ) → Splits at ws (whole ws) (zeros c) r ws' ts → parted r ws' ts ≡ out
 Comes (read e sheet c) out =
     (r : Reading) (ws : List ℕ) (p : Number) (bytes : List ℕ)
-    → Reads e sheet [] 0 (zeros c) r ws → Prints ws (readingCount r) (zeros 16) p bytes → sheeted r p bytes ≡ out
+    → Reads e sheet [] noWords (zeros c) r ws → Prints ws (first (readingCount r)) (zeros 16) p bytes → sheeted r p bytes ≡ out
 
 pub record Row : Type 0 where
   pub asked : Ask
@@ -94,7 +100,8 @@ row a o = record { asked = a; out = o }
 -- the sheet of 01
 abbrev pub sheet : List ℕ
 sheet =
-    0x4e ∷ 0x53 ∷ 0x00 ∷ 0x03 ∷ 0x83 ∷ 0x00 ∷ 0x09 ∷ 0x80 ∷ 0x00 ∷ 0x00 ∷ 0x02 ∷ 0x00 ∷ 0x00 ∷ 0x00 ∷ 0x01 ∷ 0x80 ∷ 0x01 ∷ 0x00 ∷ 0x02 ∷ 0x68 ∷ 0x69 ∷ 0x8a ∷ 0x00 ∷ 0x08 ∷ 0x00 ∷ 0x00 ∷ 0x00 ∷ 0x05 ∷ 0x00 ∷ 0x00 ∷ 0x00 ∷ 0x02 ∷ []
+    0x4e ∷ 0x53 ∷ 0x00 ∷ 0x03 ∷ 0x83 ∷ 0x00 ∷ 0x09 ∷ 0x80 ∷ 0x00 ∷ 0x00 ∷ 0x02 ∷ 0x00 ∷ 0x00 ∷ 0x00 ∷ 0x01 ∷ 0x80 ∷ 0x01 ∷ 0x00 ∷ 0x02 ∷ 0x68
+    ∷ 0x69 ∷ 0x8a ∷ 0x00 ∷ 0x08 ∷ 0x00 ∷ 0x00 ∷ 0x00 ∷ 0x05 ∷ 0x00 ∷ 0x00 ∷ 0x00 ∷ 0x02 ∷ []
 
 abbrev pub starred : List Row
 starred =

@@ -12,7 +12,8 @@ use Rattle.word.specs.Bits.{bit, wordOf}
 use Rattle.word.proofs.Cases.{by-lt}
 use Rattle.word.proofs.Bits.{pack-is}
 use Rattle.word.proofs.Lists.{Fit, at-place, past, member-at, word-zero}
-use Rattle.storage.specs.Stores.{Bits, Op, view, within, trimmedCount, trimmed, combined, zeroed, Changes}
+use Rattle.storage.specs.Stores.{withCount, Bits, Op, view, within, trimmedCount, trimmed, combined, zeroed, Changes}
+use Rattle.storage.specs.Guards.{PassedThree}
 use Rattle.storage.specs.Kernels.{wordAndNot}
 use Rattle.storage.specs.declared.Bitmap.{Bitmap}
 use Rattle.storage.specs.declared.Refusal.the-variants.{NoSpace}
@@ -24,8 +25,8 @@ use Rattle.storage.proofs.Views.{view-count, view-part}
 use Rattle.storage.proofs.Stores.{Stored, changes-done, changes-refused, length-zeroed, zeroed-in, zeroed-out}
 use Rattle.storage.proofs.Trims.{trimmed-is}
 use Rattle.combine.specs.Combine.{combiningFrom, unitingFrom, besideBoth}
-use Rattle.combine.specs.Kernels.{wordFrom, tailWord, Ends, Put}
-use Rattle.combine.proofs.Guards.{AllPassed, both-ok}
+use Rattle.combine.specs.Kernels.{wordFrom, Ends, Put, PutTail}
+use Rattle.combine.proofs.Guards.{both-ok}
 use Rattle.combine.proofs.Lengths.{ends-within}
 use Rattle.combine.proofs.Writes.{put-andnot, put-or, put-xor}
 
@@ -91,34 +92,40 @@ module _ {f : Bool → Bool → Bool} {op : ℕ → ℕ → ℕ} (w : WordOp f o
 
 -- ---- the calls
 
-module _ (ws left right : List ℕ) (b : Bitmap) (l r : ℕ) (p : AllPassed (length ws) (b .count) (length left) l (length right) r) (fl : Fit left) (fr : Fit right) where
+module _ (ws left right : List ℕ) (b lb rb : Bitmap) (p : PassedThree ws b left lb right rb) (fl : Fit left) (fr : Fit right) where
+  abbrev l : ℕ
+  l = lb .count
+
+  abbrev r : ℕ
+  r = rb .count
+
   -- a call that comes to the set s of m words, if there is space
   module _ {f : Bool → Bool → Bool} {op : ℕ → ℕ → ℕ} (w : WordOp f op) (g : Bits → Bits → Op) (s : Bits) (m : ℕ)
       (is : g (view left l) (view right r) (length ws) (view ws (b .count)) ≡ within (length ws) s) (ec : s .count ≡ m)
       (same : (i : ℕ) → s .members i ≡ combined f (view left l) (view right r) .members i) where
-    comes-to : besideBoth left l right r g (length ws) (view ws (b .count)) ≡ within (length ws) s
-    comes-to = both-ok ws left right b l r g (length ws) (view ws (b .count)) (p .left) (p .right) ∙ is
+    comes-to : besideBoth left lb right rb g (length ws) (view ws (b .count)) ≡ within (length ws) s
+    comes-to = both-ok ws left right b lb rb g (length ws) (view ws (b .count)) (p .left) (p .right) ∙ is
 
     made-changes : (a : Change) (w1 ws' : List ℕ) → m ≤ length ws → Put (wordFrom op (take l left) (take r right)) 0 m ws w1
-        → (a ≡ Done (record { count = m })) × (ws' ≡ zeroed m (b .count) w1) → Changes (besideBoth left l right r g) ws b a ws'
+        → (a ≡ Done (withCount b m)) × (ws' ≡ zeroed m (b .count) w1) → Changes (besideBoth left lb right rb g) ws b a ws'
     made-changes a w1 ws' h t e =
-        subst (λ (y : Change). Changes (besideBoth left l right r g) ws b y ws') (sym (e .0))
-        (changes-done (besideBoth left l right r g) ws b ws' s m (p .own) (comes-to ∙ within-ok (length ws) s (omega arith))
+        subst (λ (y : Change). Changes (besideBoth left lb right rb g) ws b y ws') (sym (e .0))
+        (changes-done (besideBoth left lb right rb g) ws b ws' s m (p .own) (comes-to ∙ within-ok (length ws) s (omega arith))
         (put-stored w left right l r (p .left .inside) (p .right .inside) fl fr ws w1 ws' (b .count) m s t (e .1) ec same) (sym ec))
 
-    made-refused : length ws < m → Changes (besideBoth left l right r g) ws b (Refused NoSpace b) ws
-    made-refused h = changes-refused (besideBoth left l right r g) ws b NoSpace (p .own) (comes-to ∙ within-no (length ws) s (omega arith))
+    made-refused : length ws < m → Changes (besideBoth left lb right rb g) ws b (Refused NoSpace b) ws
+    made-refused h = changes-refused (besideBoth left lb right rb g) ws b NoSpace (p .own) (comes-to ∙ within-no (length ws) s (omega arith))
 
   module _ {f : Bool → Bool → Bool} {op : ℕ → ℕ → ℕ} (w : WordOp f op) (z : op 0 0 ≡ 0) (m : ℕ) (s : Ends op (take l left) (take r right) m) where
     count : trimmed (combined f (view left l) (view right r)) .count ≡ m
     count = ends-count w left right l r (p .left .inside) (p .right .inside) fl fr m z s
 
     pub from-changes : (a : Change) (w1 ws' : List ℕ) → m ≤ length ws → Put (wordFrom op (take l left) (take r right)) 0 m ws w1
-        → (a ≡ Done (record { count = m })) × (ws' ≡ zeroed m (b .count) w1) → Changes (besideBoth left l right r (combiningFrom f)) ws b a ws'
+        → (a ≡ Done (withCount b m)) × (ws' ≡ zeroed m (b .count) w1) → Changes (besideBoth left lb right rb (combiningFrom f)) ws b a ws'
     unfolding combiningFrom
     from-changes = made-changes w (combiningFrom f) (trimmed (combined f (view left l) (view right r))) m refl count (λ i. refl)
 
-    pub from-refused : length ws < m → Changes (besideBoth left l right r (combiningFrom f)) ws b (Refused NoSpace b) ws
+    pub from-refused : length ws < m → Changes (besideBoth left lb right rb (combiningFrom f)) ws b (Refused NoSpace b) ws
     unfolding combiningFrom
     from-refused = made-refused w (combiningFrom f) (trimmed (combined f (view left l) (view right r))) m refl count (λ i. refl)
 
@@ -127,11 +134,11 @@ module _ (ws left right : List ℕ) (b : Bitmap) (l r : ℕ) (p : AllPassed (len
     longer = set-count word-or left right l r (p .left .inside) (p .right .inside) fl fr ∙ sym em
 
     pub union-changes : (a : Change) (w1 ws' : List ℕ) → m ≤ length ws → Put (wordFrom bitOr (take l left) (take r right)) 0 m ws w1
-        → (a ≡ Done (record { count = m })) × (ws' ≡ zeroed m (b .count) w1) → Changes (besideBoth left l right r unitingFrom) ws b a ws'
+        → (a ≡ Done (withCount b m)) × (ws' ≡ zeroed m (b .count) w1) → Changes (besideBoth left lb right rb unitingFrom) ws b a ws'
     unfolding unitingFrom
     union-changes = made-changes word-or unitingFrom (combined _||_ (view left l) (view right r)) m refl longer (λ i. refl)
 
-    pub union-refused : length ws < m → Changes (besideBoth left l right r unitingFrom) ws b (Refused NoSpace b) ws
+    pub union-refused : length ws < m → Changes (besideBoth left lb right rb unitingFrom) ws b (Refused NoSpace b) ws
     unfolding unitingFrom
     union-refused = made-refused word-or unitingFrom (combined _||_ (view left l) (view right r)) m refl longer (λ i. refl)
 
@@ -143,11 +150,11 @@ module _ (ws left right : List ℕ) (l r m e : ℕ) (hl : l ≤ length left) (hr
   andnot-made f ee = put-andnot (take l left) (take r right) e m ws w1 w2 (take-fit left l hl f) (omega (arith, length-take-le r right hr))
 
   pub or-made : m ≡ max l r → e ≡ min l r → Put (wordFrom bitOr (take l left) (take r right)) 0 e ws w1
-      → Put (tailWord (take l left) (take r right)) (min (length (take l left)) (length (take r right))) m w1 w2
+      → PutTail (take l left) (take r right) m w1 w2
       → Put (wordFrom bitOr (take l left) (take r right)) 0 m ws w2
   or-made em ee = put-or (take l left) (take r right) e m ws w1 w2 (omega (arith, length-take-le l left hl, length-take-le r right hr))
 
   pub xor-made : (i : ℕ) → i ≡ min l r → e ≡ min i m → Put (wordFrom bitXor (take l left) (take r right)) 0 e ws w1
-      → Put (tailWord (take l left) (take r right)) (min (length (take l left)) (length (take r right))) m w1 w2
+      → PutTail (take l left) (take r right) m w1 w2
       → Put (wordFrom bitXor (take l left) (take r right)) 0 m ws w2
   xor-made i ei ee = put-xor (take l left) (take r right) e m ws w1 w2 (omega (arith, length-take-le l left hl, length-take-le r right hr))

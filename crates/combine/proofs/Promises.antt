@@ -1,12 +1,12 @@
 -- The promises of specs/Promises. Assumes nothing.
-use mathlib.Core.Path.{_≡_, refl, subst}
-use mathlib.Core.Bool.{Bool, false, _||_}
+use mathlib.Core.Path.{refl, subst}
+use mathlib.Core.Bool.{_||_}
 use mathlib.Core.List.{List}
 use Prim.Native.Nat.{ℕ, max}
-use lib.ListN.{length}
 use Rattle.storage.specs.Refusals.{changeNumber, changeRecord}
-use Rattle.storage.specs.Stores.{Bits, Bounded, Op, view, beside, outcome, trimmed, combined}
+use Rattle.storage.specs.Stores.{Bits, Bounded, Op, noWords, view, held, beside, outcome, trimmed, combined}
 use Rattle.storage.specs.Promises.{Sound, Combines, Unites, Lacks, LacksResult}
+use Rattle.storage.specs.declared.Bitmap.{Bitmap}
 use Rattle.storage.proofs.Checks.{within-done}
 use Rattle.storage.proofs.Outcomes.{lacks, bounded-combined, sound-within, sound-beside}
 use Rattle.storage.proofs.Trims.{bounded-trimmed}
@@ -45,52 +45,52 @@ uniting-discards x y c b b' = refl
 
 -- ---- with the two stores that are read
 
-pub sound-both : (xs ys : List ℕ) (m n : ℕ) (op : Bits → Bits → Op) → ((x y : Bits) → Bounded x → Bounded y → Sound (op x y)) → Sound (besideBoth xs m ys n op)
+pub sound-both : (xs ys : List ℕ) (x y : Bitmap) (op : Bits → Bits → Op) → ((s t : Bits) → Bounded s → Bounded t → Sound (op s t)) → Sound (besideBoth xs x ys y op)
 unfolding besideBoth
-sound-both xs ys m n op f = sound-beside xs m (λ x. beside ys n (op x)) (λ x h. sound-beside ys n (op x) (λ y k. f x y h k))
+sound-both xs ys x y op f = sound-beside xs x (λ s. beside ys y (op s)) (λ s h. sound-beside ys y (op s) (λ t k. f s t h k))
 
 pub both-means : BothMeans
 unfolding besideBoth beside outcome
-both-means op rule why meets xs m ys n ws b r ws' l =
+both-means op rule why meets xs x ys y ws b r ws' l =
     guarded-map
-    (λ h k p.
+    (λ k p.
     guarded-map
-    (λ h' k' q.
-    guarded-map (λ h'' k''. leaves-ends (op x y) (rule x y) (why x y) (meets x y (bounded-view xs m) (bounded-view ys n)) ws ws' b r k)
-    (leaves-guarded (length ys) n _ ws ws' b r q))
-    (leaves-guarded (length xs) m _ ws ws' b r p))
-    (leaves-guarded (length ws) (b .count) _ ws ws' b r l)
+    (λ k' q.
+    guarded-map (λ k''. leaves-ends (op s t) (rule s t) (why s t) (meets s t (bounded-view xs (x .count)) (bounded-view ys (y .count))) ws ws' b r k)
+    (leaves-guarded ys y _ ws ws' b r q))
+    (leaves-guarded xs x _ ws ws' b r p))
+    (leaves-guarded ws b _ ws ws' b r l)
   where
-    x : Bits
-    x = view xs m
-
-    y : Bits
-    y = view ys n
-
-pub determines-both : DeterminesBoth
-determines-both op rule why exact xs m ys n ws us vs b r s f g p q =
-    guarded-once (length ws) (b .count) (b .count) ws us vs x x' k k' p q
-    (λ h j p' q'. guarded-once (length xs) m (b .count) ws us vs x x' k k' p' q'
-    (λ h' j' p'' q''. guarded-once (length ys) n (b .count) ws us vs x x' k k' p'' q''
-    (λ h'' j''. ends-one (op l t) (rule l t) (why l t) (exact l t (bounded-view xs m) (bounded-view ys n)) ws us vs (b .count) x x' k k' f g h j)))
-  where
-    l : Bits
-    l = view xs m
+    s : Bits
+    s = held xs x
 
     t : Bits
-    t = view ys n
+    t = held ys y
 
-    x : ℕ
-    x = changeNumber r
+pub determines-both : DeterminesBoth
+determines-both op rule why exact xs x ys y ws us vs b r s f g p q =
+    guarded-once ws b (b .count) ws us vs k k' m m' p q
+    (λ h p' q'. guarded-once xs x (b .count) ws us vs k k' m m' p' q'
+    (λ h' p'' q''. guarded-once ys y (b .count) ws us vs k k' m m' p'' q''
+    (λ h''. ends-one (op l t) (rule l t) (why l t) (exact l t (bounded-view xs (x .count)) (bounded-view ys (y .count))) ws us vs b k k' m m' f g h)))
+  where
+    l : Bits
+    l = held xs x
 
-    x' : ℕ
-    x' = changeNumber s
+    t : Bits
+    t = held ys y
 
     k : ℕ
-    k = changeRecord r .count
+    k = changeNumber r
 
     k' : ℕ
-    k' = changeRecord s .count
+    k' = changeNumber s
+
+    m : ℕ
+    m = changeRecord r .count
+
+    m' : ℕ
+    m' = changeRecord s .count
 
 pub combine-means : CombineMeans
 combine-means f e =
@@ -101,7 +101,7 @@ unfolding view
 unite-means = both-means unitingFrom (λ x y c b s. Unites y x s) (λ x y. Lacks (λ b. max (x .count) (y .count))) unites-from
 
 pub dup-combine-means : DupCombineMeans
-dup-combine-means f e xs m ys n ws r ws' l = combine-means f e xs m ys n ws (record { count = 0 }) r ws' l
+dup-combine-means f e xs x ys y ws r ws' l = combine-means f e xs x ys y ws noWords r ws' l
 
 pub dup-unite-means : DupUniteMeans
-dup-unite-means xs m ys n ws r ws' l = unite-means xs m ys n ws (record { count = 0 }) r ws' l
+dup-unite-means xs x ys y ws r ws' l = unite-means xs x ys y ws noWords r ws' l

@@ -10,7 +10,7 @@ use Rattle.word.proofs.Cases.{by-lt}
 use Rattle.word.proofs.Lists.{Fit, past}
 use Rattle.word.proofs.Sweep.{Swept}
 use Rattle.storage.specs.Kernels.{wordAndNot}
-use Rattle.combine.specs.Kernels.{wordFrom, tailWord, Put}
+use Rattle.combine.specs.Kernels.{wordFrom, tailWord, Put, PutTail}
 use Rattle.combine.proofs.Lengths.{andnot-zero}
 
 -- what a loop leaves
@@ -40,7 +40,7 @@ put-join new tail e a m ws w1 w2 s t h g at = record {
 module _ (xs ys : List ℕ) where
   -- the rest of both lists, of which one has none
   pub put-tail : (a m e f : ℕ) (ws w1 w2 : List ℕ) → a ≡ min (length xs) (length ys) → m ≤ max (length xs) (length ys) → e ≡ min (length xs) m → f ≡ min (length ys) m
-      → Put (λ k. getD xs k 0) a e ws w1 → Put (λ k. getD ys k 0) a f w1 w2 → Put (tailWord xs ys) (min (length xs) (length ys)) m ws w2
+      → Put (λ k. getD xs k 0) a e ws w1 → Put (λ k. getD ys k 0) a f w1 w2 → PutTail xs ys m ws w2
   put-tail a m e f ws w1 w2 ea h ee ef s t = record {
     long = t .long ∙ s .long;
     fresh = λ k p q.
@@ -56,7 +56,7 @@ module _ (xs ys : List ℕ) where
 
   -- a word that only one list has passes through
   put-longer : (op : ℕ → ℕ → ℕ) → ((x : ℕ) → op x 0 ≡ x) → ((y : ℕ) → op 0 y ≡ y) → (e m : ℕ) (ws w1 w2 : List ℕ) → e ≡ min (min (length xs) (length ys)) m
-      → Put (wordFrom op xs ys) 0 e ws w1 → Put (tailWord xs ys) (min (length xs) (length ys)) m w1 w2 → Put (wordFrom op xs ys) 0 m ws w2
+      → Put (wordFrom op xs ys) 0 e ws w1 → PutTail xs ys m w1 w2 → Put (wordFrom op xs ys) 0 m ws w2
   put-longer op f g e m ws w1 w2 ee s t =
       put-join (wordFrom op xs ys) (tailWord xs ys) e (min (length xs) (length ys)) m ws w1 w2 s t (omega arith) (omega arith) (λ k h l. (omega arith, at k (omega arith)))
     where
@@ -71,11 +71,11 @@ module _ (xs ys : List ℕ) where
           omega arith ∙ sym (ap (λ (x : ℕ). op x (getD ys k 0)) z ∙ g (getD ys k 0)))
 
   pub put-or : (e m : ℕ) (ws w1 w2 : List ℕ) → e ≡ min (min (length xs) (length ys)) m → Put (wordFrom bitOr xs ys) 0 e ws w1
-      → Put (tailWord xs ys) (min (length xs) (length ys)) m w1 w2 → Put (wordFrom bitOr xs ys) 0 m ws w2
+      → PutTail xs ys m w1 w2 → Put (wordFrom bitOr xs ys) 0 m ws w2
   put-or = put-longer bitOr or-zero-r or-zero-l
 
   pub put-xor : (e m : ℕ) (ws w1 w2 : List ℕ) → e ≡ min (min (length xs) (length ys)) m → Put (wordFrom bitXor xs ys) 0 e ws w1
-      → Put (tailWord xs ys) (min (length xs) (length ys)) m w1 w2 → Put (wordFrom bitXor xs ys) 0 m ws w2
+      → PutTail xs ys m w1 w2 → Put (wordFrom bitXor xs ys) 0 m ws w2
   put-xor = put-longer bitXor xor-zero-r xor-zero-l
 
   pub put-andnot : (e m : ℕ) (ws w1 w2 : List ℕ) → Fit xs → e ≡ min (length ys) m → Put (wordFrom wordAndNot xs ys) 0 e ws w1

@@ -3,6 +3,7 @@ use Prim.Native.Nat.{ℕ}
 use mathlib.Core.Bool.{Bool, _||_}
 use mathlib.Core.List.{List}
 use Rattle.storage.specs.Stores.{Bits, Op, beside, within, trimmed, combined}
+use Rattle.storage.specs.declared.Bitmap.{Bitmap}
 
 -- the numbers where f holds of the two memberships, in the fewest words
 unfoldable pub combiningFrom : (Bool → Bool → Bool) → Bits → Bits → Op
@@ -13,5 +14,5 @@ unfoldable pub unitingFrom : Bits → Bits → Op
 unitingFrom x y c b = within c (combined _||_ x y)
 
 -- two bitmaps to read, looked at after the store that is written, in argument order
-unfoldable pub besideBoth : List ℕ → ℕ → List ℕ → ℕ → (Bits → Bits → Op) → Op
-besideBoth xs m ys n op = beside xs m (λ x. beside ys n (op x))
+unfoldable pub besideBoth : List ℕ → Bitmap → List ℕ → Bitmap → (Bits → Bits → Op) → Op
+besideBoth xs l ys r op = beside xs l (λ x. beside ys r (op x))

@@ -1,16 +1,9 @@
 -- What the private functions of this crate make of words. Past its end a list reads as 0.
-use Prim.Native.Nat.{ℕ, suc, _+_, _≤_, _<_}
+use Prim.Native.Nat.{ℕ, suc, _+_, _≤_, _<_, min}
 use mathlib.Core.Path.{_≡_}
 use mathlib.Core.List.{List}
 use mathlib.Core.Logic.{_⊎_}
 use lib.ListN.{length, getD}
-use Rattle.storage.specs.Stores.{checked}
-use Rattle.storage.specs.declared.Guard.{Guard}
-use Rattle.storage.specs.declared.Guard.the-variants.{Pass, Stop}
-
--- 1 and 2 of three stores in order
-unfoldable pub checkedAll : ℕ → ℕ → ℕ → ℕ → ℕ → ℕ → Guard
-checkedAll c n d l e r = checked c n Stop (checked d l Stop (checked e r Stop Pass))
 
 -- word k of the two lists' words, one by one
 abbrev pub wordFrom : (ℕ → ℕ → ℕ) → List ℕ → List ℕ → ℕ → ℕ
@@ -30,3 +23,7 @@ pub record Put (new : ℕ → ℕ) (a e : ℕ) (ws ws' : List ℕ) : Type 0 wher
   pub long : length ws' ≡ length ws
   pub fresh : (k : ℕ) → a ≤ k → k < e → getD ws' k 0 ≡ new k
   pub others : (k : ℕ) → (k < a) ⊎ (e ≤ k) → getD ws' k 0 ≡ getD ws k 0
+
+-- the words that only the longer list has, as far as m
+abbrev pub PutTail : List ℕ → List ℕ → ℕ → List ℕ → List ℕ → Type 0
+PutTail xs ys m ws ws' = Put (tailWord xs ys) (min (length xs) (length ys)) m ws ws'

@@ -1,10 +1,10 @@
 // The words that two bitmaps make together: how many there are, and each of them written.
 use pairs::SetOp;
-ghost use Prim.Native.Nat.{_≤_, min, max};
+ghost use Prim.Native.Nat.{_≤_, max};
 ghost use lib.ListN.{length, getD};
 ghost use lib.Bits.{bitAnd, bitOr, bitXor};
 ghost use Rattle.storage.specs.Kernels.{wordAndNot};
-ghost use Rattle.combine.specs.Kernels.{wordFrom, tailWord, Ends, Put};
+ghost use Rattle.combine.specs.Kernels.{wordFrom, Ends, Put, PutTail};
 
 // The words from index a on, below e, become those of `from`.
 pub(crate) fn copy_words(words: &mut [u64], from: &[u64], a: usize, e: usize)
@@ -21,7 +21,7 @@ pub(crate) fn copy_words(words: &mut [u64], from: &[u64], a: usize, e: usize)
 // The words that only the longer list has, as far as m.
 pub(crate) fn copy_tail(words: &mut [u64], left: &[u64], right: &[u64], m: usize)
     requires { ⌜ (m ≤ length (now words)) × (m ≤ max (length (now left)) (length (now right))) ⌝ }
-    ensures { λ r. ⌜ Put (tailWord (now (left .entry)) (now (right .entry))) (min (length (now (left .entry))) (length (now (right .entry)))) m (now (words .entry)) (now (words .exit)) ⌝ }
+    ensures { λ r. ⌜ PutTail (now (left .entry)) (now (right .entry)) m (now (words .entry)) (now (words .exit)) ⌝ }
 {
     let both = word::min(left.len(), right.len());
     copy_words(words, left, both, word::min(left.len(), m));

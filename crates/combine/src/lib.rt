@@ -10,32 +10,16 @@ use storage::Refusal;
 ghost use mathlib.Core.Bool.{_&&_};
 ghost use mathlib.Core.Path.{_≡_};
 ghost use Rattle.word.specs.Sets.{xorb};
-ghost use Rattle.storage.specs.Stores.{andNot, zeroed, Changes, Makes};
+ghost use Rattle.storage.specs.Stores.{andNot, withCount, zeroed, Changes, Makes};
 ghost use Rattle.storage.specs.declared.Change.the-variants.{Done};
 ghost use Rattle.combine.specs.Combine.{combiningFrom, unitingFrom, besideBoth};
-ghost use Rattle.combine.specs.Kernels.{checkedAll};
 
-// Refuses for a store of c words whose bitmap has n, then for one of d words and l, then for one of e words and r.
-fn check_all(c: usize, n: usize, d: usize, l: usize, e: usize, r: usize) -> Guard
-    ensures { λ a. ⌜ a ≡ checkedAll c n d l e r ⌝ }
+// m words are in use where b's were: those that fall out of use become zero.
+fn finish(words: &mut [u64], b: Bitmap, m: usize) -> Change
+    ensures { λ r. ⌜ (r ≡ Done (withCount b m)) × (now (words .exit) ≡ zeroed m (b .count) (now (words .entry))) ⌝ }
 {
-    match storage::check(c, n) {
-        Guard::Stop(why) => return Guard::Stop(why),
-        Guard::Pass => {}
-    }
-    match storage::check(d, l) {
-        Guard::Stop(why) => return Guard::Stop(why),
-        Guard::Pass => {}
-    }
-    storage::check(e, r)
-}
-
-// m words are in use where n were: those that fall out of use become zero.
-fn finish(words: &mut [u64], m: usize, n: usize) -> Change
-    ensures { λ r. ⌜ (r ≡ Done (record { count = m })) × (now (words .exit) ≡ zeroed m n (now (words .entry))) ⌝ }
-{
-    storage::grow(words, m, n);
-    Change::Done(Bitmap { count: m })
+    storage::grow(words, m, b.count);
+    Change::Done(Bitmap { count: m, ..b })
 }
 
 // The members of both bitmaps, in the fewest words.
@@ -47,11 +31,11 @@ pub fn and_from(
     right: &[u64],
     r: Bitmap,
 ) -> Change
-    ensures { λ a. ⌜ Changes (besideBoth (now (left .entry)) (l .count) (now (right .entry)) (r .count) (combiningFrom _&&_)) (now (words .entry)) b a (now (words .exit)) ⌝ }
+    ensures { λ a. ⌜ Changes (besideBoth (now (left .entry)) l (now (right .entry)) r (combiningFrom _&&_)) (now (words .entry)) b a (now (words .exit)) ⌝ }
 {
     let i = l.count;
     let j = r.count;
-    match check_all(words.len(), b.count, left.len(), i, right.len(), j) {
+    match storage::check_three(words, b, left, l, right, r) {
         Guard::Stop(e) => return Change::Refused(e, b),
         Guard::Pass => {}
     }
@@ -62,7 +46,7 @@ pub fn and_from(
         return Change::Refused(Refusal::NoSpace, b);
     }
     kernels::and_words(words, x, y, m);
-    finish(words, m, b.count)
+    finish(words, b, m)
 }
 
 // The members of the left bitmap that are not in the right one, in the fewest words.
@@ -74,11 +58,11 @@ pub fn andnot_from(
     right: &[u64],
     r: Bitmap,
 ) -> Change
-    ensures { λ a. ⌜ Changes (besideBoth (now (left .entry)) (l .count) (now (right .entry)) (r .count) (combiningFrom andNot)) (now (words .entry)) b a (now (words .exit)) ⌝ }
+    ensures { λ a. ⌜ Changes (besideBoth (now (left .entry)) l (now (right .entry)) r (combiningFrom andNot)) (now (words .entry)) b a (now (words .exit)) ⌝ }
 {
     let i = l.count;
     let j = r.count;
-    match check_all(words.len(), b.count, left.len(), i, right.len(), j) {
+    match storage::check_three(words, b, left, l, right, r) {
         Guard::Stop(e) => return Change::Refused(e, b),
         Guard::Pass => {}
     }
@@ -91,7 +75,7 @@ pub fn andnot_from(
     let both = word::min(j, m);
     kernels::andnot_words(words, x, y, both);
     kernels::copy_words(words, x, both, m);
-    finish(words, m, b.count)
+    finish(words, b, m)
 }
 
 // The members of either bitmap, in as many words as the longer.
@@ -103,11 +87,11 @@ pub fn or_from(
     right: &[u64],
     r: Bitmap,
 ) -> Change
-    ensures { λ a. ⌜ Changes (besideBoth (now (left .entry)) (l .count) (now (right .entry)) (r .count) unitingFrom) (now (words .entry)) b a (now (words .exit)) ⌝ }
+    ensures { λ a. ⌜ Changes (besideBoth (now (left .entry)) l (now (right .entry)) r unitingFrom) (now (words .entry)) b a (now (words .exit)) ⌝ }
 {
     let i = l.count;
     let j = r.count;
-    match check_all(words.len(), b.count, left.len(), i, right.len(), j) {
+    match storage::check_three(words, b, left, l, right, r) {
         Guard::Stop(e) => return Change::Refused(e, b),
         Guard::Pass => {}
     }
@@ -119,7 +103,7 @@ pub fn or_from(
     let y = &right[..j];
     kernels::or_words(words, x, y, word::min(i, j));
     kernels::copy_tail(words, x, y, m);
-    finish(words, m, b.count)
+    finish(words, b, m)
 }
 
 // The members of one bitmap only, in the fewest words.
@@ -131,11 +115,11 @@ pub fn xor_from(
     right: &[u64],
     r: Bitmap,
 ) -> Change
-    ensures { λ a. ⌜ Changes (besideBoth (now (left .entry)) (l .count) (now (right .entry)) (r .count) (combiningFrom xorb)) (now (words .entry)) b a (now (words .exit)) ⌝ }
+    ensures { λ a. ⌜ Changes (besideBoth (now (left .entry)) l (now (right .entry)) r (combiningFrom xorb)) (now (words .entry)) b a (now (words .exit)) ⌝ }
 {
     let i = l.count;
     let j = r.count;
-    match check_all(words.len(), b.count, left.len(), i, right.len(), j) {
+    match storage::check_three(words, b, left, l, right, r) {
         Guard::Stop(e) => return Change::Refused(e, b),
         Guard::Pass => {}
     }
@@ -147,33 +131,33 @@ pub fn xor_from(
     }
     kernels::xor_words(words, x, y, word::min(word::min(i, j), m));
     kernels::copy_tail(words, x, y, m);
-    finish(words, m, b.count)
+    finish(words, b, m)
 }
 
 // The members of both bitmaps, into a store with no earlier count.
 pub fn dup_and(words: &mut [u64], left: &[u64], l: Bitmap, right: &[u64], r: Bitmap) -> Change
-    ensures { λ a. ⌜ Makes (besideBoth (now (left .entry)) (l .count) (now (right .entry)) (r .count) (combiningFrom _&&_)) (now (words .entry)) a (now (words .exit)) ⌝ }
+    ensures { λ a. ⌜ Makes (besideBoth (now (left .entry)) l (now (right .entry)) r (combiningFrom _&&_)) (now (words .entry)) a (now (words .exit)) ⌝ }
 {
-    and_from(words, Bitmap { count: 0 }, left, l, right, r)
+    and_from(words, storage::EMPTY, left, l, right, r)
 }
 
 // The members of the left bitmap that are not in the right one, into a store with no earlier count.
 pub fn dup_andnot(words: &mut [u64], left: &[u64], l: Bitmap, right: &[u64], r: Bitmap) -> Change
-    ensures { λ a. ⌜ Makes (besideBoth (now (left .entry)) (l .count) (now (right .entry)) (r .count) (combiningFrom andNot)) (now (words .entry)) a (now (words .exit)) ⌝ }
+    ensures { λ a. ⌜ Makes (besideBoth (now (left .entry)) l (now (right .entry)) r (combiningFrom andNot)) (now (words .entry)) a (now (words .exit)) ⌝ }
 {
-    andnot_from(words, Bitmap { count: 0 }, left, l, right, r)
+    andnot_from(words, storage::EMPTY, left, l, right, r)
 }
 
 // The members of either bitmap, into a store with no earlier count.
 pub fn dup_or(words: &mut [u64], left: &[u64], l: Bitmap, right: &[u64], r: Bitmap) -> Change
-    ensures { λ a. ⌜ Makes (besideBoth (now (left .entry)) (l .count) (now (right .entry)) (r .count) unitingFrom) (now (words .entry)) a (now (words .exit)) ⌝ }
+    ensures { λ a. ⌜ Makes (besideBoth (now (left .entry)) l (now (right .entry)) r unitingFrom) (now (words .entry)) a (now (words .exit)) ⌝ }
 {
-    or_from(words, Bitmap { count: 0 }, left, l, right, r)
+    or_from(words, storage::EMPTY, left, l, right, r)
 }
 
 // The members of one bitmap only, into a store with no earlier count.
 pub fn dup_xor(words: &mut [u64], left: &[u64], l: Bitmap, right: &[u64], r: Bitmap) -> Change
-    ensures { λ a. ⌜ Makes (besideBoth (now (left .entry)) (l .count) (now (right .entry)) (r .count) (combiningFrom xorb)) (now (words .entry)) a (now (words .exit)) ⌝ }
+    ensures { λ a. ⌜ Makes (besideBoth (now (left .entry)) l (now (right .entry)) r (combiningFrom xorb)) (now (words .entry)) a (now (words .exit)) ⌝ }
 {
-    xor_from(words, Bitmap { count: 0 }, left, l, right, r)
+    xor_from(words, storage::EMPTY, left, l, right, r)
 }

@@ -8,12 +8,13 @@ use lib.ListN.{length, take, drop}
 use Rattle.word.specs.Bits.{member, wordsOf}
 use Rattle.word.proofs.Lists.{Fit}
 use Rattle.arch.specs.Scans.{nonzeroLen}
-use Rattle.storage.specs.Stores.{Bits, view, within, wordsFor, trimmed, zeroed, Changes}
+use Rattle.storage.specs.Stores.{Bits, withCount, view, held, within, wordsFor, trimmed, zeroed, Changes}
+use Rattle.storage.specs.Guards.{Passed}
 use Rattle.storage.specs.declared.Bitmap.{Bitmap}
 use Rattle.storage.specs.declared.Refusal.the-variants.{IndexOver, NoSpace}
 use Rattle.storage.specs.declared.Change.{Change}
 use Rattle.storage.specs.declared.Change.the-variants.{Done, Refused}
-use Rattle.storage.proofs.Checks.{Passed, within-ok, within-no}
+use Rattle.storage.proofs.Checks.{within-ok, within-no}
 use Rattle.storage.proofs.Views.{view-count, view-whole, bounded-view}
 use Rattle.storage.proofs.Stores.{changes-done, changes-refused, changes-same}
 use Rattle.storage.proofs.Trims.{trimmed-le}
@@ -25,11 +26,11 @@ use Rattle.gap.specs.Kernels.{opened, closed}
 use Rattle.gap.proofs.Opens.{open-none, open-over, open-put, opened-ends}
 use Rattle.gap.proofs.Closes.{shut, close-done}
 
-module _ (ws : List ℕ) (b : Bitmap) (p k : ℕ) (q : Passed (length ws) (b .count)) where
+module _ (ws : List ℕ) (b : Bitmap) (p k : ℕ) (q : Passed ws b) where
   -- ---- opened
 
   -- where there is no tail, trailing zero words are dropped
-  pub open-trims : (r : Change) → topOf (view ws (b .count)) ≤ p → Changes trimming ws b r ws → Changes (opening p k) ws b r ws
+  pub open-trims : (r : Change) → topOf (held ws b) ≤ p → Changes trimming ws b r ws → Changes (opening p k) ws b r ws
   unfolding trimming
   open-trims r h t =
       changes-same (opening p k) trimming ws ws b r
@@ -38,22 +39,22 @@ module _ (ws : List ℕ) (b : Bitmap) (p k : ℕ) (q : Passed (length ws) (b .co
       t
     where
       v : Bits
-      v = view ws (b .count)
+      v = held ws b
 
-  module _ (top : ℕ) (e : topOf (view ws (b .count)) ≡ suc top) (l : p ≤ top) where
+  module _ (top : ℕ) (e : topOf (held ws b) ≡ suc top) (l : p ≤ top) where
     pub open-refused : 2 ^ 64 < suc (top + k) → Changes (opening p k) ws b (Refused IndexOver b) ws
     open-refused h =
-        changes-refused (opening p k) ws b IndexOver q (open-over p k (length ws) (view ws (b .count)) (bounded-view ws (b .count)) (omega arith) (omega arith))
+        changes-refused (opening p k) ws b IndexOver q (open-over p k (length ws) (held ws b) (bounded-view ws (b .count)) (omega arith) (omega arith))
 
     module _ (low : suc (top + k) ≤ 2 ^ 64) where
       s : Bits
-      s = record { members = opened p k (view ws (b .count) .members); count = wordsFor (topOf (view ws (b .count)) + k) }
+      s = record { members = opened p k (held ws b .members); count = wordsFor (topOf (held ws b) + k) }
 
-      put : opening p k (length ws) (view ws (b .count)) ≡ within (length ws) s
+      put : opening p k (length ws) (held ws b) ≡ within (length ws) s
       unfolding s
-      put = open-put p k (length ws) (view ws (b .count)) (bounded-view ws (b .count)) (omega arith) (omega arith)
+      put = open-put p k (length ws) (held ws b) (bounded-view ws (b .count)) (omega arith) (omega arith)
 
-      count : wordsFor (topOf (view ws (b .count)) + k) ≡ (top + k) / 64 + 1
+      count : wordsFor (topOf (held ws b) + k) ≡ (top + k) / 64 + 1
       unfolding wordsFor
       count = ap (λ (x : ℕ). (x + k + 63) / 64) e ∙ omega arith
 
@@ -63,21 +64,21 @@ module _ (ws : List ℕ) (b : Bitmap) (p k : ℕ) (q : Passed (length ws) (b .co
 
       pub open-changes : (z part : List ℕ) (m : ℕ) → (top + k) / 64 < length ws → z ≡ zeroed (b .count) ((top + k) / 64 + 1) ws
           → m ≡ max (b .count) ((top + k) / 64 + 1) → part ≡ wordsOf (opened p k (member (take m z))) (length (take m z))
-          → Changes (opening p k) ws b (Done (record { count = (top + k) / 64 + 1 })) (part ++ drop m z)
+          → Changes (opening p k) ws b (Done (withCount b ((top + k) / 64 + 1))) (part ++ drop m z)
       unfolding s
       open-changes z part m h ez em ep =
           changes-done (opening p k) ws b (part ++ drop m z) s ((top + k) / 64 + 1) q
           (put ∙ within-ok (length ws) s (omega (arith, count)))
-          (grown-part ws z (b .count) ((top + k) / 64 + 1) ez m part (opened p k (view ws (b .count) .members)) s em (omega (arith, q .inside)) (omega (arith, count))
+          (grown-part ws z (b .count) ((top + k) / 64 + 1) ez m part (opened p k (held ws b .members)) s em (omega (arith, q .inside)) (omega (arith, count))
           (ep ∙ ap (λ (g : ℕ → Bool). wordsOf (opened p k g) (length (take m z))) (grown-members ws z (b .count) ((top + k) / 64 + 1) ez m em (omega (arith, q .inside))))
           (λ i a. refl)
-          (λ i a c. opened-ends p k (length ws) (view ws (b .count)) (bounded-view ws (b .count)) (omega arith) .over i (omega (arith, count))))
+          (λ i a c. opened-ends p k (length ws) (held ws b) (bounded-view ws (b .count)) (omega arith) .over i (omega (arith, count))))
           (sym count)
 
   -- ---- closed
 
   pub close-changes : (part : List ℕ) (r : ℕ) → Fit ws → part ≡ wordsOf (closed p k (member (take (b .count) ws))) (length (take (b .count) ws))
-      → r ≡ nonzeroLen (take (b .count) (part ++ drop (b .count) ws)) → Changes (closing p k) ws b (Done (record { count = r })) (part ++ drop (b .count) ws)
+      → r ≡ nonzeroLen (take (b .count) (part ++ drop (b .count) ws)) → Changes (closing p k) ws b (Done (withCount b r)) (part ++ drop (b .count) ws)
   close-changes part r f ep er =
       changes-done (closing p k) ws b (part ++ drop n ws) (trimmed (shut p k (view ws n))) r q
       (close-done p k (length ws) (view ws n) (bounded-view ws n) (omega (arith, view-count ws (b .count), q .inside)) (omega (arith, view-count ws (b .count), q .inside, q .short)))

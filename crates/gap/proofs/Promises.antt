@@ -84,7 +84,13 @@ module _ (p k c : ℕ) (b : Bits) (h : Bounded b) where
       (λ l.
       let x = lacks c _ e (sym (open-none p k c b h l) ∙ q) in
       let n = ends-count (b .members) (topOf b) (ends-of b h) (b .count) (top-le b) in
-      inr (x .0, (λ i m y. absurd (omega (arith, ends-under (ends-of b h) i y))), topOf b - 1, ends-of b h .last (topOf b - 1) (omega (arith, x .1, n)), inl (omega (arith, x .1, n), omega (arith, x .1, n))))
+      inr (
+        x .0,
+        (λ i m y. absurd (omega (arith, ends-under (ends-of b h) i y))),
+        topOf b - 1,
+        ends-of b h .last (topOf b - 1) (omega (arith, x .1, n)),
+        inl (omega (arith, x .1, n), omega (arith, x .1, n)),
+      ))
 
 pub opens : OpenMeans
 opens p k = record {

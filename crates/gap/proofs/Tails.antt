@@ -213,7 +213,8 @@ module _ (ws : List ℕ) (p k : ℕ) (f : Fit ws) where
     us-fit : Fit us
     us-fit m =
         by-eq m (p / 64)
-        (λ e. subst (λ (x : ℕ). x < 2 ^ 64) (sym (getD-set ws (p / 64) m (bitAnd (getD ws (p / 64) 0) ((2 ^ 64 - 1) - mask)) l e)) (and-lt 64 (getD ws (p / 64) 0) ((2 ^ 64 - 1) - mask) (f (p / 64)) (ones-sub-lt 64 mask)))
+        (λ e. subst (λ (x : ℕ). x < 2 ^ 64) (sym (getD-set ws (p / 64) m (bitAnd (getD ws (p / 64) 0) ((2 ^ 64 - 1) - mask)) l e))
+        (and-lt 64 (getD ws (p / 64) 0) ((2 ^ 64 - 1) - mask) (f (p / 64)) (ones-sub-lt 64 mask)))
         (λ n. subst (λ (x : ℕ). x < 2 ^ 64) (sym (us-other m n)) (f m))
 
     us-low : (q : ℕ) → 64 * (p / 64) ≤ q → q < p → member us q ≡ false

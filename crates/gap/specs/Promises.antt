@@ -4,8 +4,9 @@ use Prim.Native.Nat.{ℕ, _+_, _*_, _^_, _≤_, _<_}
 use mathlib.Core.Path.{_≡_}
 use mathlib.Core.Bool.{true, false}
 use mathlib.Core.Logic.{_⊎_}
-use Rattle.storage.specs.Stores.{Bits, Bounded}
-use Rattle.storage.specs.Promises.{mostWords, Meets, MeetsExactly}
+use Rattle.storage.specs.Stores.{Bits, Bounded, Space}
+use Rattle.storage.specs.Guards.{mostWords}
+use Rattle.storage.specs.Promises.{Meets, MeetsExactly}
 use Rattle.gap.specs.Gaps.{opening, closing}
 
 -- the words in use hold every member, and no fewer words do
@@ -22,7 +23,7 @@ pub record Opens (p k : ℕ) (b s : Bits) : Type 0 where
   pub count : Trimmed s
 
 -- 4 where a member from p on passes 2 ^ 64 - 1; 6 where none does, and a member has no word where it stays or goes
-abbrev pub NotOpened : ℕ → ℕ → ℕ → Bits → ℕ → Type 0
+abbrev pub NotOpened : ℕ → ℕ → Space → Bits → ℕ → Type 0
 NotOpened p k c b m =
     ((m ≡ 4) × (i : ℕ) × (p ≤ i) × (b .members i ≡ true) × (2 ^ 64 ≤ i + k))
     ⊎ ((m ≡ 6) × ((i : ℕ) → p ≤ i → b .members i ≡ true → i + k < 2 ^ 64)
@@ -39,7 +40,7 @@ pub record Closes (p k : ℕ) (b s : Bits) : Type 0 where
   pub count : Trimmed s
 
 -- only a bitmap that no store has is refused
-abbrev pub NotClosed : ℕ → Bits → ℕ → Type 0
+abbrev pub NotClosed : Space → Bits → ℕ → Type 0
 NotClosed c b m = b .count ≤ c → b .count ≤ mostWords → ⊥
 
 -- `close_gap`

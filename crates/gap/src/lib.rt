@@ -66,7 +66,7 @@ pub fn open_gap(words: &mut [u64], b: Bitmap, p: usize, k: usize) -> Change
     storage::grow(words, n, w + 1);
     let m = word::max(n, w + 1);
     open_words(&mut words[..m], p, k);
-    Change::Done(Bitmap { count: w + 1 })
+    Change::Done(Bitmap { count: w + 1, ..b })
 }
 
 // Closes k places at p: bits from p on, below p + k, go, and those behind them go k down. Drops trailing zero words.
@@ -74,12 +74,13 @@ pub fn close_gap(words: &mut [u64], b: Bitmap, p: usize, k: usize) -> Change
     ensures { λ r. ⌜ Changes (closing p k) (now (words .entry)) b r (now (words .exit)) ⌝ }
 {
     let n = b.count;
-    match storage::check(words.len(), n) {
+    match storage::check(words, b) {
         Guard::Stop(e) => return Change::Refused(e, b),
         Guard::Pass => {}
     }
     close_words(&mut words[..n], p, k);
     Change::Done(Bitmap {
         count: arch::nonzero_len(&words[..n]),
+        ..b
     })
 }

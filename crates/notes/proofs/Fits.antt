@@ -9,7 +9,8 @@ use lib.Dec.{leb}
 use borrow.Author.Tests.{leb-true}
 use Rattle.word.specs.Sets.{choose}
 use Rattle.word.proofs.Cases.{by-test}
-use Rattle.storage.specs.Stores.{view}
+use Rattle.storage.specs.Stores.{held}
+use Rattle.storage.specs.declared.Bitmap.{Bitmap}
 use Rattle.storage.specs.declared.Number.{Number}
 use Rattle.storage.specs.declared.Number.the-variants.{Is, Refused}
 use Rattle.storage.specs.declared.Refusal.the-variants.{NoSpace}
@@ -19,10 +20,10 @@ use Rattle.print.specs.Texts.{textOf, fitted, Prints}
 same : {a b : ℕ} → Number.Is a ≡ Number.Is b → a ≡ b
 same e = cc
 
-pub fits : (ws : List ℕ) (n : ℕ) (out : List ℕ) (k : ℕ) (r : Number) (out' : List ℕ) → r ≡ Number.Is k → Prints ws n out r out' → k ≤ length out
-fits ws n out k r out' e p =
-    let t : List ℕ = textOf (view ws n) in
-    let a = told ws n Number.Refused (λ s. fitted (textOf s) out) r (λ d q. absurd (let z : _≡_ {A = ℕ} 0 1 = cc in omega arith)) (p .answers) in
+pub fits : (ws : List ℕ) (b : Bitmap) (out : List ℕ) (k : ℕ) (r : Number) (out' : List ℕ) → r ≡ Number.Is k → Prints ws b out r out' → k ≤ length out
+fits ws b out k r out' e p =
+    let t : List ℕ = textOf (held ws b) in
+    let a = told ws b Number.Refused (λ s. fitted (textOf s) out) r (λ d q. absurd (let z : _≡_ {A = ℕ} 0 1 = cc in omega arith)) (p .answers) in
     by-test (leb (length t) (length out))
     (λ y. omega (arith, leb-true (length t) (length out) y, same (sym e ∙ a .1 ∙ ap (λ (x : Bool). choose x (Is (length t)) (Refused NoSpace)) y)))
     (λ y. let q : Number.Is k ≡ Number.Refused NoSpace = sym e ∙ a .1 ∙ ap (λ (x : Bool). choose x (Is (length t)) (Refused NoSpace)) y in absurd (let z : _≡_ {A = ℕ} 0 1 = cc in omega arith))

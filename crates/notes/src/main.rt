@@ -4,6 +4,7 @@ use libc::STDIN_FILENO;
 use libc::STDOUT_FILENO;
 use sheet::Reading;
 use storage::Bitmap;
+use storage::EMPTY;
 use storage::Number;
 
 // The most bytes of a sheet that is read.
@@ -42,7 +43,7 @@ fn list(words: &[u64], b: Bitmap) {
 fn line(edition: usize, sheet: &[u8]) {
     let old: [u64; 1] = [0; 1];
     let mut store: [u64; 128] = [0; 128];
-    match reader::read(edition, sheet, &old, Bitmap { count: 0 }, &mut store) {
+    match reader::read(edition, sheet, &old, EMPTY, &mut store) {
         Reading::Done(records, b) => {
             answer(edition, 0, records, b.count);
             list(&store, b);

@@ -8,13 +8,15 @@ use lib.Dec.{leb}
 use lib.ListN.{length, drop, length-append}
 use borrow.Author.Tests.{le-leb, lt-leb}
 use Rattle.word.specs.Sets.{choose}
-use Rattle.storage.specs.Stores.{Bits, Bounded, checked, view}
+use Rattle.storage.specs.Stores.{Bits, Bounded, checked, held}
+use Rattle.storage.specs.Guards.{Passed}
+use Rattle.storage.specs.declared.Bitmap.{Bitmap}
 use Rattle.storage.specs.declared.Refusal.{Refusal}
 use Rattle.storage.specs.declared.Refusal.the-variants.{NoSpace}
 use Rattle.storage.specs.declared.Guard.the-variants.{Pass, Stop}
 use Rattle.storage.specs.declared.Number.{Number}
 use Rattle.storage.specs.declared.Number.the-variants.{Is}
-use Rattle.storage.proofs.Checks.{Passed, reading-ok, reading-stopped}
+use Rattle.storage.proofs.Checks.{reading-ok, reading-stopped}
 use Rattle.text.specs.Lists.{limit, Range, range}
 use Rattle.print.specs.Texts.{runs, printed, others, text, textOf, fitted, replaced, Prints}
 use Rattle.print.specs.Kernels.{NextRun, gap, putAt, Puts}
@@ -171,33 +173,33 @@ module _ (b : Bits) (e : ℕ) (past : (j : ℕ) → e ≤ j → b .members j ≡
 
 -- ---- the call
 
-module _ (ws : List ℕ) (n : ℕ) (out : List ℕ) where
-  pub prints-stopped : (e : Refusal) → Stop e ≡ checked (length ws) n Stop Pass → Prints ws n out (Number.Refused e) out
+module _ (ws : List ℕ) (b : Bitmap) (out : List ℕ) where
+  pub prints-stopped : (e : Refusal) → Stop e ≡ checked ws b Stop Pass → Prints ws b out (Number.Refused e) out
   prints-stopped e q = record {
-    answers = sym (reading-stopped ws n e Number.Refused (λ s. fitted (textOf s) out) q);
-    leaves = sym (reading-stopped ws n e (λ d. out) (λ s. replaced (textOf s) out) q);
+    answers = sym (reading-stopped ws b e Number.Refused (λ s. fitted (textOf s) out) q);
+    leaves = sym (reading-stopped ws b e (λ d. out) (λ s. replaced (textOf s) out) q);
   }
 
-  module _ (p : Passed (length ws) n) (len : ℕ) (el : len ≡ length (textOf (view ws n))) where
+  module _ (p : Passed ws b) (len : ℕ) (el : len ≡ length (textOf (held ws b))) where
     abbrev t : List ℕ
-    t = textOf (view ws n)
+    t = textOf (held ws b)
 
-    pub prints-short : length out < len → Prints ws n out (Number.Refused NoSpace) out
+    pub prints-short : length out < len → Prints ws b out (Number.Refused NoSpace) out
     prints-short h =
         let q : leb (length t) (length out) ≡ false = lt-leb (length t) (length out) (omega arith) in
         record {
           answers =
-              sym (reading-ok ws n Number.Refused (λ s. fitted (textOf s) out) p ∙ ap (λ (x : Bool). choose x (Number.Is (length t)) (Number.Refused NoSpace)) q);
-          leaves = sym (reading-ok ws n (λ d. out) (λ s. replaced (textOf s) out) p ∙ ap (λ (x : Bool). choose x (t ++ drop (length t) out) out) q);
+              sym (reading-ok ws b Number.Refused (λ s. fitted (textOf s) out) p ∙ ap (λ (x : Bool). choose x (Number.Is (length t)) (Number.Refused NoSpace)) q);
+          leaves = sym (reading-ok ws b (λ d. out) (λ s. replaced (textOf s) out) p ∙ ap (λ (x : Bool). choose x (t ++ drop (length t) out) out) q);
         }
 
-    pub prints-done : (out' : List ℕ) → len ≤ length out → out' ≡ putAt 0 t out → Prints ws n out (Number.Is len) out'
+    pub prints-done : (out' : List ℕ) → len ≤ length out → out' ≡ putAt 0 t out → Prints ws b out (Number.Is len) out'
     unfolding putAt
     prints-done out' h e =
         let q : leb (length t) (length out) ≡ true = le-leb (length t) (length out) (omega arith) in
         record {
           answers =
               ap Number.Is el
-              ∙ sym (reading-ok ws n Number.Refused (λ s. fitted (textOf s) out) p ∙ ap (λ (x : Bool). choose x (Number.Is (length t)) (Number.Refused NoSpace)) q);
-          leaves = e ∙ sym (reading-ok ws n (λ d. out) (λ s. replaced (textOf s) out) p ∙ ap (λ (x : Bool). choose x (t ++ drop (length t) out) out) q);
+              ∙ sym (reading-ok ws b Number.Refused (λ s. fitted (textOf s) out) p ∙ ap (λ (x : Bool). choose x (Number.Is (length t)) (Number.Refused NoSpace)) q);
+          leaves = e ∙ sym (reading-ok ws b (λ d. out) (λ s. replaced (textOf s) out) p ∙ ap (λ (x : Bool). choose x (t ++ drop (length t) out) out) q);
         }

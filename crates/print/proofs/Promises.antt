@@ -1,5 +1,5 @@
 -- The promises of specs/Promises. Assumes nothing.
-use mathlib.Core.Path.{_≡_, refl, sym, ap, _∙_, subst}
+use mathlib.Core.Path.{_≡_, refl, sym, ap, ap₂, _∙_, subst}
 use mathlib.Core.Bool.{Bool, true, false, false≢true}
 use mathlib.Core.List.{List, [], _∷_, _++_}
 use mathlib.Core.Logic.{inl, inr}
@@ -13,19 +13,21 @@ use borrow.Author.Tests.{le-leb, lt-leb}
 use Rattle.word.specs.Sets.{choose}
 use Rattle.word.proofs.Cases.{by-lt}
 use Rattle.storage.specs.Refusals.{numberOf, numberNumber, numberValue, changeNumber, changeRecord}
-use Rattle.storage.specs.Stores.{Bits, Outcome, refused, done, limit, view, reading, trimmedCount, trimmed, outcome, answer, store}
+use Rattle.storage.specs.Stores.{Bits, Outcome, done, withCount, spaceOf, checked, view, held, reading, trimmedCount, trimmed, outcome, answer, store}
+use Rattle.storage.specs.Guards.{Passed}
 use Rattle.storage.specs.Promises.{LeastCount}
+use Rattle.storage.specs.declared.Bitmap.{Bitmap}
 use Rattle.storage.specs.declared.Refusal.{Refusal}
-use Rattle.storage.specs.declared.Refusal.the-variants.{StoreTooLong, CountOverStore, NoSpace, NotList}
+use Rattle.storage.specs.declared.Refusal.the-variants.{NoSpace, NotList}
 use Rattle.storage.specs.declared.Number.{Number}
 use Rattle.storage.specs.declared.Number.the-variants.{Is, Refused}
 use Rattle.storage.specs.declared.Change.{Change}
 use Rattle.storage.specs.declared.Change.the-variants.{Done}
-use Rattle.storage.proofs.Checks.{checked-ok, checked-long, checked-over}
+use Rattle.storage.proofs.Checks.{checked-ok, by-guard, reading-ok}
 use Rattle.storage.proofs.Views.{view-count, bounded-view}
-use Rattle.storage.proofs.Stores.{view-written}
+use Rattle.storage.proofs.Stores.{view-written, outcome-ok}
 use Rattle.storage.proofs.Trims.{bounded-trimmed}
-use Rattle.storage.proofs.Promises.{least-count}
+use Rattle.storage.proofs.Promises.{guarded, guarded-map, least-count}
 use Rattle.text.specs.Lists.{plain, Range, range, covers}
 use Rattle.text.specs.Grammar as g
 use Rattle.text.specs.Readings.{empty, token, reads, notList, parsed, parse, readingList}
@@ -110,36 +112,27 @@ text-of b h small = record {
 
 -- ---- the call that prints
 
-module _ (ws : List ℕ) (n : ℕ) (out : List ℕ) (r : Number) (out' : List ℕ) (p : Prints ws n out r out') where
+module _ (ws : List ℕ) (b : Bitmap) (out : List ℕ) (r : Number) (out' : List ℕ) (p : Prints ws b out r out') where
   abbrev t : List ℕ
-  t = textOf (view ws n)
+  t = textOf (held ws b)
 
-  fits : length ws ≤ limit → n ≤ length ws → length t ≤ length out → (r ≡ Is (length t)) × (out' ≡ t ++ drop (length t) out)
-  unfolding reading
-  fits h k l = (
-    p .answers ∙ checked-ok (length ws) n Number.Refused (fitted t out) h k ∙ ap (λ (x : Bool). choose x (Is (length t)) (Number.Refused NoSpace)) q,
-    p .leaves ∙ checked-ok (length ws) n (λ e. out) (replaced t out) h k ∙ ap (λ (x : Bool). choose x (t ++ drop (length t) out) out) q,
+  -- where the store passes, whether the text fits is all there is to ask
+  asked : (x : Bool) → Passed ws b → leb (length t) (length out) ≡ x
+      → (r ≡ choose x (Is (length t)) (Number.Refused NoSpace)) × (out' ≡ choose x (t ++ drop (length t) out) out)
+  asked x q e = (
+    p .answers ∙ reading-ok ws b Number.Refused (λ s. fitted (textOf s) out) q ∙ ap (λ (x : Bool). choose x (Is (length t)) (Number.Refused NoSpace)) e,
+    p .leaves ∙ reading-ok ws b (λ e. out) (λ s. replaced (textOf s) out) q ∙ ap (λ (x : Bool). choose x (t ++ drop (length t) out) out) e,
   )
-    where
-      q : leb (length t) (length out) ≡ true
-      q = le-leb (length t) (length out) l
 
   stopped : (e : Refusal) → r ≡ Number.Refused e → out' ≡ out → NotPrinted out (numberNumber r) (numberValue r) out' (numberOf e)
   stopped e q w = record { hands = (ap numberNumber q, ap numberValue q); bytes = w }
 
-  lacking : length ws ≤ limit → n ≤ length ws → length out < length t → NotPrinted out (numberNumber r) (numberValue r) out' 6
-  unfolding reading
-  lacking h k l =
-      stopped NoSpace
-      (p .answers ∙ checked-ok (length ws) n Number.Refused (fitted t out) h k ∙ ap (λ (x : Bool). choose x (Is (length t)) (Number.Refused NoSpace)) q)
-      (p .leaves ∙ checked-ok (length ws) n (λ e. out) (replaced t out) h k ∙ ap (λ (x : Bool). choose x (t ++ drop (length t) out) out) q)
-    where
-      q : leb (length t) (length out) ≡ false
-      q = lt-leb (length t) (length out) l
+  lacking : Passed ws b → length out < length t → NotPrinted out (numberNumber r) (numberValue r) out' 6
+  lacking q l = let a = asked false q (lt-leb (length t) (length out) l) in stopped NoSpace (a .0) (a .1)
 
-  pub text-put : length ws ≤ limit → n ≤ length ws → length t ≤ length out → TextPut t out (numberNumber r) (numberValue r) out'
-  text-put h k l =
-      let f = fits h k l in
+  pub text-put : Passed ws b → length t ≤ length out → TextPut t out (numberNumber r) (numberValue r) out'
+  text-put q l =
+      let f = asked true q (le-leb (length t) (length out) l) in
       let v : numberValue r ≡ length t = ap numberValue (f .0) in
       record {
         number = ap numberNumber (f .0);
@@ -148,52 +141,61 @@ module _ (ws : List ℕ) (n : ℕ) (out : List ℕ) (r : Number) (out' : List �
         past = ap (drop (numberValue r)) (f .1) ∙ drop-at t (drop (length t) out) (numberValue r) (sym v) ∙ ap (λ (m : ℕ). drop m out) (sym v);
       }
 
-  call-means : PrintsText ws n out (numberNumber r) (numberValue r) out'
-  unfolding reading
-  call-means = record {
-    long = λ h.
-        stopped StoreTooLong (p .answers ∙ checked-long (length ws) n Number.Refused (fitted t out) h)
-        (p .leaves ∙ checked-long (length ws) n (λ e. out) (replaced t out) h);
-    over = λ h k.
-        stopped CountOverStore (p .answers ∙ checked-over (length ws) n Number.Refused (fitted t out) h k)
-        (p .leaves ∙ checked-over (length ws) n (λ e. out) (replaced t out) h k);
-    rest = λ h k. (
-      t,
-      prints-one (view ws n) (bounded-view ws n) t .1 refl,
-      by-lt (length out) (length t) (λ l. inr (l, lacking h k l)) (λ l. inl (l, text-put h k l)),
-    );
-  }
+  -- the answer and the buffer are refused by one guard
+  abbrev kept : Refusal → Number × List ℕ
+  kept e = (Number.Refused e, out)
 
-  pub text-fits : length ws ≤ limit → n ≤ length ws → numberNumber r ≡ 0 → length t ≤ length out
-  text-fits h k z = by-lt (length out) (length t) (λ l. absurd (omega (arith, lacking h k l .hands .0))) (λ l. l)
+  pair-is : (r, out') ≡ checked ws b kept (r, out')
+  unfolding reading
+  pair-is =
+      by-guard ws b
+      (λ e s.
+      ap₂ (λ (x : Number) (y : List ℕ). (x, y)) (p .answers ∙ s _ Number.Refused (fitted t out)) (p .leaves ∙ s _ (λ e. out) (replaced t out))
+      ∙ sym (s _ kept (r, out')))
+      (λ q. sym (checked-ok ws b kept (r, out') q))
+
+  call-means : PrintsText ws b out (numberNumber r) (numberValue r) out'
+  call-means =
+      guarded-map
+      (λ q u. (
+        t,
+        prints-one (held ws b) (bounded-view ws (b .count)) t .1 refl,
+        by-lt (length out) (length t) (λ l. inr (l, lacking q l)) (λ l. inl (l, text-put q l)),
+      ))
+      (guarded ws b kept (r, out') (λ x k. NotPrinted out (numberNumber (x .0)) (numberValue (x .0)) (x .1) k) (λ x. Unit {0})
+      (λ e. record { hands = (refl, refl); bytes = refl }) (λ q. tt) (r, out') pair-is)
+
+  pub text-fits : Passed ws b → numberNumber r ≡ 0 → length t ≤ length out
+  text-fits q z = by-lt (length out) (length t) (λ l. absurd (omega (arith, lacking q l .hands .0))) (λ l. l)
 
 pub prints-text : WriteListMeans
-prints-text ws n out r out' p = call-means ws n out r out' p
+prints-text ws b out r out' p = call-means ws b out r out' p
 
 -- ---- one call after the other
 
 pub there-and-back : ReadsBack
-unfolding outcome answer store
-there-and-back ws n i out out' a hl hn e p z us us' b r m ul un fewest space c =
-    let put = text-put ws n out a out' p hl hn (text-fits ws n out a out' p hl hn z) in
-    let made : outcome (readingList (take (numberValue a) out')) us (b .count) ≡ done (trimmed (view ws n)) =
-    checked-ok (length us) (b .count) refused (readingList (take (numberValue a) out') (length us) (view us (b .count))) ul un
-    ∙ ap (λ (t : List ℕ). readingList t (length us) (view us (b .count))) (put .front)
-    ∙ reads-back (view ws n) (bounded-view ws n) (omega (arith, view-count ws n)) i e (length us) (view us (b .count)) (omega (arith, count)) in
-    let answered : r ≡ Done (record { count = trimmed (view ws n) .count }) = c .answers ∙ ap (λ (o : Outcome). answer o b) made in (
+unfolding answer store
+there-and-back ws b i out out' a q e p z us us' o r m u fewest space c =
+    let n = b .count in
+    let put = text-put ws b out a out' p q (text-fits ws b out a out' p q z) in
+    let made : outcome (readingList (take (numberValue a) out')) us o ≡ done (trimmed (held ws b)) =
+    outcome-ok (readingList (take (numberValue a) out')) us o u
+    ∙ ap (λ (t : List ℕ). readingList t (spaceOf us) (held us o)) (put .front)
+    ∙ reads-back (held ws b) (bounded-view ws n) (omega (arith, q, view-count ws n)) i e (spaceOf us) (held us o) (omega (arith, count)) in
+    let answered : r ≡ Done (withCount o (trimmed (held ws b) .count)) = c .answers ∙ ap (λ (x : Outcome). answer x o) made in (
       ap changeNumber answered,
       ap (λ (x : Change). changeRecord x .count) answered ∙ count,
       λ j.
           ap (λ (k : ℕ). view us' k .members j) (sym count)
-          ∙ ap (λ (y : List ℕ). view y (trimmed (view ws n) .count) .members j) (c .leaves ∙ ap (λ (o : Outcome). store o us (b .count)) made)
+          ∙ ap (λ (y : List ℕ). view y (trimmed (held ws b) .count) .members j) (c .leaves ∙ ap (λ (x : Outcome). store x us (o .count)) made)
           ∙ ap (λ (s : Bits). s .members j)
-          (view-written us (b .count) (trimmed (view ws n)) (omega (arith, count)) un (bounded-trimmed (view ws n) (bounded-view ws n))),
+          (view-written us (o .count) (trimmed (held ws b)) (omega (arith, count)) (u .inside) (bounded-trimmed (held ws b) (bounded-view ws n))),
     )
   where
-    its : LeastCount (view ws n .members) n (trimmedCount (view ws n .members) n)
-    its = least-count (view ws n .members) n
+    its : LeastCount (held ws b .members) (b .count) (trimmedCount (held ws b .members) (b .count))
+    its = least-count (held ws b .members) (b .count)
 
-    count : trimmedCount (view ws n .members) (view ws n .count) ≡ m
+    count : trimmedCount (held ws b .members) (held ws b .count) ≡ m
     count =
-        ap (trimmedCount (view ws n .members)) (view-count ws n)
-        ∙ omega (arith, its .least m (fewest .holds), fewest .least (trimmedCount (view ws n .members) n) (its .holds))
+        ap (trimmedCount (held ws b .members)) (view-count ws (b .count))
+        ∙ omega (arith, its .least m (fewest .holds), fewest .least (trimmedCount (held ws b .members) (b .count)) (its .holds))

@@ -8,7 +8,7 @@ use lib.Dec.{leb}
 use borrow.Author.Tests.{lt-leb, eq-eqb}
 use Rattle.word.specs.Sets.{choose}
 use Rattle.word.proofs.Cases.{by-lt, by-eq, and-false}
-use Rattle.storage.specs.Stores.{Bits, Bounded, view, reading, nextFrom}
+use Rattle.storage.specs.Stores.{Bits, Bounded, view, held, reading, nextFrom}
 use Rattle.text.specs.Lists.{Range, range, covers}
 use Rattle.print.specs.Texts.{Nowhere, From, runsFrom, runs}
 use Rattle.print.specs.Kernels.{NextRun}
@@ -16,15 +16,17 @@ use Rattle.print.specs.Promises.{Runs, none, more}
 use Rattle.print.specs.declared.Run.{Run}
 use Rattle.text.proofs.Marks.{between, between-in}
 use lib.Bits.{bitAnd}
-use lib.ListN.{length, getD}
+use lib.ListN.{getD}
 use Rattle.storage.specs.Refusals.{foundNumber, foundFlag, foundValue}
+use Rattle.storage.specs.Guards.{Passed}
 use Rattle.storage.specs.Promises.{NextMember}
+use Rattle.storage.specs.declared.Bitmap.{Bitmap}
 use Rattle.storage.specs.declared.Refusal.{Refusal}
 use Rattle.storage.specs.declared.Found.{Found}
 use Rattle.storage.specs.declared.Found.the-variants.{At, Nothing}
 use Rattle.storage.specs.declared.Number.{Number}
 use Rattle.storage.specs.declared.Number.the-variants.{Is}
-use Rattle.storage.proofs.Checks.{Passed, reading-ok}
+use Rattle.storage.proofs.Checks.{reading-ok}
 use Rattle.storage.proofs.Views.{view-count, bounded-view}
 use Rattle.storage.proofs.Promises.{each-number-once, next-member, finds-at, finds-nothing}
 use Rattle.slice.specs.Slices.{nextClear}
@@ -134,29 +136,32 @@ next-some s e i run (r ∷ rs) n h (more a b f m z x) =
 
 -- ---- the next run, by two scans
 
-module _ (ws : List ℕ) (n i : ℕ) (p : Passed (length ws) n) where
-  abbrev b : Bits
-  b = view ws n
+module _ (ws : List ℕ) (b : Bitmap) (i : ℕ) (p : Passed ws b) where
+  abbrev n : ℕ
+  n = b .count
 
-  bound : Bounded b
+  abbrev s : Bits
+  s = held ws b
+
+  bound : Bounded s
   bound = bounded-view ws n
 
   -- the length is past every member
-  below : (j : ℕ) → b .members j ≡ true → j < 64 * n
+  below : (j : ℕ) → s .members j ≡ true → j < 64 * n
   below j e = by-lt j (64 * n) (λ h. h) (λ h. absurd (false≢true (sym (bound .past j (omega (arith, view-count ws n))) ∙ e)))
 
-  module _ (f : Found) (ef : f ≡ reading ws n Found.Refused (λ s. nextFrom s i)) where
+  module _ (f : Found) (ef : f ≡ reading ws b Found.Refused (λ s. nextFrom s i)) where
     abbrev is : Found → Type 0
-    is a = NextMember (b .members) i (foundNumber a) (foundFlag a) (foundValue a)
+    is a = NextMember (s .members) i (foundNumber a) (foundFlag a) (foundValue a)
 
     member : is f
-    member = subst is (sym (ef ∙ reading-ok ws n Found.Refused (λ s. nextFrom s i) p)) (next-member b bound i)
+    member = subst is (sym (ef ∙ reading-ok ws b Found.Refused (λ s. nextFrom s i) p)) (next-member s bound i)
 
     abbrev first : ℕ → Type 0
-    first x = (i ≤ x) × (b .members x ≡ true) × ((q : ℕ) → i ≤ q → q < x → b .members q ≡ false)
+    first x = (i ≤ x) × (s .members x ≡ true) × ((q : ℕ) → i ≤ q → q < x → s .members q ≡ false)
 
     abbrev nowhere : Type 0
-    nowhere = (q : ℕ) → i ≤ q → b .members q ≡ false
+    nowhere = (q : ℕ) → i ≤ q → s .members q ≡ false
 
     at : (x : ℕ) → f ≡ At x → first x
     at x e = finds-at first nowhere x (subst is e member)
@@ -164,7 +169,7 @@ module _ (ws : List ℕ) (n i : ℕ) (p : Passed (length ws) n) where
     pub start-below : (x : ℕ) → f ≡ At x → x < 64 * n
     start-below x e = below x (at x e .1)
 
-    pub run-none : i ≤ 64 * n → f ≡ Nothing → NextRun (b .members) (64 * n) i (record { low = 64 * n; end = 64 * n })
+    pub run-none : i ≤ 64 * n → f ≡ Nothing → NextRun (s .members) (64 * n) i (record { low = 64 * n; end = 64 * n })
     run-none h e =
         let q : nowhere = finds-nothing first nowhere (subst is e member) in
         record {
@@ -181,25 +186,25 @@ module _ (ws : List ℕ) (n i : ℕ) (p : Passed (length ws) n) where
     found-never e q = omega (arith, each-number-once .range e .0, subst is q member .0)
 
     -- a run of one number
-    pub run-single : (x : ℕ) → f ≡ At x → b .members (x + 1) ≡ false → NextRun (b .members) (64 * n) i (record { low = x; end = x + 1 })
+    pub run-single : (x : ℕ) → f ≡ At x → s .members (x + 1) ≡ false → NextRun (s .members) (64 * n) i (record { low = x; end = x + 1 })
     run-single x ex z = record {
       from = at x ex .0;
       order = omega arith;
       within = omega (arith, start-below x ex);
       before = λ j l k. at x ex .2 j l k;
-      all = λ j l k. let e : j ≡ x = omega arith in ap (b .members) e ∙ at x ex .1;
+      all = λ j l k. let e : j ≡ x = omega arith in ap (s .members) e ∙ at x ex .1;
       stops = λ l. z;
       none = λ e. absurd (omega arith);
     }
 
-    module _ (x : ℕ) (ex : f ≡ At x) (m : Number) (em : m ≡ reading ws n Number.Refused (λ s. Number.Is (nextClear s (x + 1)))) where
-      clear : m ≡ Number.Is (nextClear b (x + 1))
-      clear = em ∙ reading-ok ws n Number.Refused (λ s. Number.Is (nextClear s (x + 1))) p
+    module _ (x : ℕ) (ex : f ≡ At x) (m : Number) (em : m ≡ reading ws b Number.Refused (λ s. Number.Is (nextClear s (x + 1)))) where
+      clear : m ≡ Number.Is (nextClear s (x + 1))
+      clear = em ∙ reading-ok ws b Number.Refused (λ s. Number.Is (nextClear s (x + 1))) p
 
       pub clear-never : (e : Refusal) → m ≡ Number.Refused e → ⊥
-      clear-never e q = let z : Number.Refused e ≡ Number.Is (nextClear b (x + 1)) = sym q ∙ clear in let y : _≡_ {A = ℕ} 0 1 = cc in omega arith
+      clear-never e q = let z : Number.Refused e ≡ Number.Is (nextClear s (x + 1)) = sym q ∙ clear in let y : _≡_ {A = ℕ} 0 1 = cc in omega arith
 
-      pub run-found : (end : ℕ) → m ≡ Number.Is end → NextRun (b .members) (64 * n) i (record { low = x; end = end })
+      pub run-found : (end : ℕ) → m ≡ Number.Is end → NextRun (s .members) (64 * n) i (record { low = x; end = end })
       run-found end q = record {
         from = at x ex .0;
         order = omega (arith, o .from);
@@ -210,14 +215,14 @@ module _ (ws : List ℕ) (n i : ℕ) (p : Passed (length ws) n) where
         none = λ e. absurd (omega (arith, o .from));
       }
         where
-          same : nextClear b (x + 1) ≡ end
-          same = let z : Number.Is (nextClear b (x + 1)) ≡ Number.Is end = sym clear ∙ q in cc
+          same : nextClear s (x + 1) ≡ end
+          same = let z : Number.Is (nextClear s (x + 1)) ≡ Number.Is end = sym clear ∙ q in cc
 
-          o : NextOther b (x + 1) end
-          o = subst (NextOther b (x + 1)) same (next-other b bound (x + 1))
+          o : NextOther s (x + 1) end
+          o = subst (NextOther s (x + 1)) same (next-other s bound (x + 1))
 
-          all : (j : ℕ) → x ≤ j → j < end → b .members j ≡ true
-          all j l k = by-eq j x (λ e. ap (b .members) e ∙ at x ex .1) (λ e. o .between j (omega arith) k)
+          all : (j : ℕ) → x ≤ j → j < end → s .members j ≡ true
+          all j l k = by-eq j x (λ e. ap (s .members) e ∙ at x ex .1) (λ e. o .between j (omega arith) k)
 
 -- a number whose bit is 0 is no member
 pub clear-bit : (ws : List ℕ) (n i : ℕ) → i / 64 < n → bitAnd (getD ws (i / 64) 0 / 2 ^ (i % 64)) 1 ≡ 0 → view ws n .members i ≡ false

@@ -6,8 +6,9 @@ use mathlib.Core.List.{List, [], _∷_, _++_}
 use mathlib.Core.Logic.{_↔_, _⊎_}
 use lib.ListN.{length, take, drop}
 use Rattle.storage.specs.Refusals.{numberOf, numberNumber, numberValue, changeNumber, changeRecord}
-use Rattle.storage.specs.Stores.{Bits, Bounded, refused, view, Changes}
-use Rattle.storage.specs.Promises.{mostWords, Guarded, LeastCount, HandsNone}
+use Rattle.storage.specs.Stores.{Bits, Bounded, refused, Space, view, held, Changes}
+use Rattle.storage.specs.Guards.{mostWords, Passed}
+use Rattle.storage.specs.Promises.{Guarded, LeastCount, HandsNone}
 use Rattle.storage.specs.declared.Bitmap.{Bitmap}
 use Rattle.storage.specs.declared.Refusal.{Refusal}
 use Rattle.storage.specs.declared.Change.{Change}
@@ -84,20 +85,20 @@ pub record TextPut (t out : List ℕ) (x v : ℕ) (out' : List ℕ) : Type 0 whe
   pub past : drop v out' ≡ drop v out
 
 -- 1, then 2; then the text, or 6 exactly where the buffer has fewer bytes
-abbrev pub PrintsText : List ℕ → ℕ → List ℕ → ℕ → ℕ → List ℕ → Type 0
-PrintsText ws n out x v out' =
-    Guarded (length ws) n (NotPrinted out x v out')
-    ((t : List ℕ) × IsText (view ws n .members) t
+abbrev pub PrintsText : List ℕ → Bitmap → List ℕ → ℕ → ℕ → List ℕ → Type 0
+PrintsText ws b out x v out' =
+    Guarded ws b (NotPrinted out x v out')
+    ((t : List ℕ) × IsText (held ws b .members) t
     × (((length t ≤ length out) × TextPut t out x v out') ⊎ ((length out < length t) × NotPrinted out x v out' 6)))
 
 -- `write_list`, from its contract
 abbrev pub WriteListMeans : Type 0
-WriteListMeans = (ws : List ℕ) (n : ℕ) (out : List ℕ) (r : Number) (out' : List ℕ) → Prints ws n out r out' → PrintsText ws n out (numberNumber r) (numberValue r) out'
+WriteListMeans = (ws : List ℕ) (b : Bitmap) (out : List ℕ) (r : Number) (out' : List ℕ) → Prints ws b out r out' → PrintsText ws b out (numberNumber r) (numberValue r) out'
 
 -- a set with no member prints no byte, which is refused with 7; the text of any other is the grammar's list of its runs
 pub record TextOf (b : Bits) : Type 0 where
   pub empty : ((i : ℕ) → b .members i ≡ false) → textOf b ≡ []
-  pub refused : (c : ℕ) (old : Bits) → (e : Refusal) × (readingList [] c old ≡ refused e) × (numberOf e ≡ 7)
+  pub refused : (c : Space) (old : Bits) → (e : Refusal) × (readingList [] c old ≡ refused e) × (numberOf e ≡ 7)
   pub some : (i : ℕ) → b .members i ≡ true → Listed (textOf b) (runs b)
 
 -- of every bitmap that a store may hold
@@ -107,8 +108,8 @@ TextMeans = (b : Bits) → Bounded b → b .count ≤ mostWords → TextOf b
 -- the text is read back, into any bitmap, where the store has the m words that its members need at least: the same members, in those words
 abbrev pub ReadsBack : Type 0
 ReadsBack =
-    (ws : List ℕ) (n i : ℕ) (out out' : List ℕ) (a : Number) → length ws ≤ mostWords → n ≤ length ws → view ws n .members i ≡ true
-    → Prints ws n out a out' → numberNumber a ≡ 0
-    → (us us' : List ℕ) (b : Bitmap) (r : Change) (m : ℕ) → length us ≤ mostWords → b .count ≤ length us → LeastCount (view ws n .members) n m → m ≤ length us
-    → Changes (readingList (take (numberValue a) out')) us b r us'
-    → (changeNumber r ≡ 0) × (changeRecord r .count ≡ m) × ((j : ℕ) → view us' m .members j ≡ view ws n .members j)
+    (ws : List ℕ) (b : Bitmap) (i : ℕ) (out out' : List ℕ) (a : Number) → Passed ws b → held ws b .members i ≡ true
+    → Prints ws b out a out' → numberNumber a ≡ 0
+    → (us us' : List ℕ) (o : Bitmap) (r : Change) (m : ℕ) → Passed us o → LeastCount (held ws b .members) (b .count) m → m ≤ length us
+    → Changes (readingList (take (numberValue a) out')) us o r us'
+    → (changeNumber r ≡ 0) × (changeRecord r .count ≡ m) × ((j : ℕ) → view us' m .members j ≡ held ws b .members j)

@@ -7,6 +7,7 @@ use lib.Dec.{ltb, leb, eqb}
 use lib.ListN.{length, drop}
 use Rattle.word.specs.Sets.{choose}
 use Rattle.storage.specs.Stores.{Bits, reading}
+use Rattle.storage.specs.declared.Bitmap.{Bitmap}
 use Rattle.storage.specs.declared.Refusal.the-variants.{NoSpace}
 use Rattle.storage.specs.declared.Number.{Number}
 use Rattle.storage.specs.declared.Number.the-variants.{Is, Refused}
@@ -74,7 +75,7 @@ fitted t out = choose (leb (length t) (length out)) (Is (length t)) (Refused NoS
 abbrev pub replaced : List ℕ → List ℕ → List ℕ
 replaced t out = choose (leb (length t) (length out)) (t ++ drop (length t) out) out
 
--- a call on the first n words of ws answers r, and makes out' of the buffer out
-pub record Prints (ws : List ℕ) (n : ℕ) (out : List ℕ) (r : Number) (out' : List ℕ) : Type 0 where
-  pub answers : r ≡ reading ws n Number.Refused (λ s. fitted (textOf s) out)
-  pub leaves : out' ≡ reading ws n (λ e. out) (λ s. replaced (textOf s) out)
+-- a call on the bitmap b in ws answers r, and makes out' of the buffer out
+pub record Prints (ws : List ℕ) (b : Bitmap) (out : List ℕ) (r : Number) (out' : List ℕ) : Type 0 where
+  pub answers : r ≡ reading ws b Number.Refused (λ s. fitted (textOf s) out)
+  pub leaves : out' ≡ reading ws b (λ e. out) (λ s. replaced (textOf s) out)

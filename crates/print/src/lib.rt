@@ -11,8 +11,8 @@ ghost use mathlib.Core.Path.{_≡_};
 ghost use Prim.Native.Nat.{_+_, _*_, _≤_};
 ghost use mathlib.Core.List.{_++_};
 ghost use lib.ListN.{length};
-ghost use Rattle.storage.specs.Stores.{view};
-ghost use Rattle.storage.specs.Stores as stores;
+ghost use Rattle.storage.specs.Stores.{held};
+ghost use Rattle.storage.specs.Guards.{Passed};
 ghost use Rattle.text.specs.Lists.{limit, range};
 ghost use Rattle.print.specs.Texts.{decimal, printed, textOf, Prints};
 ghost use Rattle.print.specs.Kernels.{NextRun, gap, putAt, Puts};
@@ -27,8 +27,8 @@ struct Run {
 
 // The next run from i on; an empty one at the length where there is none.
 fn next_run(words: &[u64], b: Bitmap, i: usize) -> Run
-    requires { ⌜ (length (now words) ≤ stores.limit) × (b .count ≤ length (now words)) × (i ≤ 64 * b .count) ⌝ }
-    ensures { λ r. ⌜ NextRun (view (now (words .entry)) (b .count) .members) (64 * b .count) i r ⌝ }
+    requires { ⌜ Passed (now words) b × (i ≤ 64 * b .count) ⌝ }
+    ensures { λ r. ⌜ NextRun (held (now (words .entry)) b .members) (64 * b .count) i r ⌝ }
 {
     let end = 64 * b.count;
     let none = Run { low: end, end: end };
@@ -96,8 +96,8 @@ fn run_len(a: usize, b: usize) -> usize
 
 // The length of a bitmap's text.
 fn text_len(words: &[u64], b: Bitmap) -> usize
-    requires { ⌜ (length (now words) ≤ stores.limit) × (b .count ≤ length (now words)) ⌝ }
-    ensures { λ r. ⌜ r ≡ length (textOf (view (now (words .entry)) (b .count))) ⌝ }
+    requires { ⌜ Passed (now words) b ⌝ }
+    ensures { λ r. ⌜ r ≡ length (textOf (held (now (words .entry)) b)) ⌝ }
 {
     let mut at = 0;
     let mut run = next_run(words, b, 0);
@@ -158,8 +158,8 @@ fn put_run(out: &mut [u8], at: usize, a: usize, b: usize) -> usize
 
 // Puts the text of a bitmap.
 fn print(words: &[u64], b: Bitmap, out: &mut [u8])
-    requires { ⌜ (length (now words) ≤ stores.limit) × (b .count ≤ length (now words)) × (length (textOf (view (now words) (b .count))) ≤ length (now out)) ⌝ }
-    ensures { λ r. ⌜ now (out .exit) ≡ putAt 0 (textOf (view (now (words .entry)) (b .count))) (now (out .entry)) ⌝ }
+    requires { ⌜ Passed (now words) b × (length (textOf (held (now words) b)) ≤ length (now out)) ⌝ }
+    ensures { λ r. ⌜ now (out .exit) ≡ putAt 0 (textOf (held (now (words .entry)) b)) (now (out .entry)) ⌝ }
 {
     let mut at = 0;
     let mut run = next_run(words, b, 0);
@@ -171,10 +171,9 @@ fn print(words: &[u64], b: Bitmap, out: &mut [u8])
 
 // Prints the bitmap as a list; the text's length. 6 if the buffer is shorter, before a byte is written; bytes past the text are untouched.
 pub fn write_list(words: &[u64], b: Bitmap, out: &mut [u8]) -> Number
-    ensures { λ r. ⌜ Prints (now (words .entry)) (b .count) (now (out .entry)) r (now (out .exit)) ⌝ }
+    ensures { λ r. ⌜ Prints (now (words .entry)) b (now (out .entry)) r (now (out .exit)) ⌝ }
 {
-    let n = b.count;
-    match storage::check(words.len(), n) {
+    match storage::check(words, b) {
         Guard::Stop(e) => return Number::Refused(e),
         Guard::Pass => {}
     }

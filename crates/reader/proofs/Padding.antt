@@ -4,16 +4,17 @@ use mathlib.Core.Path.{_≡_, sym, _∙_, subst}
 use mathlib.Core.List.{List}
 use native.Mathlib.Omega.{arith}
 use lib.ListN.{length, getD}
-use lib.Seq.{ext-getD}
 use Rattle.word.proofs.Cases.{by-lt}
 use Rattle.word.proofs.Lists.{Fit, past}
-use Rattle.storage.specs.Stores.{Bits, limit, view, written, zeroed}
+use Rattle.storage.specs.Stores.{Bits, noWords, view, written}
+use Rattle.storage.specs.Guards.{Passed}
+use Rattle.storage.proofs.Checks.{passed-as}
 use Rattle.storage.proofs.Views.{view-count, view-in}
-use Rattle.storage.proofs.Stores.{Stored, stored-written, written-stored, length-written, length-zeroed, zeroed-in}
-use Rattle.reader.specs.Kernels.{Padded}
+use Rattle.storage.proofs.Stores.{Stored, stored-written, written-stored, length-written}
+use Rattle.reader.specs.Kernels.{Padded, fresh}
 
 -- it is the store that a reading leaves of any other of its length
-pub padded-written : (res ws : List ℕ) (n : ℕ) → length ws ≡ length res → Fit ws → Padded ws n → ws ≡ written res (length res) (view ws n)
+pub padded-written : (res ws : List ℕ) (n : ℕ) → length ws ≡ length res → Fit ws → Padded ws (fresh n) → ws ≡ written res (length res) (view ws n)
 padded-written res ws n e f p =
     stored-written res (length res) (view ws n) ws
     (record {
@@ -36,18 +37,8 @@ module _ (ws : List ℕ) (n : ℕ) (s : Bits) (h : s .count ≤ length ws) (l : 
       (λ b. subst (λ (x : ℕ). x < 2 ^ 64) (sym (t .dropped k a b)) (omega arith))
       (λ b. subst (λ (x : ℕ). x < 2 ^ 64) (sym (t .kept k a b)) (f k)))
 
-  pub written-padded : length ws ≤ limit → ((k : ℕ) → n ≤ k → getD ws k 0 ≡ 0) → Padded (written ws n s) (s .count)
-  written-padded m z = record {
-    short = omega (arith, length-written ws n s);
-    inside = omega (arith, length-written ws n s);
+  pub written-padded : Passed ws noWords → ((k : ℕ) → n ≤ k → getD ws k 0 ≡ 0) → Padded (written ws n s) (fresh (s .count))
+  written-padded p z = record {
+    passes = passed-as ws (written ws n s) noWords (s .count) (length-written ws n s) h p;
     zeros = λ k a. by-lt k n (λ b. t .dropped k a b) (λ b. t .kept k a b ∙ z k b);
   }
-
--- two stores of one length, every word zeroed
-pub zeroed-same : (a b : List ℕ) → length a ≡ length b → zeroed 0 (length a) a ≡ zeroed 0 (length b) b
-zeroed-same a b e =
-    ext-getD 0 (zeroed 0 (length a) a) (zeroed 0 (length b) b)
-    (length-zeroed 0 (length a) a ∙ e ∙ sym (length-zeroed 0 (length b) b))
-    (λ k l.
-    zeroed-in 0 (length a) a k (omega arith) (omega (arith, length-zeroed 0 (length a) a))
-    ∙ sym (zeroed-in 0 (length b) b k (omega arith) (omega (arith, length-zeroed 0 (length a) a))))

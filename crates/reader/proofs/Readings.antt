@@ -6,13 +6,13 @@ use mathlib.Core.List.{List}
 use mathlib.Core.Logic.{inl}
 use native.Mathlib.Omega.{arith}
 use lib.ListN.{length, getD}
-use lib.Dec.{ltb}
-use borrow.Author.Tests.{le-leb, lt-leb, lt-ltb}
+use borrow.Author.Tests.{le-leb, lt-leb}
 use Rattle.word.specs.Sets.{choose}
-use Rattle.word.specs.Bits.{bit, wordOf}
-use Rattle.word.proofs.Lists.{Fit, past, length-tab, tab-at, tab-is}
+use Rattle.word.specs.Bits.{bit}
+use Rattle.word.proofs.Lists.{Fit, past}
 use Rattle.word.proofs.Sweep.{Swept, sweep-to}
-use Rattle.storage.specs.Stores.{Bits, limit, view, wordAt, written, zeroed}
+use Rattle.storage.specs.Stores.{Bits, noWords, view, written, zeroed}
+use Rattle.storage.specs.Guards.{Passed}
 use Rattle.storage.specs.declared.Refusal.the-variants.{NoSpace, NotSheet}
 use Rattle.storage.proofs.Views.{view-count, view-in, bounded-view}
 use Rattle.storage.proofs.Stores.{stored-written, view-written, length-written, length-zeroed, zeroed-in, zeroed-out}
@@ -21,7 +21,8 @@ use Rattle.sheet.specs.Reader.{Edition, stop, next, Answer, refused, records, c
 use Rattle.sheet.specs.Reads.{editionOf, fitting, went, readAnswer}
 use Rattle.sheet.specs.declared.Edit.{Edit}
 use Rattle.sheet.specs.declared.Reading.{Reading}
-use Rattle.reader.specs.Kernels.{Padded, Came}
+use Rattle.sheet.proofs.Readings.{same-written}
+use Rattle.reader.specs.Kernels.{Padded, fresh, Came}
 use Rattle.reader.proofs.Padding.{written-padded}
 
 -- ---- the old words copied, and zeros past them
@@ -45,16 +46,6 @@ pub loaded : (res old ws ws' : List ℕ) (n k : ℕ) → Swept res (λ k. getD o
     → ws' ≡ written res (length res) (view old n)
 loaded res old ws ws' n k w e f h q =
     q ∙ ap (λ (c : ℕ). zeroed n c ws) (w .long) ∙ cleared res old ws n (sweep-to res (λ k. getD old k 0) 0 k 0 n ws w refl e) f h
-
--- a store that is written whole has nothing of what it held
-pub written-any : (a b : List ℕ) (s : Bits) → length a ≡ length b → written a (length a) s ≡ written b (length b) s
-unfolding written wordAt
-written-any a b s e =
-    tab-is (length b) (wordAt b (length b) s) (written a (length a) s) (length-tab 0 (length a) (wordAt a (length a) s) ∙ e)
-    (λ k l. tab-at (length a) (wordAt a (length a) s) k (omega arith) ∙ zero-in a k (omega arith) ∙ sym (zero-in b k l))
-  where
-    zero-in : (a : List ℕ) (k : ℕ) → k < length a → wordAt a (length a) s k ≡ choose (ltb k (s .count)) (wordOf (s .members) k) 0
-    zero-in a k l = ap (λ (t : Bool). choose (ltb k (s .count)) (wordOf (s .members) k) (choose t 0 (getD a k 0))) (lt-ltb k (length a) l)
 
 -- ---- the head, the copy and the records
 
@@ -84,11 +75,11 @@ module _ (edition : ℕ) (sheet old : List ℕ) (n : ℕ) (res : List ℕ) where
     pub copy-long : length res' ≡ length res
     copy-long = ap length q ∙ length-written res (length res) (view old n)
 
-    pub copy-padded : length res ≤ limit → Padded res' n
-    copy-padded m =
-        subst (λ (x : List ℕ). Padded x n) (sym q)
-        (subst (λ (x : ℕ). Padded (written res (length res) (view old n)) x) (view-count old n)
-        (written-padded res (length res) (view old n) (omega (arith, view-count old n)) (omega arith) m (λ k h. past res k h)))
+    pub copy-padded : Passed res noWords → Padded res' (fresh n)
+    copy-padded p =
+        subst (λ (x : List ℕ). Padded x (fresh n)) (sym q)
+        (subst (λ (x : ℕ). Padded (written res (length res) (view old n)) (fresh x)) (view-count old n)
+        (written-padded res (length res) (view old n) (omega (arith, view-count old n)) (omega arith) p (λ k h. past res k h)))
 
     seen : view res' n ≡ view old n
     seen =
@@ -101,7 +92,7 @@ module _ (edition : ℕ) (sheet old : List ℕ) (n : ℕ) (res : List ℕ) where
     came-copied r x res'' k h = record {
       long = h .long ∙ copy-long;
       answers = h .answers ∙ ap (λ (a : Answer Bits). readAnswer (went a)) same;
-      leaves = λ j s d. h .leaves j s (same ∙ d) ∙ written-any res' res s copy-long;
+      leaves = λ j s d. h .leaves j s (same ∙ d) ∙ same-written s res' res copy-long;
     }
       where
         same : records (editionOf (length res') edition) sheet r 0 4 (view res' n) ≡ whole

@@ -10,12 +10,13 @@ use lib.Dec.{leb, ltb}
 use borrow.Author.Tests.{le-leb, lt-leb, lt-ltb, le-ltb}
 use Rattle.word.specs.Sets.{choose}
 use Rattle.word.proofs.Lists.{Fit}
-use Rattle.storage.specs.Stores.{Bits, refused, done, view, written, answer, store, Leaves}
+use Rattle.storage.specs.Stores.{Bits, refused, done, withCount, view, written, answer, store, Leaves}
 use Rattle.storage.specs.declared.Bitmap.{Bitmap}
 use Rattle.storage.specs.declared.Refusal.{Refusal}
 use Rattle.storage.specs.declared.Refusal.the-variants.{CutRecord, BytesRemain}
 use Rattle.storage.specs.declared.Change.{Change}
 use Rattle.storage.specs.declared.Change.the-variants.{Done, Refused}
+use Rattle.storage.proofs.Checks.{passed-as}
 use Rattle.storage.proofs.Views.{view-count, bounded-view}
 use Rattle.storage.proofs.Stores.{view-written, length-written}
 use Rattle.sheet.specs.Kinds.{sizeIn, ruleOf}
@@ -24,7 +25,7 @@ use Rattle.sheet.specs.Reader.{Edition, Turn, stop, next, Answer, refused, done
 use Rattle.sheet.specs.Reads.{editionOf, went, readAnswer}
 use Rattle.sheet.specs.declared.Edit.{Edit}
 use Rattle.sheet.specs.declared.Reading.the-variants as reading
-use Rattle.reader.specs.Kernels.{Padded, outcomeOf, turned, Came}
+use Rattle.reader.specs.Kernels.{Padded, fresh, outcomeOf, turned, Came}
 use Rattle.sheet.proofs.Turns.{stop-next, next-inj}
 use Rattle.sheet.proofs.Effects.{Kept, step-kept}
 use Rattle.reader.proofs.Padding.{padded-written, written-fit, written-padded}
@@ -59,7 +60,7 @@ any-number edition c k r b = go (r .duty) (asking (sizeIn edition) ruleOf (r .ki
 told-stop : (t : Turn Bits) (ws ws' : List ℕ) (b b' : Bitmap) (e : Refusal) → Leaves (outcomeOf t) ws b (Change.Refused e b') ws' → t ≡ stop e
 unfolding answer
 told-stop (stop x) ws ws' b b' e l = let p : Change.Refused e b' ≡ Change.Refused x b = l .answers in ap stop (cc)
-told-stop (next s) ws ws' b b' e l = let p : Change.Refused e b' ≡ Change.Done (record { count = s .count }) = l .answers in absurd (let z : _≡_ {A = ℕ} 0 1 = cc in omega arith)
+told-stop (next s) ws ws' b b' e l = let p : Change.Refused e b' ≡ Change.Done (withCount b (s .count)) = l .answers in absurd (let z : _≡_ {A = ℕ} 0 1 = cc in omega arith)
 
 record Made (t : Turn Bits) (ws ws' : List ℕ) (b after : Bitmap) (s : Bits) : Type 0 where
   is : t ≡ next s
@@ -70,8 +71,8 @@ told-next : (t : Turn Bits) (ws ws' : List ℕ) (b after : Bitmap) → Leaves (o
 unfolding answer store
 told-next (stop x) ws ws' b after l = let p : Change.Done after ≡ Change.Refused x b = l .answers in absurd (let z : _≡_ {A = ℕ} 0 1 = cc in omega arith)
 told-next (next s) ws ws' b after l =
-    let p : Change.Done after ≡ Change.Done (record { count = s .count }) = l .answers in
-    let q : after ≡ record { count = s .count } = cc in
+    let p : Change.Done after ≡ Change.Done (withCount b (s .count)) = l .answers in
+    let q : after ≡ withCount b (s .count) = cc in
     (s, record { is = refl; count = ap (λ (x : Bitmap). x .count) q; leaves = l .leaves })
 
 -- ---- the loop
@@ -89,10 +90,10 @@ module _ (edition : ℕ) (sheet : List ℕ) (n : ℕ) (ws₀ : List ℕ) (n₀ :
     pub inside : at ≤ length sheet
     pub long : length ws ≡ length ws₀
     pub fit : Fit ws
-    pub padded : Padded ws m
+    pub padded : Padded ws (fresh m)
     pub decides : whole ≡ records E sheet (n - i) i at (view ws m)
 
-  pub begins : 4 ≤ length sheet → Fit ws₀ → Padded ws₀ n₀ → Going ws₀ n₀ 0 4
+  pub begins : 4 ≤ length sheet → Fit ws₀ → Padded ws₀ (fresh n₀) → Going ws₀ n₀ 0 4
   begins l f p = record { bound = omega arith; inside = l; long = refl; fit = f; padded = p; decides = ap (λ (x : ℕ). records E sheet x 0 4 (view ws₀ n₀)) (let e : n ≡ n - 0 = omega arith in e) }
 
   module _ (ws : List ℕ) (m i at : ℕ) (g : Going ws m i at) (more : i < n) where
@@ -126,45 +127,46 @@ module _ (edition : ℕ) (sheet : List ℕ) (n : ℕ) (ws₀ : List ℕ) (n₀ :
           (subst (λ (c : ℕ). Leaves (turned edition (itemAt sheet at) c (view ws m)) ws b r ws') (g .long) h)
 
       pub stops : (r : Change) (ws' : List ℕ) (e : Refusal) (b' : Bitmap) → r ≡ Change.Refused e b'
-          → Leaves (turned edition (itemAt sheet at) (length ws) (view ws m)) ws (record { count = m }) r ws' → whole ≡ refused e (i + 1)
+          → Leaves (turned edition (itemAt sheet at) (length ws) (view ws m)) ws (fresh m) r ws' → whole ≡ refused e (i + 1)
       stops r ws' e b' p h =
           turns
           ∙ ap (then E (records E sheet (n - (i + 1)) (suc i) end) (suc i))
-          (told-stop (act E (suc i) (itemAt sheet at) (view ws m)) ws ws' (record { count = m }) b' e
-          (in-store (record { count = m }) (Change.Refused e b') ws' (subst (λ (x : Change). Leaves (turned edition (itemAt sheet at) (length ws) (view ws m)) ws (record { count = m }) x ws') p h)))
+          (told-stop (act E (suc i) (itemAt sheet at) (view ws m)) ws ws' (fresh m) b' e
+          (in-store (fresh m) (Change.Refused e b') ws' (subst (λ (x : Change). Leaves (turned edition (itemAt sheet at) (length ws) (view ws m)) ws (fresh m) x ws') p h)))
           ∙ ap (refused e) (sym (add-one i))
 
       pub goes-on : (r : Change) (ws' : List ℕ) (after : Bitmap) → r ≡ Change.Done after
-          → Leaves (turned edition (itemAt sheet at) (length ws) (view ws m)) ws (record { count = m }) r ws' → Going ws' (after .count) (i + 1) end
+          → Leaves (turned edition (itemAt sheet at) (length ws) (view ws m)) ws (fresh m) r ws' → Going ws' (after .count) (i + 1) end
       goes-on r ws' after p h = record {
         bound = omega arith;
         inside = l;
         long = long;
-        fit = subst Fit (sym (y .leaves)) (written-fit ws m s room (g .padded .inside) (g .fit));
+        fit = subst Fit (sym (y .leaves)) (written-fit ws m s room (g .padded .passes .inside) (g .fit));
         padded =
-            subst (λ (x : ℕ). Padded ws' x) (sym (y .count))
-            (subst (λ (x : List ℕ). Padded x (s .count)) (sym (y .leaves)) (written-padded ws m s room (g .padded .inside) (g .padded .short) (g .padded .zeros)));
+            subst (λ (x : ℕ). Padded ws' (fresh x)) (sym (y .count))
+            (subst (λ (x : List ℕ). Padded x (fresh (s .count))) (sym (y .leaves))
+            (written-padded ws m s room (g .padded .passes .inside) (passed-as ws ws (fresh m) 0 refl (omega arith) (g .padded .passes)) (g .padded .zeros)));
         decides =
             turns ∙ ap (then E (records E sheet (n - (i + 1)) (suc i) end) (suc i)) (y .is)
             ∙ ap (λ (x : Bits). records E sheet (n - (i + 1)) (suc i) end x) (sym seen)
             ∙ ap (λ (x : ℕ). records E sheet (n - (i + 1)) x end (view ws' (after .count))) (sym (add-one i));
       }
         where
-          found : (s : Bits) × Made (act E (suc i) (itemAt sheet at) (view ws m)) ws ws' (record { count = m }) after s
+          found : (s : Bits) × Made (act E (suc i) (itemAt sheet at) (view ws m)) ws ws' (fresh m) after s
           found =
-              told-next (act E (suc i) (itemAt sheet at) (view ws m)) ws ws' (record { count = m }) after
-              (in-store (record { count = m }) (Change.Done after) ws' (subst (λ (x : Change). Leaves (turned edition (itemAt sheet at) (length ws) (view ws m)) ws (record { count = m }) x ws') p h))
+              told-next (act E (suc i) (itemAt sheet at) (view ws m)) ws ws' (fresh m) after
+              (in-store (fresh m) (Change.Done after) ws' (subst (λ (x : Change). Leaves (turned edition (itemAt sheet at) (length ws) (view ws m)) ws (fresh m) x ws') p h))
 
           s : Bits
           s = found .0
 
-          y : Made (act E (suc i) (itemAt sheet at) (view ws m)) ws ws' (record { count = m }) after s
+          y : Made (act E (suc i) (itemAt sheet at) (view ws m)) ws ws' (fresh m) after s
           y = found .1
 
           kept : Kept (length ws₀) s
           kept =
               act-kept edition (length ws₀) (suc i) (view ws m) s
-              (record { bounded = bounded-view ws m; space = omega (arith, view-count ws m, g .padded .inside, g .long) }) (itemAt sheet at) (y .is)
+              (record { bounded = bounded-view ws m; space = omega (arith, view-count ws m, g .padded .passes .inside, g .long) }) (itemAt sheet at) (y .is)
 
           room : s .count ≤ length ws
           room = omega (arith, kept .space, g .long)
@@ -173,7 +175,7 @@ module _ (edition : ℕ) (sheet : List ℕ) (n : ℕ) (ws₀ : List ℕ) (n₀ :
           long = ap length (y .leaves) ∙ length-written ws m s ∙ g .long
 
           seen : view ws' (after .count) ≡ s
-          seen = ap (view ws') (y .count) ∙ ap (λ (x : List ℕ). view x (s .count)) (y .leaves) ∙ view-written ws m s room (g .padded .inside) (kept .bounded)
+          seen = ap (view ws') (y .count) ∙ ap (λ (x : List ℕ). view x (s .count)) (y .leaves) ∙ view-written ws m s room (g .padded .passes .inside) (kept .bounded)
 
   module _ (ws : List ℕ) (m i at : ℕ) (g : Going ws m i at) (over : n ≤ i) where
     last : whole ≡ choose (ltb at (length sheet)) (refused BytesRemain i) (Answer.done i (view ws m))
@@ -195,8 +197,8 @@ came-refused a res res' e k l q = record {
   leaves = λ k' s p. let r : refused e k ≡ Answer.done k' s = sym q ∙ p in absurd (let z : _≡_ {A = ℕ} 0 1 = cc in omega arith);
 }
 
-pub came-done : (a : Answer Bits) (res ws : List ℕ) (k m : ℕ) → length ws ≡ length res → Fit ws → Padded ws m → a ≡ Answer.done k (view ws m)
-    → Came a res (reading.Done k (record { count = m })) ws
+pub came-done : (a : Answer Bits) (res ws : List ℕ) (k m : ℕ) → length ws ≡ length res → Fit ws → Padded ws (fresh m) → a ≡ Answer.done k (view ws m)
+    → Came a res (reading.Done k (fresh m)) ws
 unfolding view
 came-done a res ws k m l f p q = record {
   long = l;

@@ -8,7 +8,7 @@ use lib.ListN.{length, getD, take, drop}
 use borrow.Author.Tests.{le-leb, lt-leb}
 use Rattle.word.specs.Sets.{choose}
 use Rattle.word.proofs.Lists.{Fit}
-use Rattle.storage.specs.Stores.{Bits, Outcome, refused, done, view, answer, store, Leaves, outcome, Changes}
+use Rattle.storage.specs.Stores.{Bits, Outcome, refused, done, spaceOf, view, held, answer, store, Leaves, outcome, Changes}
 use Rattle.storage.specs.declared.Bitmap.{Bitmap}
 use Rattle.storage.specs.declared.Refusal.{Refusal}
 use Rattle.storage.specs.declared.Change.{Change}
@@ -51,33 +51,33 @@ module _ (edition kind : ℕ) (payload : List ℕ) (c : ℕ) (b : Bits) where
 
 module _ (edition kind : ℕ) (payload ws : List ℕ) (b : Bitmap) where
   pub duty-refused : (e : Refusal) → Asked.Refused e ≡ askedFor edition kind payload
-      → Leaves (turned edition (dutyItem kind payload) (length ws) (view ws (b .count))) ws b (Change.Refused e b) ws
-  duty-refused e q = leaves-refused (duty-comes edition kind payload (length ws) (view ws (b .count)) ∙ ap (comes (length ws) (view ws (b .count))) (sym q))
+      → Leaves (turned edition (dutyItem kind payload) (spaceOf ws) (held ws b)) ws b (Change.Refused e b) ws
+  duty-refused e q = leaves-refused (duty-comes edition kind payload (spaceOf ws) (held ws b) ∙ ap (comes (spaceOf ws) (held ws b)) (sym q))
 
   -- what its step does
-  pub duty-does : (e : Edit) → For e ≡ askedFor edition kind payload → Padded ws (b .count) → (r : Change) (ws' : List ℕ) → Changes (step e) ws b r ws'
-      → Leaves (turned edition (dutyItem kind payload) (length ws) (view ws (b .count))) ws b r ws'
+  pub duty-does : (e : Edit) → For e ≡ askedFor edition kind payload → Padded ws b → (r : Change) (ws' : List ℕ) → Changes (step e) ws b r ws'
+      → Leaves (turned edition (dutyItem kind payload) (spaceOf ws) (held ws b)) ws b r ws'
   duty-does e q p r ws' h = subst (λ (o : Outcome). Leaves o ws b r ws') (sym asked-step) h
     where
-      asked-step : turned edition (dutyItem kind payload) (length ws) (view ws (b .count)) ≡ outcome (step e) ws (b .count)
+      asked-step : turned edition (dutyItem kind payload) (spaceOf ws) (held ws b) ≡ outcome (step e) ws b
       asked-step =
-          duty-comes edition kind payload (length ws) (view ws (b .count)) ∙ ap (comes (length ws) (view ws (b .count))) (sym q)
-          ∙ sym (outcome-ok (step e) ws b (record { short = p .short; inside = p .inside }))
+          duty-comes edition kind payload (spaceOf ws) (held ws b) ∙ ap (comes (spaceOf ws) (held ws b)) (sym q)
+          ∙ sym (outcome-ok (step e) ws b (p .passes))
 
 -- ---- the record at a position
 
 module _ (edition : ℕ) (sheet : List ℕ) (at first : ℕ) (e : first ≡ getD sheet at 0) where
   pub remark : (ws : List ℕ) (b : Bitmap) → Fit ws → first < 128
-      → Leaves (turned edition (itemAt sheet at) (length ws) (view ws (b .count))) ws b (Done b) ws
+      → Leaves (turned edition (itemAt sheet at) (spaceOf ws) (held ws b)) ws b (Done b) ws
   unfolding turned answer store view
   remark ws b f l = subst (λ (o : Outcome). Leaves o ws b (Done b) ws) (sym same) (record { answers = refl; leaves = written-view ws (b .count) f })
     where
       asks : Turn Edit
       asks = asking (sizeIn edition) ruleOf (itemAt sheet at .kind) (itemAt sheet at .payload)
 
-      same : turned edition (itemAt sheet at) (length ws) (view ws (b .count)) ≡ done (view ws (b .count))
+      same : turned edition (itemAt sheet at) (spaceOf ws) (held ws b) ≡ done (held ws b)
       same =
-          ap (λ (t : Bool). outcomeOf (choose t (taken (editionOf (length ws) edition) 0 (view ws (b .count)) asks) (next (view ws (b .count)))))
+          ap (λ (t : Bool). outcomeOf (choose t (taken (editionOf (length ws) edition) 0 (held ws b) asks) (next (held ws b))))
           (lt-leb 128 (getD sheet at 0) (omega arith))
 
   pub on-duty : (end : ℕ) → end ≡ endAt sheet at → 128 ≤ first → itemAt sheet at ≡ dutyItem (first % 128) (take (end - (at + 3)) (drop (at + 3) sheet))
@@ -89,7 +89,7 @@ module _ (edition : ℕ) (sheet : List ℕ) (at first : ℕ) (e : first ≡ getD
       }
 
   pub acts : (end : ℕ) (ws ws' : List ℕ) (b : Bitmap) (r : Change) → end ≡ endAt sheet at → 128 ≤ first
-      → Leaves (turned edition (dutyItem (first % 128) (take (end - (at + 3)) (drop (at + 3) sheet))) (length ws) (view ws (b .count))) ws b r ws'
-      → Leaves (turned edition (itemAt sheet at) (length ws) (view ws (b .count))) ws b r ws'
+      → Leaves (turned edition (dutyItem (first % 128) (take (end - (at + 3)) (drop (at + 3) sheet))) (spaceOf ws) (held ws b)) ws b r ws'
+      → Leaves (turned edition (itemAt sheet at) (spaceOf ws) (held ws b)) ws b r ws'
   acts end ws ws' b r q l h =
-      subst (λ (x : Item). Leaves (turned edition x (length ws) (view ws (b .count))) ws b r ws') (sym (on-duty end q l)) h
+      subst (λ (x : Item). Leaves (turned edition x (spaceOf ws) (held ws b)) ws b r ws') (sym (on-duty end q l)) h

@@ -4,17 +4,22 @@ use mathlib.Core.Path.{_≡_}
 use mathlib.Core.Bool.{true}
 use mathlib.Core.List.{List}
 use lib.ListN.{length, getD}
-use Rattle.storage.specs.Stores.{Bits, Outcome, refused, done, limit, written}
+use Rattle.storage.specs.Stores.{Bits, Outcome, refused, done, Space, noWords, withCount, written}
+use Rattle.storage.specs.Guards.{Passed}
+use Rattle.storage.specs.declared.Bitmap.{Bitmap}
 use Rattle.sheet.specs.Frames.{Item}
 use Rattle.sheet.specs.Reader.{Turn, stop, next, Answer, done, act}
 use Rattle.sheet.specs.Reads.{editionOf, went, readAnswer}
 use Rattle.sheet.specs.declared.Reading.{Reading}
 
--- a store and its count that pass 1 and 2, every word past the count zero
-pub record Padded (ws : List ℕ) (n : ℕ) : Type 0 where
-  pub short : length ws ≤ limit
-  pub inside : n ≤ length ws
-  pub zeros : (k : ℕ) → n ≤ k → getD ws k 0 ≡ 0
+-- a store and its record that pass 1 and 2, every word past the count zero
+pub record Padded (ws : List ℕ) (b : Bitmap) : Type 0 where
+  pub passes : Passed ws b
+  pub zeros : (k : ℕ) → b .count ≤ k → getD ws k 0 ≡ 0
+
+-- the record of the first n words of the result store, which has no earlier one
+abbrev pub fresh : ℕ → Bitmap
+fresh n = withCount noWords n
 
 -- what a record comes to, as an operation does
 abbrev pub outcomeOf : Turn Bits → Outcome
@@ -25,8 +30,8 @@ outcomeOf (next s) = Outcome.done s
 abbrev pub dutyItem : ℕ → List ℕ → Item
 dutyItem kind payload = record { duty = true; kind = kind; payload = payload }
 
--- a record in an edition, on a bitmap in a store of c words; the table's steps go by the edit alone, so any number of a record serves
-unfoldable pub turned : ℕ → Item → ℕ → Bits → Outcome
+-- a record in an edition, on a bitmap in the space c; the table's steps go by the edit alone, so any number of a record serves
+unfoldable pub turned : ℕ → Item → Space → Bits → Outcome
 unfolding act editionOf
 turned edition item c b = outcomeOf (act (editionOf c edition) 0 item b)
 

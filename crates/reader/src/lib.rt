@@ -5,16 +5,18 @@ use sheet::LATEST;
 use sheet::Reading;
 use storage::Bitmap;
 use storage::Change;
+use storage::EMPTY;
 use storage::Guard;
 use storage::Refusal;
 ghost use mathlib.Core.Path.{_≡_};
 ghost use Prim.Native.Nat.{_≤_};
 ghost use lib.ListN.{length};
-ghost use Rattle.storage.specs.Stores.{limit, view, written, Leaves, Changes};
+ghost use Rattle.storage.specs.Stores.{noWords, spaceOf, view, held, written, Leaves, Changes};
+ghost use Rattle.storage.specs.Guards.{Passed};
 ghost use Rattle.sheet.specs.Frames.{endAt, itemAt};
 ghost use Rattle.sheet.specs.Reader.{records, read};
 ghost use Rattle.sheet.specs.Reads.{step, editionOf, fitting, Reads};
-ghost use Rattle.reader.specs.Kernels.{Padded, dutyItem, turned, Came};
+ghost use Rattle.reader.specs.Kernels.{Padded, fresh, dutyItem, turned, Came};
 
 // What an edit does to a bitmap.
 fn apply(words: &mut [u64], b: Bitmap, e: Edit) -> Change
@@ -47,8 +49,9 @@ fn apply(words: &mut [u64], b: Bitmap, e: Edit) -> Change
 
 // A duty record: 13, 12, or what its step is refused with.
 fn perform(edition: usize, kind: usize, payload: &[u8], words: &mut [u64], b: Bitmap) -> Change
-    requires { ⌜ Padded (now words) (b .count) ⌝ }
-    ensures { λ r. ⌜ Leaves (turned edition (dutyItem kind (now (payload .entry))) (length (now (words .entry))) (view (now (words .entry)) (b .count))) (now (words .entry)) b r (now (words .exit)) ⌝ }
+    requires { ⌜ Padded (now words) b ⌝ }
+    ensures { λ r. ⌜ Leaves (turned edition (dutyItem kind (now (payload .entry))) (spaceOf (now (words .entry)))
+        (held (now (words .entry)) b)) (now (words .entry)) b r (now (words .exit)) ⌝ }
 {
     match decode::edit_of(edition, kind, payload) {
         Asked::Refused(why) => Change::Refused(why, b),
@@ -58,8 +61,9 @@ fn perform(edition: usize, kind: usize, payload: &[u8], words: &mut [u64], b: Bi
 
 // The record at a place, its frame whole: a remark does nothing.
 fn turn(edition: usize, sheet: &[u8], at: usize, end: usize, words: &mut [u64], b: Bitmap) -> Change
-    requires { ⌜ (end ≡ endAt (now sheet) at) × (end ≤ length (now sheet)) × Padded (now words) (b .count) ⌝ }
-    ensures { λ r. ⌜ Leaves (turned edition (itemAt (now (sheet .entry)) at) (length (now (words .entry))) (view (now (words .entry)) (b .count))) (now (words .entry)) b r (now (words .exit)) ⌝ }
+    requires { ⌜ (end ≡ endAt (now sheet) at) × (end ≤ length (now sheet)) × Padded (now words) b ⌝ }
+    ensures { λ r. ⌜ Leaves (turned edition (itemAt (now (sheet .entry)) at) (spaceOf (now (words .entry)))
+        (held (now (words .entry)) b)) (now (words .entry)) b r (now (words .exit)) ⌝ }
 {
     let first = sheet[at] as usize;
     if first < 128 {
@@ -69,11 +73,12 @@ fn turn(edition: usize, sheet: &[u8], at: usize, end: usize, words: &mut [u64], 
 }
 
 // The n records from the fifth byte on. Where one is refused the store is left as it is then.
-fn each_record(edition: usize, sheet: &[u8], n: usize, words: &mut [u64], b: Bitmap) -> Reading
-    requires { ⌜ (4 ≤ length (now sheet)) × Padded (now words) (b .count) ⌝ }
-    ensures { λ r. ⌜ Came (records (editionOf (length (now (words .entry))) edition) (now (sheet .entry)) n 0 4 (view (now (words .entry)) (b .count))) (now (words .entry)) r (now (words .exit)) ⌝ }
+fn each_record(edition: usize, sheet: &[u8], n: usize, words: &mut [u64], old: usize) -> Reading
+    requires { ⌜ (4 ≤ length (now sheet)) × Padded (now words) (fresh old) ⌝ }
+    ensures { λ r. ⌜ Came (records (editionOf (spaceOf (now (words .entry))) edition) (now (sheet .entry)) n 0 4
+        (view (now (words .entry)) old)) (now (words .entry)) r (now (words .exit)) ⌝ }
 {
-    let mut count = b.count;
+    let mut count = old;
     let mut i: usize = 0;
     let mut at: usize = 4;
     while i < n {
@@ -81,7 +86,7 @@ fn each_record(edition: usize, sheet: &[u8], n: usize, words: &mut [u64], b: Bit
         if end == 0 {
             return Reading::Refused(Refusal::CutRecord, i + 1);
         }
-        match turn(edition, sheet, at, end, words, Bitmap { count: count }) {
+        match turn(edition, sheet, at, end, words, Bitmap { count, ..EMPTY }) {
             Change::Refused(why, _) => return Reading::Refused(why, i + 1),
             Change::Done(after) => {
                 count = after.count;
@@ -93,7 +98,7 @@ fn each_record(edition: usize, sheet: &[u8], n: usize, words: &mut [u64], b: Bit
     if at < sheet.len() {
         return Reading::Refused(Refusal::BytesRemain, i);
     }
-    Reading::Done(i, Bitmap { count: count })
+    Reading::Done(i, Bitmap { count, ..EMPTY })
 }
 
 // The old words, and zeros past them.
@@ -111,10 +116,12 @@ fn load(result: &mut [u64], words: &[u64], n: usize)
 }
 
 // 9, then 6 where the old bitmap has no space, then the records. A refusal leaves the store as it is then.
-fn read_into(edition: usize, sheet: &[u8], words: &[u64], n: usize, result: &mut [u64]) -> Reading
-    requires { ⌜ (n ≤ length (now words)) × (length (now result) ≤ limit) ⌝ }
-    ensures { λ r. ⌜ Came (read (editionOf (length (now (result .entry))) edition) (now (sheet .entry)) (fitting (length (now (result .entry))) (view (now (words .entry)) n))) (now (result .entry)) r (now (result .exit)) ⌝ }
+fn read_into(edition: usize, sheet: &[u8], words: &[u64], b: Bitmap, result: &mut [u64]) -> Reading
+    requires { ⌜ Passed (now words) b × Passed (now result) noWords ⌝ }
+    ensures { λ r. ⌜ Came (read (editionOf (spaceOf (now (result .entry))) edition) (now (sheet .entry))
+        (fitting (spaceOf (now (result .entry))) (held (now (words .entry)) b))) (now (result .entry)) r (now (result .exit)) ⌝ }
 {
+    let n = b.count;
     if !frames::has_head(sheet) {
         return Reading::Refused(Refusal::NotSheet, 0);
     }
@@ -123,13 +130,13 @@ fn read_into(edition: usize, sheet: &[u8], words: &[u64], n: usize, result: &mut
     }
     load(result, words, n);
     let count = frames::record_count(sheet);
-    each_record(edition, sheet, count, result, Bitmap { count: n })
+    each_record(edition, sheet, count, result, n)
 }
 
 // Reads a sheet in an edition: the old bitmap, changed by each duty record in order, into the result store, with zeros past its words.
 // 14, then 1 and 2 for the old store and 1 for the result store, touch nothing; any later refusal leaves the result store all zero.
 pub fn read(edition: usize, sheet: &[u8], words: &[u64], b: Bitmap, result: &mut [u64]) -> Reading
-    ensures { λ r. ⌜ Reads edition (now (sheet .entry)) (now (words .entry)) (b .count) (now (result .entry)) r (now (result .exit)) ⌝ }
+    ensures { λ r. ⌜ Reads edition (now (sheet .entry)) (now (words .entry)) b (now (result .entry)) r (now (result .exit)) ⌝ }
 {
     if edition < 1 {
         return Reading::Refused(Refusal::NoEdition, 0);
@@ -137,16 +144,12 @@ pub fn read(edition: usize, sheet: &[u8], words: &[u64], b: Bitmap, result: &mut
     if edition > LATEST {
         return Reading::Refused(Refusal::NoEdition, 0);
     }
-    match storage::check(words.len(), b.count) {
+    match storage::check_two(words, b, result, EMPTY) {
         Guard::Stop(e) => return Reading::Refused(e, 0),
         Guard::Pass => {}
     }
     let end = result.len();
-    match storage::check(end, 0) {
-        Guard::Stop(e) => return Reading::Refused(e, 0),
-        Guard::Pass => {}
-    }
-    match read_into(edition, sheet, words, b.count, result) {
+    match read_into(edition, sheet, words, b, result) {
         Reading::Done(n, after) => Reading::Done(n, after),
         Reading::Refused(why, k) => {
             storage::grow(result, 0, end);

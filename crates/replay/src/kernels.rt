@@ -1,4 +1,6 @@
 // The calls of word and arch, and storage's own: kinds 0 to 2.
+use storage::Bitmap;
+use storage::EMPTY;
 use told::Told;
 use word::Word;
 
@@ -34,10 +36,19 @@ pub(crate) fn scan(op: u64, words: &[u64]) -> Told {
     }
 }
 
+// The guard of a store of x words and a count; an answer that no line has where x is more than the list may ask for.
+fn guard(x: usize, y: usize) -> Told {
+    if x > 1000 {
+        return told::changed();
+    }
+    let store = [0u64; 1000];
+    told::guard(storage::check(&store[..x], Bitmap { count: y, ..EMPTY }))
+}
+
 pub(crate) fn kernel(op: u64, words: &mut [u64], x: usize, y: usize, z: u64) -> Told {
     match op {
         0x22 => told::size(arch::select::select_u64(z, x)),
-        0x24 => told::guard(storage::check(x, y)),
+        0x24 => guard(x, y),
         0x20 => {
             arch::fill_region(words, x, y, z != 0);
             told::changed()

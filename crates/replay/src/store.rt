@@ -3,6 +3,7 @@
 // A line's numbers: 0 the call, 1 the seed of the pattern, 2 to 4 the arguments x, y and z, 5 to 8 the answer, 9 to 14 capacity and word count of the
 // stores 0, 1 and 2, 15 and 16 the lengths of the result and of the list; then the words of each store, the result's words and the list.
 use storage::Bitmap;
+use storage::EMPTY;
 use word::Word;
 ghost use Prim.Native.Nat.{_≤_};
 
@@ -29,6 +30,7 @@ fn plus(a: usize, b: usize) -> usize {
 pub(crate) fn bitmap_at(line: &[u64; 1024], i: usize) -> Bitmap {
     Bitmap {
         count: at(line, i) as usize,
+        ..EMPTY
     }
 }
 

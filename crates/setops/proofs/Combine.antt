@@ -17,13 +17,14 @@ use Rattle.word.proofs.Sweep.{Swept}
 use Rattle.arch.specs.Scans.{filledWords, nonzeroLen}
 use Rattle.arch.proofs.Scans.{nonzero-le}
 use Rattle.arch.proofs.Regions.{length-filled-words, filled-in, filled-below, filled-above}
-use Rattle.storage.specs.Stores.{Bits, view, beside, trimmedCount, trimmed, combined, andNot, zeroed, Changes}
+use Rattle.storage.specs.Stores.{Bits, withCount, view, beside, trimmedCount, trimmed, combined, andNot, zeroed, Changes}
+use Rattle.storage.specs.Guards.{Passed}
 use Rattle.storage.specs.Kernels.{wordAndNot}
 use Rattle.storage.specs.declared.Bitmap.{Bitmap}
 use Rattle.storage.specs.declared.Refusal.the-variants.{NoSpace}
 use Rattle.storage.specs.declared.Change.the-variants.{Done, Refused}
 use Rattle.storage.proofs.Operations.{WordOp, word-and, word-or, word-xor, word-andnot}
-use Rattle.storage.proofs.Checks.{Passed, beside-ok, within-ok, within-no}
+use Rattle.storage.proofs.Checks.{beside-ok, within-ok, within-no}
 use Rattle.storage.proofs.Views.{view-count, view-in, view-out}
 use Rattle.storage.proofs.Stores.{changes-done, changes-refused, length-zeroed, zeroed-in, zeroed-out, zeroed-fit, grown-bit}
 use Rattle.storage.proofs.Trims.{trimmed-holds, trimmed-least, trimmed-view, trimmed-length, trimmed-stored, front-none, front-last, front-zero}
@@ -32,27 +33,27 @@ use Rattle.setops.specs.Kernels.{Zipped}
 
 -- ---- the call with a second bitmap, done: the store afterwards holds the combined set in its first u words
 
-module _ (f : Bool → Bool → Bool) (ws os ws' : List ℕ) (b : Bitmap) (m : ℕ) (p : Passed (length ws) (b .count)) (q : Passed (length os) m) where
+module _ (f : Bool → Bool → Bool) (ws os ws' : List ℕ) (b o : Bitmap) (p : Passed ws b) (q : Passed os o) where
   set : Bits
-  set = combined f (view ws (b .count)) (view os m)
+  set = combined f (view ws (b .count)) (view os (o .count))
 
-  set-count : combined f (view ws (b .count)) (view os m) .count ≡ max (b .count) m
+  set-count : combined f (view ws (b .count)) (view os (o .count)) .count ≡ max (b .count) (o .count)
   unfolding combined
-  set-count = ap₂ max (view-count ws (b .count)) (view-count os m)
+  set-count = ap₂ max (view-count ws (b .count)) (view-count os (o .count))
 
-  pub combined-at : (i : ℕ) → combined f (view ws (b .count)) (view os m) .members i ≡ f (view ws (b .count) .members i) (view os m .members i)
+  pub combined-at : (i : ℕ) → combined f (view ws (b .count)) (view os (o .count)) .members i ≡ f (view ws (b .count) .members i) (view os (o .count) .members i)
   unfolding combined
   combined-at i = refl
 
-  pub combine-changes : (u r : ℕ) → Fit ws' → length ws' ≡ length ws → b .count ≤ u → u ≤ length ws → u ≤ max (b .count) m
-      → ((k j : ℕ) → k < u → j < 64 → bit (getD ws' k 0) j ≡ f (view ws (b .count) .members (64 * k + j)) (view os m .members (64 * k + j)))
-      → ((i : ℕ) → 64 * u ≤ i → f (view ws (b .count) .members i) (view os m .members i) ≡ false)
+  pub combine-changes : (u r : ℕ) → Fit ws' → length ws' ≡ length ws → b .count ≤ u → u ≤ length ws → u ≤ max (b .count) (o .count)
+      → ((k j : ℕ) → k < u → j < 64 → bit (getD ws' k 0) j ≡ f (view ws (b .count) .members (64 * k + j)) (view os (o .count) .members (64 * k + j)))
+      → ((i : ℕ) → 64 * u ≤ i → f (view ws (b .count) .members i) (view os (o .count) .members i) ≡ false)
       → r ≡ nonzeroLen (take u ws') → ((k : ℕ) → nonzeroLen (take u ws') ≤ k → b .count ≤ k → getD ws' k 0 ≡ getD ws k 0)
-      → Changes (beside os m (combining f)) ws b (Done (record { count = r })) ws'
+      → Changes (beside os o (combining f)) ws b (Done (withCount b r)) ws'
   unfolding combining set
   combine-changes u r fit e l h low bits none er keep =
-      changes-done (beside os m (combining f)) ws b ws' (trimmed set) r p
-      (beside-ok os m (combining f) (length ws) (view ws (b .count)) q ∙ within-ok (length ws) (trimmed set) (room count))
+      changes-done (beside os o (combining f)) ws b ws' (trimmed set) r p
+      (beside-ok os o (combining f) (length ws) (view ws (b .count)) q ∙ within-ok (length ws) (trimmed set) (room count))
       (trimmed-stored ws' u set fit (omega arith) (omega (arith, set-count)) (λ k j a c. bits k j a c ∙ sym (combined-at (64 * k + j))) (λ i a c. combined-at i ∙ none i a)
       ws (b .count) l e keep)
       (er ∙ count)
@@ -95,7 +96,10 @@ filled-fit a e ws f k =
     (λ h. subst (λ (x : ℕ). x < 2 ^ 64) (sym (past (filledWords a e 0 ws) k (omega (arith, length-filled-words a e 0 ws)))) (omega arith)))
     (λ q. subst (λ (x : ℕ). x < 2 ^ 64) (sym (filled-above a e 0 ws k q)) (f k)))
 
-module _ (ws os : List ℕ) (b : Bitmap) (m : ℕ) (p : Passed (length ws) (b .count)) (q : Passed (length os) m) (fw : Fit ws) (fo : Fit os) where
+module _ (ws os : List ℕ) (b o : Bitmap) (p : Passed ws b) (q : Passed os o) (fw : Fit ws) (fo : Fit os) where
+  abbrev m : ℕ
+  m = o .count
+
   -- no member of the second past its words
   out : (k j : ℕ) → m ≤ k → j < 64 → view os m .members (64 * k + j) ≡ false
   out k j h l = view-out os m (64 * k + j) (omega arith)
@@ -103,9 +107,9 @@ module _ (ws os : List ℕ) (b : Bitmap) (m : ℕ) (p : Passed (length ws) (b .c
   -- `and`: what only the first has goes
   pub and-changes : (e r : ℕ) (w1 ws' : List ℕ) → e ≡ min (b .count) m → Zipped bitAnd ws os e w1
       → ws' ≡ filledWords e (b .count) 0 w1 → r ≡ nonzeroLen (take (b .count) ws')
-      → Changes (beside os m (combining _&&_)) ws b (Done (record { count = r })) ws'
+      → Changes (beside os o (combining _&&_)) ws b (Done (withCount b r)) ws'
   and-changes e r w1 ws' ee s ew er =
-      combine-changes _&&_ ws os ws' b m p q (b .count) r (subst Fit (sym ew) (filled-fit e (b .count) w1 (op-fit word-and ws os fw fo e w1 s)))
+      combine-changes _&&_ ws os ws' b o p q (b .count) r (subst Fit (sym ew) (filled-fit e (b .count) w1 (op-fit word-and ws os fw fo e w1 s)))
       (ap length ew ∙ length-filled-words e (b .count) 0 w1 ∙ s .long) (omega arith) (p .inside) (omega arith) bits
       (λ i h. ap (λ (t : Bool). t && view os m .members i) (view-out ws (b .count) i h)) er keep
     where
@@ -127,9 +131,9 @@ module _ (ws os : List ℕ) (b : Bitmap) (m : ℕ) (p : Passed (length ws) (b .c
 
   -- `andnot`: what only the first has stays
   pub andnot-changes : (e r : ℕ) (ws' : List ℕ) → e ≡ min (b .count) m → Zipped wordAndNot ws os e ws'
-      → r ≡ nonzeroLen (take (b .count) ws') → Changes (beside os m (combining andNot)) ws b (Done (record { count = r })) ws'
+      → r ≡ nonzeroLen (take (b .count) ws') → Changes (beside os o (combining andNot)) ws b (Done (withCount b r)) ws'
   andnot-changes e r ws' ee s er =
-      combine-changes andNot ws os ws' b m p q (b .count) r (op-fit word-andnot ws os fw fo e ws' s) (s .long) (omega arith) (p .inside) (omega arith) bits
+      combine-changes andNot ws os ws' b o p q (b .count) r (op-fit word-andnot ws os fw fo e ws' s) (s .long) (omega arith) (p .inside) (omega arith) bits
       (λ i h. ap (λ (t : Bool). t && not (view os m .members i)) (view-out ws (b .count) i h)) er (λ k c d. s .above k (omega arith))
     where
       bits : (k j : ℕ) → k < b .count → j < 64 → bit (getD ws' k 0) j ≡ view ws (b .count) .members (64 * k + j) && not (view os m .members (64 * k + j))
@@ -144,11 +148,11 @@ module _ (ws os : List ℕ) (b : Bitmap) (m : ℕ) (p : Passed (length ws) (b .c
 
   -- `or`: grows to the longer, and drops nothing
   pub or-changes : (r : ℕ) (z ws' : List ℕ) → m ≤ length ws → z ≡ zeroed (b .count) m ws → Zipped bitOr z os m ws'
-      → r ≡ max (b .count) m → Changes (beside os m uniting) ws b (Done (record { count = r })) ws'
+      → r ≡ max (b .count) m → Changes (beside os o uniting) ws b (Done (withCount b r)) ws'
   unfolding uniting combined
   or-changes r z ws' h ez s er =
-      changes-done (beside os m uniting) ws b ws' (combined _||_ (view ws (b .count)) (view os m)) r p
-      (beside-ok os m uniting (length ws) (view ws (b .count)) q
+      changes-done (beside os o uniting) ws b ws' (combined _||_ (view ws (b .count)) (view os m)) r p
+      (beside-ok os o uniting (length ws) (view ws (b .count)) q
       ∙ within-ok (length ws) (combined _||_ (view ws (b .count)) (view os m)) (omega (arith, view-count ws (b .count), view-count os m, p .inside)))
       (record {
         long = s .long ∙ ap length ez ∙ length-zeroed (b .count) m ws;
@@ -172,11 +176,11 @@ module _ (ws os : List ℕ) (b : Bitmap) (m : ℕ) (p : Passed (length ws) (b .c
       grown : (k j : ℕ) → (k < b .count) ⊎ (k < m) → j < 64 → bit (getD z k 0) j ≡ view ws (b .count) .members (64 * k + j)
       grown k j c l = ap (λ (y : List ℕ). bit (getD y k 0) j) ez ∙ grown-bit ws (b .count) m k j c l
 
-  pub or-refused : length ws < m → Changes (beside os m uniting) ws b (Refused NoSpace b) ws
+  pub or-refused : length ws < m → Changes (beside os o uniting) ws b (Refused NoSpace b) ws
   unfolding uniting combined
   or-refused h =
-      changes-refused (beside os m uniting) ws b NoSpace p
-      (beside-ok os m uniting (length ws) (view ws (b .count)) q
+      changes-refused (beside os o uniting) ws b NoSpace p
+      (beside-ok os o uniting (length ws) (view ws (b .count)) q
       ∙ within-no (length ws) (combined _||_ (view ws (b .count)) (view os m)) (omega (arith, view-count ws (b .count), view-count os m)))
 
   -- `xor`: grows to the other's last nonzero word, no further
@@ -191,9 +195,9 @@ module _ (ws os : List ℕ) (b : Bitmap) (m : ℕ) (p : Passed (length ws) (b .c
     none-at i h = ap (view os m .members) (sym (at-place i)) ∙ none (i / 64) (i % 64) (omega arith) (omega arith)
 
     pub xor-changes : (r : ℕ) (z ws' : List ℕ) → e ≤ length ws → z ≡ zeroed (b .count) e ws → Zipped bitXor z os e ws'
-        → r ≡ nonzeroLen (take (max (b .count) e) ws') → Changes (beside os m (combining xorb)) ws b (Done (record { count = r })) ws'
+        → r ≡ nonzeroLen (take (max (b .count) e) ws') → Changes (beside os o (combining xorb)) ws b (Done (withCount b r)) ws'
     xor-changes r z ws' h ez s er =
-        combine-changes xorb ws os ws' b m p q (max (b .count) e) r (op-fit word-xor z os fz fo e ws' s) long (omega arith) (omega (arith, p .inside)) (omega (arith, e-le)) bits
+        combine-changes xorb ws os ws' b o p q (max (b .count) e) r (op-fit word-xor z os fz fo e ws' s) long (omega arith) (omega (arith, p .inside)) (omega (arith, e-le)) bits
         (λ i c. ap₂ xorb (view-out ws (b .count) i (omega arith)) (none-at i (omega arith))) er keep
       where
         n : ℕ
@@ -235,11 +239,11 @@ module _ (ws os : List ℕ) (b : Bitmap) (m : ℕ) (p : Passed (length ws) (b .c
                 (sym (top-word t et (omega arith))
                 ∙ front-zero ws' (max (b .count) e) t (omega (arith, long, p .inside)) (omega arith) (omega arith))
 
-    pub xor-refused : length ws < e → Changes (beside os m (combining xorb)) ws b (Refused NoSpace b) ws
+    pub xor-refused : length ws < e → Changes (beside os o (combining xorb)) ws b (Refused NoSpace b) ws
     unfolding combining combined
     xor-refused h =
-        changes-refused (beside os m (combining xorb)) ws b NoSpace p
-        (beside-ok os m (combining xorb) (length ws) (view ws (b .count)) q
+        changes-refused (beside os o (combining xorb)) ws b NoSpace p
+        (beside-ok os o (combining xorb) (length ws) (view ws (b .count)) q
         ∙ within-no (length ws) (trimmed (combined xorb (view ws (b .count)) (view os m))) big)
       where
         s : ℕ → Bool
@@ -249,7 +253,11 @@ module _ (ws os : List ℕ) (b : Bitmap) (m : ℕ) (p : Passed (length ws) (b .c
         cnt = max (view ws (b .count) .count) (view os m .count)
 
         other : trimmedCount (view os m .members) m ≡ e
-        other = trimmed-view os m (q .inside) (λ k. by-lt k m (λ l. subst (λ (x : ℕ). x < 2 ^ 64) (sym (getD-take m os k 0 l)) (fo k)) (λ l. subst (λ (x : ℕ). x < 2 ^ 64) (sym (past (take m os) k (omega (arith, length-take-le m os (q .inside))))) (omega arith))) ∙ sym ee
+        other =
+            trimmed-view os m (q .inside)
+            (λ k. by-lt k m (λ l. subst (λ (x : ℕ). x < 2 ^ 64) (sym (getD-take m os k 0 l)) (fo k))
+            (λ l. subst (λ (x : ℕ). x < 2 ^ 64) (sym (past (take m os) k (omega (arith, length-take-le m os (q .inside))))) (omega arith)))
+            ∙ sym ee
 
         -- were the result to fit, the other's members would all lie within the store
         fits-not : trimmedCount s cnt ≤ length ws → e ≤ length ws

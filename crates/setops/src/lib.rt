@@ -29,15 +29,11 @@ fn and_words(words: &mut [u64], other: &[u64], e: usize)
 
 // The members of both bitmaps, in place; drops trailing zero words.
 pub fn and(words: &mut [u64], b: Bitmap, other: &[u64], o: Bitmap) -> Change
-    ensures { λ r. ⌜ Changes (beside (now (other .entry)) (o .count) (combining _&&_)) (now (words .entry)) b r (now (words .exit)) ⌝ }
+    ensures { λ r. ⌜ Changes (beside (now (other .entry)) o (combining _&&_)) (now (words .entry)) b r (now (words .exit)) ⌝ }
 {
     let n = b.count;
     let m = o.count;
-    match storage::check(words.len(), n) {
-        Guard::Stop(e) => return Change::Refused(e, b),
-        Guard::Pass => {}
-    }
-    match storage::check(other.len(), m) {
+    match storage::check_two(words, b, other, o) {
         Guard::Stop(e) => return Change::Refused(e, b),
         Guard::Pass => {}
     }
@@ -46,6 +42,7 @@ pub fn and(words: &mut [u64], b: Bitmap, other: &[u64], o: Bitmap) -> Change
     arch::fill_words(words, both, n, 0);
     Change::Done(Bitmap {
         count: arch::nonzero_len(&words[..n]),
+        ..b
     })
 }
 
@@ -63,15 +60,11 @@ fn andnot_words(words: &mut [u64], other: &[u64], e: usize)
 
 // The members of the first bitmap that are not in the second, in place; drops trailing zero words.
 pub fn andnot(words: &mut [u64], b: Bitmap, other: &[u64], o: Bitmap) -> Change
-    ensures { λ r. ⌜ Changes (beside (now (other .entry)) (o .count) (combining andNot)) (now (words .entry)) b r (now (words .exit)) ⌝ }
+    ensures { λ r. ⌜ Changes (beside (now (other .entry)) o (combining andNot)) (now (words .entry)) b r (now (words .exit)) ⌝ }
 {
     let n = b.count;
     let m = o.count;
-    match storage::check(words.len(), n) {
-        Guard::Stop(e) => return Change::Refused(e, b),
-        Guard::Pass => {}
-    }
-    match storage::check(other.len(), m) {
+    match storage::check_two(words, b, other, o) {
         Guard::Stop(e) => return Change::Refused(e, b),
         Guard::Pass => {}
     }
@@ -79,6 +72,7 @@ pub fn andnot(words: &mut [u64], b: Bitmap, other: &[u64], o: Bitmap) -> Change
     andnot_words(words, other, both);
     Change::Done(Bitmap {
         count: arch::nonzero_len(&words[..n]),
+        ..b
     })
 }
 
@@ -96,15 +90,11 @@ fn or_words(words: &mut [u64], other: &[u64], e: usize)
 
 // The members of either bitmap, in place; grows to the longer and drops nothing.
 pub fn or(words: &mut [u64], b: Bitmap, other: &[u64], o: Bitmap) -> Change
-    ensures { λ r. ⌜ Changes (beside (now (other .entry)) (o .count) uniting) (now (words .entry)) b r (now (words .exit)) ⌝ }
+    ensures { λ r. ⌜ Changes (beside (now (other .entry)) o uniting) (now (words .entry)) b r (now (words .exit)) ⌝ }
 {
     let n = b.count;
     let m = o.count;
-    match storage::check(words.len(), n) {
-        Guard::Stop(e) => return Change::Refused(e, b),
-        Guard::Pass => {}
-    }
-    match storage::check(other.len(), m) {
+    match storage::check_two(words, b, other, o) {
         Guard::Stop(e) => return Change::Refused(e, b),
         Guard::Pass => {}
     }
@@ -115,6 +105,7 @@ pub fn or(words: &mut [u64], b: Bitmap, other: &[u64], o: Bitmap) -> Change
     or_words(words, other, m);
     Change::Done(Bitmap {
         count: word::max(n, m),
+        ..b
     })
 }
 
@@ -132,15 +123,11 @@ fn xor_words(words: &mut [u64], other: &[u64], e: usize)
 
 // The members of one bitmap only, in place; drops trailing zero words. Zero words at the other's end need no space.
 pub fn xor(words: &mut [u64], b: Bitmap, other: &[u64], o: Bitmap) -> Change
-    ensures { λ r. ⌜ Changes (beside (now (other .entry)) (o .count) (combining xorb)) (now (words .entry)) b r (now (words .exit)) ⌝ }
+    ensures { λ r. ⌜ Changes (beside (now (other .entry)) o (combining xorb)) (now (words .entry)) b r (now (words .exit)) ⌝ }
 {
     let n = b.count;
     let m = o.count;
-    match storage::check(words.len(), n) {
-        Guard::Stop(e) => return Change::Refused(e, b),
-        Guard::Pass => {}
-    }
-    match storage::check(other.len(), m) {
+    match storage::check_two(words, b, other, o) {
         Guard::Stop(e) => return Change::Refused(e, b),
         Guard::Pass => {}
     }
@@ -153,5 +140,6 @@ pub fn xor(words: &mut [u64], b: Bitmap, other: &[u64], o: Bitmap) -> Change
     let used = word::max(n, last);
     Change::Done(Bitmap {
         count: arch::nonzero_len(&words[..used]),
+        ..b
     })
 }

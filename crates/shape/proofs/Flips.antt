@@ -102,7 +102,10 @@ module _ (ws part : List ℕ) (i last x y : ℕ) (f : Fit ws) (il : i ≤ last) 
 
   -- between the edge words the test of the edge is for nothing
   low-only : (k j : ℕ) → i / 64 ≤ k → j < 64 → eqb k (i / 64) && low (64 * k + j) ≡ low (64 * k + j)
-  low-only k j p l = by-eq k (i / 64) (λ e. ap (λ (t : Bool). t && low (64 * k + j)) (eq-eqb k (i / 64) e)) (λ e. ap (λ (t : Bool). t && low (64 * k + j)) (ne-eqb k (i / 64) e) ∙ sym (le-ltb (64 * k + j) i (omega arith)))
+  low-only k j p l =
+      by-eq k (i / 64)
+      (λ e. ap (λ (t : Bool). t && low (64 * k + j)) (eq-eqb k (i / 64) e))
+      (λ e. ap (λ (t : Bool). t && low (64 * k + j)) (ne-eqb k (i / 64) e) ∙ sym (le-ltb (64 * k + j) i (omega arith)))
 
   high-only : (k j : ℕ) → k ≤ last / 64 → j < 64 → eqb k (last / 64) && high (64 * k + j) ≡ high (64 * k + j)
   high-only k j p l =
@@ -130,8 +133,11 @@ module _ (ws part : List ℕ) (i last x y : ℕ) (f : Fit ws) (il : i ≤ last) 
         ∙ ap₂ (λ (t u : Bool). xorb (bit (getD ws k 0) j) (t && u)) (not-lt (64 * k + j) i) (not-not (ltb (64 * k + j) (last + 1))))
         (λ q.
         ap (λ (v : ℕ). bit v j) (sw .above k q) ∙ outside k j l (omega arith) (omega arith)
-        ∙ sym (ap (λ (t : Bool). xorb (bit (getD ws k 0) j) (leb i (64 * k + j) && t)) (le-ltb (64 * k + j) (last + 1) (omega arith)) ∙ ap (xorb (bit (getD ws k 0) j)) (and-false (leb i (64 * k + j))) ∙ xor-false (bit (getD ws k 0) j))));
-    above = λ k q. sw .above k (omega arith) ∙ getD-set-other one (last / 64) k (bitXor (getD one (last / 64) 0) ((2 ^ 64 - 1) - y)) 0 (omega arith) ∙ getD-set-other ws (i / 64) k (bitXor (getD ws (i / 64) 0) x) 0 (omega arith);
+        ∙ sym (ap (λ (t : Bool). xorb (bit (getD ws k 0) j) (leb i (64 * k + j) && t)) (le-ltb (64 * k + j) (last + 1) (omega arith))
+        ∙ ap (xorb (bit (getD ws k 0) j)) (and-false (leb i (64 * k + j))) ∙ xor-false (bit (getD ws k 0) j))));
+    above = λ k q.
+        sw .above k (omega arith) ∙ getD-set-other one (last / 64) k (bitXor (getD one (last / 64) 0) ((2 ^ 64 - 1) - y)) 0 (omega arith)
+        ∙ getD-set-other ws (i / 64) k (bitXor (getD ws (i / 64) 0) x) 0 (omega arith);
   }
     where
       mid : List ℕ

@@ -9,11 +9,12 @@ use borrow.Author.Tests.{le-ltb, lt-ltb, eq-eqb, ne-eqb}
 use Rattle.word.specs.Bits.{member, wordsOf}
 use Rattle.word.proofs.Lists.{Fit}
 use Rattle.arch.specs.Scans.{nonzeroLen}
-use Rattle.storage.specs.Stores.{Bits, refused, done, view, within, wordsFor, trimmed, zeroed, Changes}
+use Rattle.storage.specs.Stores.{Bits, refused, done, Space, withCount, view, held, within, wordsFor, trimmed, zeroed, Changes}
+use Rattle.storage.specs.Guards.{Passed}
 use Rattle.storage.specs.declared.Bitmap.{Bitmap}
 use Rattle.storage.specs.declared.Refusal.the-variants.{IndexOver, NoSpace}
 use Rattle.storage.specs.declared.Change.the-variants.{Done, Refused}
-use Rattle.storage.proofs.Checks.{Passed, within-ok, within-no}
+use Rattle.storage.proofs.Checks.{within-ok, within-no}
 use Rattle.storage.proofs.Views.{view-count, view-whole}
 use Rattle.storage.proofs.Stores.{changes-done, changes-refused, keeps-changes}
 use Rattle.storage.proofs.Grown.{grown-members, grown-part, part-trimmed, part-trimmed-length}
@@ -25,7 +26,7 @@ use Rattle.shape.specs.Shapes.{topOf, raising, lowered, lowering}
 abbrev pub raised : ℕ → Bits → Bits
 raised k b = record { members = movedUp k (b .members); count = max (b .count) (wordsFor (topOf b + k)) }
 
-module _ (k c : ℕ) (b : Bits) where
+module _ (k : ℕ) (c : Space) (b : Bits) where
   pub raise-none : topOf b ≡ 0 → raising k c b ≡ done b
   unfolding raising
   raise-none e = rw (eq-eqb (topOf b) 0 e)
@@ -40,27 +41,27 @@ module _ (k c : ℕ) (b : Bits) where
 
 -- ---- the calls
 
-module _ (ws : List ℕ) (b : Bitmap) (k : ℕ) (f : Fit ws) (p : Passed (length ws) (b .count)) where
-  pub left-nothing : topOf (view ws (b .count)) ≡ 0 → Changes (raising k) ws b (Done b) ws
-  left-nothing e = keeps-changes (raising k) ws b f p (raise-none k (length ws) (view ws (b .count)) e)
+module _ (ws : List ℕ) (b : Bitmap) (k : ℕ) (f : Fit ws) (p : Passed ws b) where
+  pub left-nothing : topOf (held ws b) ≡ 0 → Changes (raising k) ws b (Done b) ws
+  left-nothing e = keeps-changes (raising k) ws b f p (raise-none k (length ws) (held ws b) e)
 
-  module _ (top : ℕ) (e : topOf (view ws (b .count)) ≡ suc top) where
+  module _ (top : ℕ) (e : topOf (held ws b) ≡ suc top) where
     pub left-over : 2 ^ 64 < suc (top + k) → Changes (raising k) ws b (Refused IndexOver b) ws
     left-over h =
-        changes-refused (raising k) ws b IndexOver p (raise-over k (length ws) (view ws (b .count)) (omega arith) (omega arith))
+        changes-refused (raising k) ws b IndexOver p (raise-over k (length ws) (held ws b) (omega arith) (omega arith))
 
-    count : wordsFor (topOf (view ws (b .count)) + k) ≡ (top + k) / 64 + 1
+    count : wordsFor (topOf (held ws b) + k) ≡ (top + k) / 64 + 1
     unfolding wordsFor
     count = ap (λ (x : ℕ). (x + k + 63) / 64) e ∙ omega arith
 
     pub left-no-space : suc (top + k) ≤ 2 ^ 64 → length ws ≤ (top + k) / 64 → Changes (raising k) ws b (Refused NoSpace b) ws
     left-no-space l h =
         changes-refused (raising k) ws b NoSpace p
-        (raise-put k (length ws) (view ws (b .count)) (omega arith) (omega arith) ∙ within-no (length ws) (raised k (view ws (b .count))) (omega (arith, count)))
+        (raise-put k (length ws) (held ws b) (omega arith) (omega arith) ∙ within-no (length ws) (raised k (held ws b)) (omega (arith, count)))
 
     pub left-changes : (z part : List ℕ) (m : ℕ) → suc (top + k) ≤ 2 ^ 64 → (top + k) / 64 < length ws → z ≡ zeroed (b .count) ((top + k) / 64 + 1) ws
         → m ≡ max (b .count) ((top + k) / 64 + 1) → part ≡ wordsOf (movedUp k (member (take m z))) (length (take m z))
-        → Changes (raising k) ws b (Done (record { count = m })) (part ++ drop m z)
+        → Changes (raising k) ws b (Done (withCount b m)) (part ++ drop m z)
     left-changes z part m l h ez em ep =
         changes-done (raising k) ws b (part ++ drop m z) s m p
         (raise-put k (length ws) (view ws n) (omega arith) (omega arith) ∙ within-ok (length ws) s (omega (arith, c, p .inside)))
@@ -75,11 +76,11 @@ module _ (ws : List ℕ) (b : Bitmap) (k : ℕ) (f : Fit ws) (p : Passed (length
         s : Bits
         s = raised k (view ws n)
 
-        c : max (view ws (b .count) .count) (wordsFor (topOf (view ws (b .count)) + k)) ≡ max (b .count) ((top + k) / 64 + 1)
+        c : max (held ws b .count) (wordsFor (topOf (held ws b) + k)) ≡ max (b .count) ((top + k) / 64 + 1)
         c = ap₂ max (view-count ws (b .count)) count
 
   pub right-changes : (part : List ℕ) (r : ℕ) → part ≡ wordsOf (movedDown k (member (take (b .count) ws))) (length (take (b .count) ws))
-      → r ≡ nonzeroLen (take (b .count) (part ++ drop (b .count) ws)) → Changes (lowering k) ws b (Done (record { count = r })) (part ++ drop (b .count) ws)
+      → r ≡ nonzeroLen (take (b .count) (part ++ drop (b .count) ws)) → Changes (lowering k) ws b (Done (withCount b r)) (part ++ drop (b .count) ws)
   unfolding lowering lowered
   right-changes part r ep er =
       changes-done (lowering k) ws b (part ++ drop n ws) (trimmed s) r p refl

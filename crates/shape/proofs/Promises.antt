@@ -1,7 +1,7 @@
 -- The promises of specs/Promises. Assumes nothing.
 use mathlib.Core.Path.{_≡_, refl, sym, ap, ap₂, _∙_, subst}
 use mathlib.Core.Bool.{Bool, true, false, _&&_, _||_, false≢true}
-use mathlib.Core.Logic.{_⊎_, inl, inr}
+use mathlib.Core.Logic.{inl, inr}
 use Prim.Native.Nat.{ℕ, suc, _+_, _-_, _*_, _/_, _^_, _≤_, _<_, max}
 use native.Mathlib.Omega.{arith}
 use lib.Dec.{ltb, leb}
@@ -20,7 +20,8 @@ use Rattle.storage.proofs.Promises.{least-count}
 use Rattle.shift.specs.Shifts.{movedDown}
 use Rattle.shift.proofs.Moves.{moved-up, moved-in}
 use Rattle.shape.specs.Shapes.{topOf, cutAt, toggling, togglingRegion, raising, lowered, lowering, truncated, truncating, resizing, joined, appending}
-use Rattle.shape.specs.Promises.{FlippedFrom, Toggles, TogglesRegion, RegionUnchanged, IsTop, RaisedBy, TopPasses, Raises, LoweredBy, Lowers, CutBelow, TruncatedTo, Truncates, ResizedTo, Resizes, JoinedWith, Joins}
+use Rattle.shape.specs.Promises.{FlippedFrom, Toggles, TogglesRegion, RegionUnchanged, IsTop, RaisedBy, TopPasses, Raises, LoweredBy, Lowers}
+use Rattle.shape.specs.Promises.{CutBelow, TruncatedTo, Truncates, ResizedTo, Resizes, JoinedWith, Joins}
 use Rattle.shape.proofs.Toggles.{flippedRegion, region-none, region-over, region-put}
 use Rattle.shape.proofs.Moves.{raised, raise-none, raise-over, raise-put}
 

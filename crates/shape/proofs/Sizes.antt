@@ -14,11 +14,12 @@ use Rattle.word.proofs.Cases.{by-lt, by-eq, or-false}
 use Rattle.word.proofs.Lists.{Fit}
 use Rattle.word.proofs.Sweep.{getD-set}
 use Rattle.arch.specs.Scans.{nonzeroLen, filled}
-use Rattle.storage.specs.Stores.{Bits, view, beside, wordsFor, zeroed, Changes}
+use Rattle.storage.specs.Stores.{Bits, withCount, view, held, beside, wordsFor, zeroed, Changes}
+use Rattle.storage.specs.Guards.{Passed}
 use Rattle.storage.specs.declared.Bitmap.{Bitmap}
 use Rattle.storage.specs.declared.Refusal.the-variants.{NoSpace}
 use Rattle.storage.specs.declared.Change.the-variants.{Done, Refused}
-use Rattle.storage.proofs.Checks.{Passed, beside-ok, within-ok, within-no}
+use Rattle.storage.proofs.Checks.{beside-ok, within-ok, within-no}
 use Rattle.storage.proofs.Views.{view-count, view-in, view-out, view-whole}
 use Rattle.storage.proofs.Stores.{Stored, changes-done, changes-refused}
 use Rattle.storage.proofs.Grown.{grown-members, grown-part, part-trimmed, part-trimmed-length}
@@ -33,9 +34,9 @@ cut-at k e i t l =
     (λ h. ap (λ (x : Bool). choose (x && ltb i e) false t) (lt-leb k i h) ∙ ap (λ (x : Bool). x && t) (sym (lt-ltb i k h)))
     (λ h. ap₂ (λ (x y : Bool). choose (x && y) false t) (le-leb k i h) (lt-ltb i e l) ∙ ap (λ (x : Bool). x && t) (sym (le-ltb i k h)))
 
-module _ (ws : List ℕ) (b : Bitmap) (k : ℕ) (f : Fit ws) (p : Passed (length ws) (b .count)) where
+module _ (ws : List ℕ) (b : Bitmap) (k : ℕ) (f : Fit ws) (p : Passed ws b) where
   g : ℕ → Bool
-  g i = choose (leb k i && ltb i (64 * b .count)) false (view ws (b .count) .members i)
+  g i = choose (leb k i && ltb i (64 * b .count)) false (held ws b .members i)
 
   is : (part : List ℕ) → part ≡ filled k (64 * b .count) false (take (b .count) ws) → part ≡ wordsOf g (length (take (b .count) ws))
   unfolding filled g
@@ -43,22 +44,22 @@ module _ (ws : List ℕ) (b : Bitmap) (k : ℕ) (f : Fit ws) (p : Passed (length
       ep
       ∙ ap (λ (v : ℕ → Bool). wordsOf (λ i. choose (leb k i && ltb i (64 * b .count)) false (v i)) (length (take (b .count) ws))) (sym (view-whole ws (b .count) (p .inside)))
 
-  pub truncate-stored : (part : List ℕ) → part ≡ filled k (64 * b .count) false (take (b .count) ws) → Stored ws (b .count) (truncated k (view ws (b .count))) (part ++ drop (b .count) ws)
+  pub truncate-stored : (part : List ℕ) → part ≡ filled k (64 * b .count) false (take (b .count) ws) → Stored ws (b .count) (truncated k (held ws b)) (part ++ drop (b .count) ws)
   unfolding truncated g
   truncate-stored part ep =
-      part-trimmed ws part (b .count) g (cutAt k (view ws (b .count))) f (p .inside) (is part ep) (view-count ws (b .count)) (λ i l. cut-at k (64 * b .count) i (view ws (b .count) .members i) l)
+      part-trimmed ws part (b .count) g (cutAt k (held ws b)) f (p .inside) (is part ep) (view-count ws (b .count)) (λ i l. cut-at k (64 * b .count) i (held ws b .members i) l)
 
   pub truncate-count : (part : List ℕ) → part ≡ filled k (64 * b .count) false (take (b .count) ws)
-      → nonzeroLen (take (b .count) (part ++ drop (b .count) ws)) ≡ truncated k (view ws (b .count)) .count
+      → nonzeroLen (take (b .count) (part ++ drop (b .count) ws)) ≡ truncated k (held ws b) .count
   unfolding truncated g
   truncate-count part ep =
-      part-trimmed-length ws part (b .count) g (cutAt k (view ws (b .count))) f (p .inside) (is part ep) (view-count ws (b .count)) (λ i l. cut-at k (64 * b .count) i (view ws (b .count) .members i) l)
+      part-trimmed-length ws part (b .count) g (cutAt k (held ws b)) f (p .inside) (is part ep) (view-count ws (b .count)) (λ i l. cut-at k (64 * b .count) i (held ws b .members i) l)
 
   pub truncate-changes : (part : List ℕ) (r : ℕ) → part ≡ filled k (64 * b .count) false (take (b .count) ws)
-      → r ≡ nonzeroLen (take (b .count) (part ++ drop (b .count) ws)) → Changes (truncating k) ws b (Done (record { count = r })) (part ++ drop (b .count) ws)
+      → r ≡ nonzeroLen (take (b .count) (part ++ drop (b .count) ws)) → Changes (truncating k) ws b (Done (withCount b r)) (part ++ drop (b .count) ws)
   unfolding truncating
   truncate-changes part r ep er =
-      changes-done (truncating k) ws b (part ++ drop (b .count) ws) (truncated k (view ws (b .count))) r p refl (truncate-stored part ep) (er ∙ truncate-count part ep)
+      changes-done (truncating k) ws b (part ++ drop (b .count) ws) (truncated k (held ws b)) r p refl (truncate-stored part ep) (er ∙ truncate-count part ep)
 
   -- ---- resized
 
@@ -75,7 +76,7 @@ module _ (ws : List ℕ) (b : Bitmap) (k : ℕ) (f : Fit ws) (p : Passed (length
   resize-refused h = changes-refused (resizing k) ws b NoSpace p (within-no (length ws) _ (omega (arith, need-is)))
 
   pub resize-changes : (need m : ℕ) (z part : List ℕ) → need ≡ k / 64 + (k % 64 + 63) / 64 → need ≤ length ws → z ≡ zeroed (b .count) need ws → m ≡ max (b .count) need
-      → part ≡ filled k (64 * m) false (take m z) → Changes (resizing k) ws b (Done (record { count = need })) (part ++ drop m z)
+      → part ≡ filled k (64 * m) false (take m z) → Changes (resizing k) ws b (Done (withCount b need)) (part ++ drop m z)
   unfolding resizing filled
   resize-changes need m z part en h ez em ep =
       changes-done (resizing k) ws b (part ++ drop m z) s need p (within-ok (length ws) s (omega (arith, need-is)))
@@ -96,25 +97,25 @@ module _ (ws : List ℕ) (b : Bitmap) (k : ℕ) (f : Fit ws) (p : Passed (length
 
 -- ---- joined
 
-module _ (ws os : List ℕ) (b : Bitmap) (m : ℕ) (f : Fit ws) (fo : Fit os) (p : Passed (length ws) (b .count)) (q : Passed (length os) m) where
+module _ (ws os : List ℕ) (b o : Bitmap) (f : Fit ws) (fo : Fit os) (p : Passed ws b) (q : Passed os o) where
   both : Bits
-  both = joined (view os m) (view ws (b .count))
+  both = joined (held os o) (held ws b)
 
-  count : view ws (b .count) .count + view os m .count ≡ b .count + m
-  count = ap₂ (λ (x y : ℕ). x + y) (view-count ws (b .count)) (view-count os m)
+  count : held ws b .count + held os o .count ≡ b .count + o .count
+  count = ap₂ (λ (x y : ℕ). x + y) (view-count ws (b .count)) (view-count os (o .count))
 
-  pub append-refused : length ws < b .count + m → Changes (beside os m appending) ws b (Refused NoSpace b) ws
+  pub append-refused : length ws < b .count + o .count → Changes (beside os o appending) ws b (Refused NoSpace b) ws
   unfolding appending both
   append-refused h =
-      changes-refused (beside os m appending) ws b NoSpace p
-      (beside-ok os m appending (length ws) (view ws (b .count)) q ∙ within-no (length ws) both (omega (arith, count)))
+      changes-refused (beside os o appending) ws b NoSpace p
+      (beside-ok os o appending (length ws) (held ws b) q ∙ within-no (length ws) both (omega (arith, count)))
 
-  pub append-changes : (r : ℕ) (ws' : List ℕ) → b .count + m ≤ length ws → Copied ws (b .count) os m ws' → r ≡ b .count + m
-      → Changes (beside os m appending) ws b (Done (record { count = r })) ws'
+  pub append-changes : (r : ℕ) (ws' : List ℕ) → b .count + o .count ≤ length ws → Copied ws (b .count) os (o .count) ws' → r ≡ b .count + o .count
+      → Changes (beside os o appending) ws b (Done (withCount b r)) ws'
   unfolding appending both movedUp
   append-changes r ws' h s er =
-      changes-done (beside os m appending) ws b ws' both r p
-      (beside-ok os m appending (length ws) (view ws n) q ∙ within-ok (length ws) both (omega (arith, count)))
+      changes-done (beside os o appending) ws b ws' both r p
+      (beside-ok os o appending (length ws) (view ws n) q ∙ within-ok (length ws) both (omega (arith, count)))
       (record {
         long = s .long;
         fits = λ k a.
@@ -125,13 +126,15 @@ module _ (ws os : List ℕ) (b : Bitmap) (m : ℕ) (f : Fit ws) (fo : Fit os) (p
             by-lt k n
             (λ c.
             ap (λ (x : ℕ). bit x j) (s .below k c) ∙ sym (view-in ws n k j c l)
-            ∙ sym (ap (λ (t : Bool). view ws n .members (64 * k + j) || (t && view os m .members (64 * k + j - 64 * view ws n .count))) (lt-leb (64 * view ws n .count) (64 * k + j) (omega (arith, view-count ws n)))
+            ∙ sym (ap (λ (t : Bool). view ws n .members (64 * k + j) || (t && held os o .members (64 * k + j - 64 * view ws n .count)))
+            (lt-leb (64 * view ws n .count) (64 * k + j) (omega (arith, view-count ws n)))
             ∙ or-false (view ws n .members (64 * k + j))))
             (λ c.
             ap (λ (x : ℕ). bit (getD ws' x 0) j) (omega arith) ∙ ap (λ (x : ℕ). bit x j) (s .inside (k - n) (omega (arith, count)))
-            ∙ sym (view-in os m (k - n) j (omega (arith, count)) l)
-            ∙ ap (view os m .members) (omega (arith, view-count ws n))
-            ∙ sym (ap₂ (λ (t u : Bool). t || (u && view os m .members (64 * k + j - 64 * view ws n .count))) (view-out ws n (64 * k + j) (omega arith)) (le-leb (64 * view ws n .count) (64 * k + j) (omega (arith, view-count ws n)))));
+            ∙ sym (view-in os (o .count) (k - n) j (omega (arith, count)) l)
+            ∙ ap (held os o .members) (omega (arith, view-count ws n))
+            ∙ sym (ap₂ (λ (t u : Bool). t || (u && held os o .members (64 * k + j - 64 * view ws n .count))) (view-out ws n (64 * k + j) (omega arith))
+            (le-leb (64 * view ws n .count) (64 * k + j) (omega (arith, view-count ws n)))));
         dropped = λ k a c. absurd (omega (arith, count, view-count ws n));
         kept = λ k a c. s .above k (omega (arith, count));
       })

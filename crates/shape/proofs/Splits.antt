@@ -15,14 +15,15 @@ use Rattle.word.proofs.Bits.{bit-pack, pack-lt}
 use Rattle.word.proofs.Lists.{Fit}
 use Rattle.word.proofs.Sweep.{getD-set}
 use Rattle.arch.specs.Scans.{nonzeroLen, filled}
-use Rattle.storage.specs.Stores.{Outcome, refused, done, checked, view, reading, within, wordsFor, trimmedCount, store, andThen}
+use Rattle.storage.specs.Stores.{Bits, Outcome, refused, done, withCount, noWords, spaceOf, checked, held, reading, within, wordsFor, trimmedCount, store, andThen}
+use Rattle.storage.specs.Guards.{Passed}
 use Rattle.storage.specs.declared.Bitmap.{Bitmap}
 use Rattle.storage.specs.declared.Refusal.{Refusal}
 use Rattle.storage.specs.declared.Refusal.the-variants.{NoSpace}
 use Rattle.storage.specs.declared.Number.{Number}
 use Rattle.storage.specs.declared.Number.the-variants.{Is}
 use Rattle.storage.specs.declared.Guard.the-variants.{Pass, Stop}
-use Rattle.storage.proofs.Checks.{Passed, checked-ok, stopped, reading-ok, reading-stopped, told, told-refused, within-ok, within-no}
+use Rattle.storage.proofs.Checks.{checked-ok, stopped, reading-ok, reading-stopped, told, told-refused, within-ok, within-no}
 use Rattle.storage.proofs.Views.{view-count, view-out, view-whole}
 use Rattle.storage.proofs.Stores.{Stored, stored-written}
 use Rattle.shift.specs.Shifts.{movedDown}
@@ -48,44 +49,44 @@ top-lowered s e at none =
     t : Top s e (topBelow s e)
     t = top s e
 
-pub lowered-count : (at : ℕ) (ws : List ℕ) (n : ℕ) → lowered at (view ws n) .count ≡ wordsFor (topOf (view ws n) - at)
+pub lowered-count : (at : ℕ) (ws : List ℕ) (b : Bitmap) → lowered at (held ws b) .count ≡ wordsFor (topOf (held ws b) - at)
 unfolding lowered trimmedCount
-lowered-count at ws n =
-    ap wordsFor (top-lowered (view ws n .members) (64 * view ws n .count) at (λ i l. view-out ws n i (omega (arith, view-count ws n))))
+lowered-count at ws b =
+    ap wordsFor (top-lowered (held ws b .members) (64 * held ws b .count) at (λ i l. view-out ws (b .count) i (omega (arith, view-count ws (b .count)))))
 
 -- ---- the words that the tail needs
 
-module _ (ws : List ℕ) (n at : ℕ) where
-  pub tail-refused : (e : Refusal) → Stop e ≡ checked (length ws) n Stop Pass → Number.Refused e ≡ reading ws n Number.Refused (λ s. Number.Is (lowered at s .count))
-  tail-refused e p = sym (reading-stopped ws n e Number.Refused (λ s. Number.Is (lowered at s .count)) p)
+pub tail-none : (s : Bits) (at t : ℕ) → topOf s ≡ t → t ≤ at → 0 ≡ wordsFor (topOf s - at)
+unfolding wordsFor
+tail-none s at t e h = omega arith
 
-  pub tail-is : (m : ℕ) → Passed (length ws) n → m ≡ wordsFor (topOf (view ws n) - at) → Number.Is m ≡ reading ws n Number.Refused (λ s. Number.Is (lowered at s .count))
-  tail-is m p e = ap Number.Is (e ∙ sym (lowered-count at ws n)) ∙ sym (reading-ok ws n Number.Refused (λ s. Number.Is (lowered at s .count)) p)
+pub tail-some : (s : Bits) (at p : ℕ) → topOf s ≡ suc p → at ≤ p → (p - at) / 64 + 1 ≡ wordsFor (topOf s - at)
+unfolding wordsFor
+tail-some s at p e h = omega arith
 
-  pub tail-none : (t : ℕ) → topOf (view ws n) ≡ t → t ≤ at → 0 ≡ wordsFor (topOf (view ws n) - at)
-  unfolding wordsFor
-  tail-none t e h = omega arith
+module _ (ws : List ℕ) (b : Bitmap) (at : ℕ) where
+  pub tail-refused : (e : Refusal) → Stop e ≡ checked ws b Stop Pass → Number.Refused e ≡ reading ws b Number.Refused (λ s. Number.Is (lowered at s .count))
+  tail-refused e p = sym (reading-stopped ws b e Number.Refused (λ s. Number.Is (lowered at s .count)) p)
 
-  pub tail-some : (p : ℕ) → topOf (view ws n) ≡ suc p → at ≤ p → (p - at) / 64 + 1 ≡ wordsFor (topOf (view ws n) - at)
-  unfolding wordsFor
-  tail-some p e h = omega arith
+  pub tail-is : (m : ℕ) → Passed ws b → m ≡ wordsFor (topOf (held ws b) - at) → Number.Is m ≡ reading ws b Number.Refused (λ s. Number.Is (lowered at s .count))
+  tail-is m p e = ap Number.Is (e ∙ sym (lowered-count at ws b)) ∙ sym (reading-ok ws b Number.Refused (λ s. Number.Is (lowered at s .count)) p)
 
   -- what the answer tells
-  pub tail-told-refused : (e : Refusal) → Number.Refused e ≡ reading ws n Number.Refused (λ s. Number.Is (lowered at s .count)) → Stop e ≡ checked (length ws) n Stop Pass
+  pub tail-told-refused : (e : Refusal) → Number.Refused e ≡ reading ws b Number.Refused (λ s. Number.Is (lowered at s .count)) → Stop e ≡ checked ws b Stop Pass
   tail-told-refused e q =
-      told-refused ws n Number.Refused (λ s. Number.Is (lowered at s .count)) e (λ d r. cc) (λ b r. absurd (let y : _≡_ {A = ℕ} 0 1 = cc in omega arith)) q
+      told-refused ws b Number.Refused (λ s. Number.Is (lowered at s .count)) e (λ d r. cc) (λ s r. absurd (let y : _≡_ {A = ℕ} 0 1 = cc in omega arith)) q
 
-  pub tail-told : (m : ℕ) → Number.Is m ≡ reading ws n Number.Refused (λ s. Number.Is (lowered at s .count)) → Passed (length ws) n × (m ≡ lowered at (view ws n) .count)
+  pub tail-told : (m : ℕ) → Number.Is m ≡ reading ws b Number.Refused (λ s. Number.Is (lowered at s .count)) → Passed ws b × (m ≡ lowered at (held ws b) .count)
   tail-told m q =
-      let a = told ws n Number.Refused (λ s. Number.Is (lowered at s .count)) (Number.Is m) (λ e r. absurd (let y : _≡_ {A = ℕ} 0 1 = cc in omega arith)) q in
-      (a .0, same (lowered at (view ws n) .count) (a .1))
+      let a = told ws b Number.Refused (λ s. Number.Is (lowered at s .count)) (Number.Is m) (λ e r. absurd (let y : _≡_ {A = ℕ} 0 1 = cc in omega arith)) q in
+      (a .0, same (lowered at (held ws b) .count) (a .1))
     where
       same : (k : ℕ) → Number.Is m ≡ Number.Is k → m ≡ k
       same k e = cc
 
-  pub tail-inside : lowered at (view ws n) .count ≤ n - at / 64
+  pub tail-inside : lowered at (held ws b) .count ≤ b .count - at / 64
   unfolding wordsFor
-  tail-inside = omega (arith, lowered-count at ws n, top (view ws n .members) (64 * view ws n .count) .within, view-count ws n)
+  tail-inside = omega (arith, lowered-count at ws b, top (held ws b .members) (64 * held ws b .count) .within, view-count ws (b .count))
 
 -- ---- one turn of the walk
 
@@ -109,49 +110,49 @@ lowered-to at ws j m ts ts' s p q = record { long = s .long; below = λ k l. s .
 -- ---- the call
 
 module _ (ws ts : List ℕ) (b : Bitmap) (at : ℕ) where
-  split-refused : (e : Refusal) → tailOutcome at ws (b .count) ts ≡ refused e → Splits at ws b ts (Refused e b) ws ts
+  split-refused : (e : Refusal) → tailOutcome at ws b ts ≡ refused e → Splits at ws b ts (Refused e b) ws ts
   unfolding headOutcome splitAnswer andThen store
   split-refused e q = record {
-    answers = sym (ap (λ (o : Outcome). splitAnswer (andThen o (λ t. done (truncated at (view ws (b .count))))) o b) q);
-    head = sym (ap (λ (o : Outcome). store (andThen o (λ t. done (truncated at (view ws (b .count))))) ws (b .count)) q);
+    answers = sym (ap (λ (o : Outcome). splitAnswer (andThen o (λ t. done (truncated at (held ws b)))) o b) q);
+    head = sym (ap (λ (o : Outcome). store (andThen o (λ t. done (truncated at (held ws b)))) ws (b .count)) q);
     tail = sym (ap (λ (o : Outcome). store o ts 0) q);
   }
 
-  pub split-stopped : (e : Refusal) → Stop e ≡ checked (length ws) (b .count) Stop Pass → Splits at ws b ts (Refused e b) ws ts
+  pub split-stopped : (e : Refusal) → Stop e ≡ checked ws b Stop Pass → Splits at ws b ts (Refused e b) ws ts
   unfolding tailOutcome
-  split-stopped e p = split-refused e (stopped (length ws) (b .count) e refused _ p)
+  split-stopped e p = split-refused e (stopped ws b e refused _ p)
 
-  module _ (p : Passed (length ws) (b .count)) where
-    pub split-second : (e : Refusal) → Stop e ≡ checked (length ts) 0 Stop Pass → Splits at ws b ts (Refused e b) ws ts
+  module _ (p : Passed ws b) where
+    pub split-second : (e : Refusal) → Stop e ≡ checked ts noWords Stop Pass → Splits at ws b ts (Refused e b) ws ts
     unfolding tailOutcome
-    split-second e q = split-refused e (checked-ok (length ws) (b .count) refused _ (p .short) (p .inside) ∙ stopped (length ts) 0 e refused _ q)
+    split-second e q = split-refused e (checked-ok ws b refused _ p ∙ stopped ts noWords e refused _ q)
 
-    module _ (q : Passed (length ts) 0) where
-      pub tail-within : tailOutcome at ws (b .count) ts ≡ within (length ts) (lowered at (view ws (b .count)))
+    module _ (q : Passed ts noWords) where
+      pub tail-within : tailOutcome at ws b ts ≡ within (spaceOf ts) (lowered at (held ws b))
       unfolding tailOutcome
-      tail-within = checked-ok (length ws) (b .count) refused _ (p .short) (p .inside) ∙ checked-ok (length ts) 0 refused _ (q .short) (q .inside)
+      tail-within = checked-ok ws b refused _ p ∙ checked-ok ts noWords refused _ q
 
-      pub split-no-space : (m : ℕ) → m ≡ lowered at (view ws (b .count)) .count → length ts < m → Splits at ws b ts (Refused NoSpace b) ws ts
-      split-no-space m e h = split-refused NoSpace (tail-within ∙ within-no (length ts) (lowered at (view ws (b .count))) (omega arith))
+      pub split-no-space : (m : ℕ) → m ≡ lowered at (held ws b) .count → length ts < m → Splits at ws b ts (Refused NoSpace b) ws ts
+      split-no-space m e h = split-refused NoSpace (tail-within ∙ within-no (length ts) (lowered at (held ws b)) (omega arith))
 
-      pub split-done : (m r : ℕ) (part ts' : List ℕ) → Fit ws → m ≡ lowered at (view ws (b .count)) .count → m ≤ length ts → Lowered at (take (b .count) ws) m ts ts'
+      pub split-done : (m r : ℕ) (part ts' : List ℕ) → Fit ws → m ≡ lowered at (held ws b) .count → m ≤ length ts → Lowered at (take (b .count) ws) m ts ts'
           → part ≡ filled at (64 * b .count) false (take (b .count) ws) → r ≡ nonzeroLen (take (b .count) (part ++ drop (b .count) ws))
-          → Splits at ws b ts (Done (record { count = r }) (record { count = m })) (part ++ drop (b .count) ws) ts'
+          → Splits at ws b ts (Done (withCount b r) (withCount noWords m)) (part ++ drop (b .count) ws) ts'
       unfolding headOutcome splitAnswer andThen store lowered wordOf
       split-done m r part ts' fit em h s ep er = record {
         answers =
-            ap₂ (λ (x y : ℕ). Split.Done (record { count = x }) (record { count = y })) (er ∙ truncate-count ws b at fit p part ep) em
-            ∙ sym (ap (λ (o : Outcome). splitAnswer (andThen o (λ t. done (truncated at (view ws (b .count))))) o b) is);
+            ap₂ (λ (x y : ℕ). Split.Done (withCount b x) (withCount noWords y)) (er ∙ truncate-count ws b at fit p part ep) em
+            ∙ sym (ap (λ (o : Outcome). splitAnswer (andThen o (λ t. done (truncated at (held ws b)))) o b) is);
         head =
-            stored-written ws (b .count) (truncated at (view ws (b .count))) (part ++ drop (b .count) ws) (truncate-stored ws b at fit p part ep)
-            ∙ sym (ap (λ (o : Outcome). store (andThen o (λ t. done (truncated at (view ws (b .count))))) ws (b .count)) is);
-        tail = stored-written ts 0 (lowered at (view ws (b .count))) ts' tails ∙ sym (ap (λ (o : Outcome). store o ts 0) is);
+            stored-written ws (b .count) (truncated at (held ws b)) (part ++ drop (b .count) ws) (truncate-stored ws b at fit p part ep)
+            ∙ sym (ap (λ (o : Outcome). store (andThen o (λ t. done (truncated at (held ws b)))) ws (b .count)) is);
+        tail = stored-written ts 0 (lowered at (held ws b)) ts' tails ∙ sym (ap (λ (o : Outcome). store o ts 0) is);
       }
         where
-          is : tailOutcome at ws (b .count) ts ≡ done (lowered at (view ws (b .count)))
-          is = tail-within ∙ within-ok (length ts) (lowered at (view ws (b .count))) (omega arith)
+          is : tailOutcome at ws b ts ≡ done (lowered at (held ws b))
+          is = tail-within ∙ within-ok (length ts) (lowered at (held ws b)) (omega arith)
 
-          tails : Stored ts 0 (lowered at (view ws (b .count))) ts'
+          tails : Stored ts 0 (lowered at (held ws b)) ts'
           tails = record {
             long = s .long;
             fits = λ k l. subst (λ (x : ℕ). x < 2 ^ 64) (sym (s .below k (omega arith))) (pack-lt 64 (λ j. movedDown at (member (take (b .count) ws)) (64 * k + j)));

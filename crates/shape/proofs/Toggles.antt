@@ -11,11 +11,12 @@ use borrow.Author.Tests.{le-ltb, lt-ltb, eq-eqb, ne-eqb}
 use Rattle.word.specs.Sets.{xorb}
 use Rattle.word.specs.Words.{single}
 use Rattle.word.proofs.Lists.{Fit}
-use Rattle.storage.specs.Stores.{Bits, refused, done, view, within, flipped, inRegion, zeroed, Changes}
+use Rattle.storage.specs.Stores.{Bits, refused, done, Space, withCount, view, held, within, flipped, inRegion, zeroed, Changes}
+use Rattle.storage.specs.Guards.{Passed}
 use Rattle.storage.specs.declared.Bitmap.{Bitmap}
 use Rattle.storage.specs.declared.Refusal.the-variants.{IndexOver, NoSpace}
 use Rattle.storage.specs.declared.Change.the-variants.{Done, Refused}
-use Rattle.storage.proofs.Checks.{Passed, within-ok, within-no}
+use Rattle.storage.proofs.Checks.{within-ok, within-no}
 use Rattle.storage.proofs.Views.{view-count}
 use Rattle.storage.proofs.Stores.{changes-done, changes-refused, keeps-changes}
 use Rattle.storage.proofs.Grown.{grown-long, grown-fit, grown-kept, grown-at, flip-stored}
@@ -24,13 +25,13 @@ use Rattle.shape.specs.Kernels.{Flipped}
 
 -- ---- `toggle`
 
-module _ (ws : List ℕ) (b : Bitmap) (i : ℕ) (f : Fit ws) (p : Passed (length ws) (b .count)) where
+module _ (ws : List ℕ) (b : Bitmap) (i : ℕ) (f : Fit ws) (p : Passed ws b) where
   pub toggle-refused : length ws ≤ i / 64 → Changes (toggling i) ws b (Refused NoSpace b) ws
   unfolding toggling
   toggle-refused h = changes-refused (toggling i) ws b NoSpace p (within-no (length ws) _ (omega arith))
 
   pub toggle-changes : (z : List ℕ) (x r : ℕ) → i / 64 < length ws → z ≡ zeroed (b .count) (i / 64 + 1) ws → x ≡ single 64 (i % 64) → r ≡ max (b .count) (i / 64 + 1)
-      → Changes (toggling i) ws b (Done (record { count = r })) (set z (i / 64) (bitXor (getD z (i / 64) 0) x))
+      → Changes (toggling i) ws b (Done (withCount b r)) (set z (i / 64) (bitXor (getD z (i / 64) 0) x))
   unfolding toggling
   toggle-changes z x r h ez ex er =
       changes-done (toggling i) ws b (set z (i / 64) (bitXor (getD z (i / 64) 0) x)) (flipped i (view ws n)) r p
@@ -45,7 +46,7 @@ module _ (ws : List ℕ) (b : Bitmap) (i : ℕ) (f : Fit ws) (p : Passed (length
 abbrev pub flippedRegion : ℕ → ℕ → Bits → Bits
 flippedRegion i k b = record { members = λ j. xorb (b .members j) (inRegion i k j); count = max (b .count) ((i + k - 1) / 64 + 1) }
 
-module _ (i k c : ℕ) (b : Bits) where
+module _ (i k : ℕ) (c : Space) (b : Bits) where
   pub region-none : k ≡ 0 → togglingRegion i k c b ≡ done b
   unfolding togglingRegion
   region-none e = rw (eq-eqb k 0 e)
@@ -60,12 +61,12 @@ module _ (i k c : ℕ) (b : Bits) where
 
 -- ---- the call
 
-module _ (ws : List ℕ) (b : Bitmap) (i k : ℕ) (f : Fit ws) (p : Passed (length ws) (b .count)) where
+module _ (ws : List ℕ) (b : Bitmap) (i k : ℕ) (f : Fit ws) (p : Passed ws b) where
   pub region-nothing : k ≡ 0 → Changes (togglingRegion i k) ws b (Done b) ws
-  region-nothing e = keeps-changes (togglingRegion i k) ws b f p (region-none i k (length ws) (view ws (b .count)) e)
+  region-nothing e = keeps-changes (togglingRegion i k) ws b f p (region-none i k (length ws) (held ws b) e)
 
   pub region-index-over : (k ≡ 0 → ⊥) → 2 ^ 64 < i + k → Changes (togglingRegion i k) ws b (Refused IndexOver b) ws
-  region-index-over n h = changes-refused (togglingRegion i k) ws b IndexOver p (region-over i k (length ws) (view ws (b .count)) n h)
+  region-index-over n h = changes-refused (togglingRegion i k) ws b IndexOver p (region-over i k (length ws) (held ws b) n h)
 
   module _ (last : ℕ) (some : k ≡ 0 → ⊥) (e : last + 1 ≡ i + k) (low : last < 2 ^ 64) where
     word : (i + k - 1) / 64 ≡ last / 64
@@ -74,10 +75,10 @@ module _ (ws : List ℕ) (b : Bitmap) (i k : ℕ) (f : Fit ws) (p : Passed (leng
     pub region-no-space : length ws ≤ last / 64 → Changes (togglingRegion i k) ws b (Refused NoSpace b) ws
     region-no-space h =
         changes-refused (togglingRegion i k) ws b NoSpace p
-        (region-put i k (length ws) (view ws (b .count)) some (omega arith) ∙ within-no (length ws) (flippedRegion i k (view ws (b .count))) (omega (arith, word)))
+        (region-put i k (length ws) (held ws b) some (omega arith) ∙ within-no (length ws) (flippedRegion i k (held ws b)) (omega (arith, word)))
 
     pub region-flipped : (z ws' : List ℕ) (r : ℕ) → last / 64 < length ws → z ≡ zeroed (b .count) (last / 64 + 1) ws → Flipped i (last + 1) z ws'
-        → r ≡ max (b .count) (last / 64 + 1) → Changes (togglingRegion i k) ws b (Done (record { count = r })) ws'
+        → r ≡ max (b .count) (last / 64 + 1) → Changes (togglingRegion i k) ws b (Done (withCount b r)) ws'
     region-flipped z ws' r h ez s er =
         changes-done (togglingRegion i k) ws b ws' (flippedRegion i k (view ws n)) r p
         (region-put i k (length ws) (view ws n) some (omega arith)

@@ -4,9 +4,8 @@ use mathlib.Core.Path.{_≡_}
 use mathlib.Core.Bool.{true, false, not}
 use mathlib.Core.List.{List}
 use mathlib.Core.Logic.{_⊎_}
-use lib.ListN.{length}
-use Rattle.storage.specs.Stores.{Bits, Bounded, view}
-use Rattle.storage.specs.Promises.{LeastCount, Guarded, Meets, Unchanged, Never, Lacks, Kept, Made, MeetsExactly}
+use Rattle.storage.specs.Stores.{Bits, Bounded, Space, noWords, spaceOf, held}
+use Rattle.storage.specs.Promises.{LeastCount, GuardedBoth, Meets, Unchanged, Never, Lacks, Kept, Made, MeetsExactly}
 use Rattle.storage.specs.declared.Bitmap.{Bitmap}
 use Rattle.shape.specs.Shapes.{toggling, togglingRegion, raising, lowering, truncating, resizing, appending, splitNumber, splitHead, splitTail, Splits}
 use Rattle.shape.specs.declared.Split.{Split}
@@ -23,7 +22,7 @@ abbrev pub Toggles : Type 0
 Toggles = (i : ℕ) → Meets (toggling i) (λ c b s. FlippedFrom i 1 b s) (Lacks (λ b. max (b .count) (i / 64 + 1)))
 
 -- 4 where the last index passes 2 ^ 64 - 1, then 6 for lack of space
-abbrev pub NotFlipped : ℕ → ℕ → ℕ → Bits → ℕ → Type 0
+abbrev pub NotFlipped : ℕ → ℕ → Space → Bits → ℕ → Type 0
 NotFlipped i k c b m = ((m ≡ 4) × (2 ^ 64 < i + k)) ⊎ ((m ≡ 6) × (i + k ≤ 2 ^ 64) × (c < max (b .count) ((i + k - 1) / 64 + 1)))
 
 -- `toggle_region`
@@ -49,7 +48,7 @@ pub record RaisedBy (k : ℕ) (b s : Bits) : Type 0 where
   pub nothing : ((i : ℕ) → b .members i ≡ false) → s ≡ b
 
 -- 4 where the greatest member passes 2 ^ 64 - 1, then 6 where that has no word
-abbrev pub TopPasses : ℕ → ℕ → Bits → ℕ → Type 0
+abbrev pub TopPasses : ℕ → Space → Bits → ℕ → Type 0
 TopPasses k c b m =
     (t : ℕ) × IsTop b t × (((m ≡ 4) × (2 ^ 64 ≤ t + k)) ⊎ ((m ≡ 6) × (t + k < 2 ^ 64) × (c < max (b .count) ((t + k) / 64 + 1))))
 
@@ -112,31 +111,29 @@ pub record CallsExact : Type 0 where
   pub append : (o : Bits) → Bounded o → MeetsExactly (appending o) (λ c b s. Bounded b → JoinedWith o b s) (Lacks (λ b. b .count + o .count))
 
 -- `split_off` at a bit, by the number x that it answers, the head's count m, the tail's count t and the words ws' and ts' afterwards.
--- Before there were n words in use of ws; the tail's store ts has no earlier count, so none of its words was in use.
+-- Before, the bitmap was b in ws; the tail's store ts has no earlier count, so none of its words was in use.
 
 -- refused with k: the count is the old one, the tail's is 0, and every word of both stores is as it was
-pub record SplitKept (n : ℕ) (ws ts : List ℕ) (x m t : ℕ) (ws' ts' : List ℕ) (k : ℕ) : Type 0 where
-  pub head : Kept n ws x m ws' k
+pub record SplitKept (b : Bitmap) (ws ts : List ℕ) (x m t : ℕ) (ws' ts' : List ℕ) (k : ℕ) : Type 0 where
+  pub head : Kept (b .count) ws x m ws' k
   pub tail : Kept 0 ts x t ts' k
 
 -- done: the first store holds the head in m words, the second the tail in t words
-pub record Halves (at n : ℕ) (ws ts : List ℕ) (x m t : ℕ) (ws' ts' : List ℕ) : Type 0 where
-  pub head : Made (TruncatedTo at (view ws n)) n ws x m ws'
-  pub tail : Made (LoweredBy at (view ws n)) 0 ts x t ts'
+pub record Halves (at : ℕ) (b : Bitmap) (ws ts : List ℕ) (x m t : ℕ) (ws' ts' : List ℕ) : Type 0 where
+  pub head : Made (TruncatedTo at (held ws b)) (b .count) ws x m ws'
+  pub tail : Made (LoweredBy at (held ws b)) 0 ts x t ts'
 
 -- 1 and 2 of the first store, then of the second; then both halves, or 6 where the tail has no space
-abbrev pub SplitMeans : ℕ → List ℕ → ℕ → List ℕ → ℕ → ℕ → ℕ → List ℕ → List ℕ → Type 0
-SplitMeans at ws n ts x m t ws' ts' =
-    let no = SplitKept n ws ts x m t ws' ts' in
-    Guarded (length ws) n no
-    (Guarded (length ts) 0 no
-    (Halves at n ws ts x m t ws' ts' ⊎ (no 6 × (s : Bits) × LoweredBy at (view ws n) s × (length ts < s .count))))
+abbrev pub SplitMeans : ℕ → List ℕ → Bitmap → List ℕ → ℕ → ℕ → ℕ → List ℕ → List ℕ → Type 0
+SplitMeans at ws b ts x m t ws' ts' =
+    let no = SplitKept b ws ts x m t ws' ts' in
+    GuardedBoth ws b ts noWords no (Halves at b ws ts x m t ws' ts' ⊎ (no 6 × (s : Bits) × LoweredBy at (held ws b) s × (spaceOf ts < s .count)))
 
 -- `split_off`, from its contract
 abbrev pub SplitOffMeans : Type 0
 SplitOffMeans =
     (at : ℕ) (ws : List ℕ) (b : Bitmap) (ts : List ℕ) (r : Split) (ws' ts' : List ℕ) → Splits at ws b ts r ws' ts'
-    → SplitMeans at ws (b .count) ts (splitNumber r) (splitHead r .count) (splitTail r) ws' ts'
+    → SplitMeans at ws b ts (splitNumber r) (splitHead r .count) (splitTail r) ws' ts'
 
 -- and refused, with whatever number, it returns the old record and leaves both stores
 abbrev pub SplitKeeps : Type 0

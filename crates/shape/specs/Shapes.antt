@@ -3,11 +3,10 @@ use Prim.Native.Nat.{ℕ, _+_, _-_, _*_, max}
 use mathlib.Core.Path.{_≡_}
 use mathlib.Core.Bool.{_&&_, _||_}
 use mathlib.Core.List.{List}
-use lib.ListN.{length}
 use lib.Dec.{ltb, eqb}
 use Rattle.word.specs.Sets.{choose, xorb, topBelow}
 use Rattle.storage.specs.Refusals.{numberOf}
-use Rattle.storage.specs.Stores.{Bits, Outcome, refused, done, Op, checked, view, within, upTo, flipped, inRegion, passes, wordsFor, trimmed, store, andThen}
+use Rattle.storage.specs.Stores.{Bits, Outcome, refused, done, Op, withCount, noWords, spaceOf, checked, view, held, within, upTo, flipped, inRegion, passes, wordsFor, trimmed, store, andThen}
 use Rattle.storage.specs.declared.Bitmap.{Bitmap}
 use Rattle.storage.specs.declared.Refusal.the-variants.{IndexOver}
 use Rattle.shift.specs.Shifts.{movedUp, movedDown}
@@ -64,20 +63,20 @@ unfoldable pub appending : Bits → Op
 unfolding movedUp
 appending o c b = within c (joined o b)
 
--- `split_off` of the bitmap of n words in ws: the tail in the store ts, 1 and 2 for each store in order
-unfoldable pub tailOutcome : ℕ → List ℕ → ℕ → List ℕ → Outcome
+-- `split_off` of the bitmap b in ws: the tail in the store ts, which has no earlier count, 1 and 2 for each store in order
+unfoldable pub tailOutcome : ℕ → List ℕ → Bitmap → List ℕ → Outcome
 unfolding checked view lowered
-tailOutcome at ws n ts = checked (length ws) n refused (checked (length ts) 0 refused (within (length ts) (lowered at (view ws n))))
+tailOutcome at ws b ts = checked ws b refused (checked ts noWords refused (within (spaceOf ts) (lowered at (held ws b))))
 
 -- the head is cut only where the tail has space
-unfoldable pub headOutcome : ℕ → List ℕ → ℕ → List ℕ → Outcome
+unfoldable pub headOutcome : ℕ → List ℕ → Bitmap → List ℕ → Outcome
 unfolding tailOutcome truncated andThen view
-headOutcome at ws n ts = andThen (tailOutcome at ws n ts) (λ t. done (truncated at (view ws n)))
+headOutcome at ws b ts = andThen (tailOutcome at ws b ts) (λ t. done (truncated at (held ws b)))
 
 unfoldable pub splitAnswer : Outcome → Outcome → Bitmap → Split
 splitAnswer (refused e) t b = Refused e b
 splitAnswer (done h) (refused e) b = Refused e b
-splitAnswer (done h) (done t) b = Done (record { count = h .count }) (record { count = t .count })
+splitAnswer (done h) (done t) b = Done (withCount b (h .count)) (withCount noWords (t .count))
 
 -- of an answer its number, 0 for done, the head's record and the tail's count, 0 where it is refused
 abbrev pub splitNumber : Split → ℕ
@@ -94,6 +93,6 @@ splitTail (Refused e b) = 0
 
 -- a call that splits the bitmap b of the store ws at a bit: it answers r, leaves ws' and puts the tail into ts, which becomes ts'
 pub record Splits (at : ℕ) (ws : List ℕ) (b : Bitmap) (ts : List ℕ) (r : Split) (ws' ts' : List ℕ) : Type 0 where
-  pub answers : r ≡ splitAnswer (headOutcome at ws (b .count) ts) (tailOutcome at ws (b .count) ts) b
-  pub head : ws' ≡ store (headOutcome at ws (b .count) ts) ws (b .count)
-  pub tail : ts' ≡ store (tailOutcome at ws (b .count) ts) ts 0
+  pub answers : r ≡ splitAnswer (headOutcome at ws b ts) (tailOutcome at ws b ts) b
+  pub head : ws' ≡ store (headOutcome at ws b ts) ws (b .count)
+  pub tail : ts' ≡ store (tailOutcome at ws b ts) ts 0

@@ -24,7 +24,7 @@ pub fn toggle(words: &mut [u64], b: Bitmap, i: usize) -> Change
     ensures { λ r. ⌜ Changes (toggling i) (now (words .entry)) b r (now (words .exit)) ⌝ }
 {
     let n = b.count;
-    match storage::check(words.len(), n) {
+    match storage::check(words, b) {
         Guard::Stop(e) => return Change::Refused(e, b),
         Guard::Pass => {}
     }
@@ -36,6 +36,7 @@ pub fn toggle(words: &mut [u64], b: Bitmap, i: usize) -> Change
     words[k] = words[k] ^ Word::bit(i);
     Change::Done(Bitmap {
         count: word::max(n, k + 1),
+        ..b
     })
 }
 
@@ -56,7 +57,7 @@ pub fn toggle_region(words: &mut [u64], b: Bitmap, i: usize, k: usize) -> Change
     ensures { λ r. ⌜ Changes (togglingRegion i k) (now (words .entry)) b r (now (words .exit)) ⌝ }
 {
     let n = b.count;
-    match storage::check(words.len(), n) {
+    match storage::check(words, b) {
         Guard::Stop(e) => return Change::Refused(e, b),
         Guard::Pass => {}
     }
@@ -75,6 +76,7 @@ pub fn toggle_region(words: &mut [u64], b: Bitmap, i: usize, k: usize) -> Change
     flip_region(words, i, last);
     Change::Done(Bitmap {
         count: word::max(n, w + 1),
+        ..b
     })
 }
 
@@ -98,7 +100,7 @@ pub fn shift_left(words: &mut [u64], b: Bitmap, k: usize) -> Change
     storage::grow(words, n, w + 1);
     let m = word::max(n, w + 1);
     shift::left_words(&mut words[..m], k);
-    Change::Done(Bitmap { count: m })
+    Change::Done(Bitmap { count: m, ..b })
 }
 
 // Moves every bit k down; drops trailing zero words.
@@ -106,13 +108,14 @@ pub fn shift_right(words: &mut [u64], b: Bitmap, k: usize) -> Change
     ensures { λ r. ⌜ Changes (lowering k) (now (words .entry)) b r (now (words .exit)) ⌝ }
 {
     let n = b.count;
-    match storage::check(words.len(), n) {
+    match storage::check(words, b) {
         Guard::Stop(e) => return Change::Refused(e, b),
         Guard::Pass => {}
     }
     shift::right_words(&mut words[..n], k);
     Change::Done(Bitmap {
         count: arch::nonzero_len(&words[..n]),
+        ..b
     })
 }
 
@@ -121,13 +124,14 @@ pub fn truncate_bits(words: &mut [u64], b: Bitmap, k: usize) -> Change
     ensures { λ r. ⌜ Changes (truncating k) (now (words .entry)) b r (now (words .exit)) ⌝ }
 {
     let n = b.count;
-    match storage::check(words.len(), n) {
+    match storage::check(words, b) {
         Guard::Stop(e) => return Change::Refused(e, b),
         Guard::Pass => {}
     }
     arch::fill_region(&mut words[..n], k, 64 * n, false);
     Change::Done(Bitmap {
         count: arch::nonzero_len(&words[..n]),
+        ..b
     })
 }
 
@@ -136,7 +140,7 @@ pub fn resize_bits(words: &mut [u64], b: Bitmap, k: usize) -> Change
     ensures { λ r. ⌜ Changes (resizing k) (now (words .entry)) b r (now (words .exit)) ⌝ }
 {
     let n = b.count;
-    match storage::check(words.len(), n) {
+    match storage::check(words, b) {
         Guard::Stop(e) => return Change::Refused(e, b),
         Guard::Pass => {}
     }
@@ -147,12 +151,12 @@ pub fn resize_bits(words: &mut [u64], b: Bitmap, k: usize) -> Change
     storage::grow(words, n, need);
     let m = word::max(n, need);
     arch::fill_region(&mut words[..m], k, 64 * m, false);
-    Change::Done(Bitmap { count: need })
+    Change::Done(Bitmap { count: need, ..b })
 }
 
 // The words that the bits from `at` on need, counted from 0.
 fn tail_len(words: &[u64], b: Bitmap, at: usize) -> Number
-    ensures { λ r. ⌜ r ≡ reading (now (words .entry)) (b .count) Number.Refused (λ s. Number.Is (lowered at s .count)) ⌝ }
+    ensures { λ r. ⌜ r ≡ reading (now (words .entry)) b Number.Refused (λ s. Number.Is (lowered at s .count)) ⌝ }
 {
     match slice::last_set(words, b) {
         Found::Refused(e) => Number::Refused(e),
@@ -195,7 +199,7 @@ pub fn split_off(words: &mut [u64], b: Bitmap, at: usize, tail: &mut [u64]) -> S
         Number::Refused(e) => return Split::Refused(e, b),
         Number::Is(m) => m,
     };
-    match storage::check(tail.len(), 0) {
+    match storage::check(tail, storage::EMPTY) {
         Guard::Stop(e) => return Split::Refused(e, b),
         Guard::Pass => {}
     }
@@ -206,8 +210,15 @@ pub fn split_off(words: &mut [u64], b: Bitmap, at: usize, tail: &mut [u64]) -> S
     arch::fill_region(&mut words[..n], at, 64 * n, false);
     let head = Bitmap {
         count: arch::nonzero_len(&words[..n]),
+        ..b
     };
-    Split::Done(head, Bitmap { count: m })
+    Split::Done(
+        head,
+        Bitmap {
+            count: m,
+            ..storage::EMPTY
+        },
+    )
 }
 
 // The first m words of `other`, at index n on.
@@ -224,15 +235,11 @@ fn copy_words(words: &mut [u64], n: usize, other: &[u64], m: usize)
 
 // The second bitmap behind the first, at a word boundary.
 pub fn append(words: &mut [u64], b: Bitmap, other: &[u64], o: Bitmap) -> Change
-    ensures { λ r. ⌜ Changes (beside (now (other .entry)) (o .count) appending) (now (words .entry)) b r (now (words .exit)) ⌝ }
+    ensures { λ r. ⌜ Changes (beside (now (other .entry)) o appending) (now (words .entry)) b r (now (words .exit)) ⌝ }
 {
     let n = b.count;
     let m = o.count;
-    match storage::check(words.len(), n) {
-        Guard::Stop(e) => return Change::Refused(e, b),
-        Guard::Pass => {}
-    }
-    match storage::check(other.len(), m) {
+    match storage::check_two(words, b, other, o) {
         Guard::Stop(e) => return Change::Refused(e, b),
         Guard::Pass => {}
     }
@@ -240,5 +247,5 @@ pub fn append(words: &mut [u64], b: Bitmap, other: &[u64], o: Bitmap) -> Change
         return Change::Refused(Refusal::NoSpace, b);
     }
     copy_words(words, n, other, m);
-    Change::Done(Bitmap { count: n + m })
+    Change::Done(Bitmap { count: n + m, ..b })
 }

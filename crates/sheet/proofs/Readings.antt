@@ -16,10 +16,13 @@ use Rattle.word.specs.Bits.{member, wordOf, tabFrom}
 use Rattle.word.proofs.Cases.{by-lt}
 use Rattle.word.proofs.Lists.{past, length-tab, tab-at, tab-is}
 use Rattle.storage.specs.Refusals.{numberOf}
-use Rattle.storage.specs.Stores.{Bits, limit, view, wordAt, written, zeroed}
+use Rattle.storage.specs.Stores.{Bits, Space, noWords, spaceOf, view, held, wordAt, written, zeroed}
+use Rattle.storage.specs.Guards.{Stopped, Passed}
+use Rattle.storage.specs.declared.Bitmap.{Bitmap}
 use Rattle.storage.specs.declared.Refusal.{Refusal}
-use Rattle.storage.specs.declared.Refusal.the-variants.{StoreTooLong, CountOverStore, NoSpace, NoEdition}
-use Rattle.storage.proofs.Checks.{checked-ok, checked-long, checked-over}
+use Rattle.storage.specs.declared.Refusal.the-variants.{NoSpace, NoEdition}
+use Rattle.storage.proofs.Checks.{checked-ok, refuses, stop-number, passed-as}
+use Rattle.storage.proofs.Checks as checks
 use Rattle.storage.proofs.Stores.{length-zeroed, zeroed-in}
 use Rattle.storage.proofs.Views.{bounded-view, view-count}
 use Rattle.storage.proofs.Promises.{each-number-once, space-rules}
@@ -28,7 +31,7 @@ use Rattle.sheet.specs.Reader.{Turn, stop, next, Answer, refused, done, 
 use Rattle.sheet.specs.Meaning.{AtRecord, Newer, Fails, Applies, not-sheet, unfit, cut, newer, bad, fails, remain, Accepted, Due, Holds}
 use Rattle.sheet.specs.Paper.{IsEdition}
 use Rattle.sheet.specs.Reads.{editionOf, latest, isEdition, fitting, Course, stopped, went, course, readAnswer, readStore, Reads, readingNumber, readingRecord, readingCount}
-use Rattle.sheet.specs.Promises.{Passes, Stops, no-edition, long, over, result-long, Gets, stops, applies, accepted, NamesNewer, Made, ReadingMeans, ReadsMean, Alike, KeepsMeaning}
+use Rattle.sheet.specs.Promises.{Passes, Stops, no-edition, old-stopped, result-stopped, Gets, stops, applies, accepted, NamesNewer, Made, ReadingMeans, ReadsMean, Alike, KeepsMeaning}
 use Rattle.sheet.specs.declared.Reading.{Reading}
 use Rattle.sheet.proofs.Turns.{none-some, stop-next, stop-inj, next-inj, take-true, take-false}
 use Rattle.sheet.proofs.Exact.{refusal-of, exact}
@@ -58,57 +61,52 @@ edition? n = go (ℕ-discrete n 1) (ℕ-discrete n 2)
     go (no a) (yes b) = yes (inr b)
     go (no a) (no b) = no (λ h. elim h [ inl e ↦ a e | inr e ↦ b e ])
 
-module _ (n : ℕ) (ws : List ℕ) (m c : ℕ) where
+module _ (n : ℕ) (ws : List ℕ) (b : Bitmap) (res : List ℕ) where
+  abbrev space : Space
+  space = spaceOf res
+
   -- one of them stops the reading, or it passes
-  which-way : ((x : ℕ) × Stops n ws m c x) ⊎ Passes n ws m c
-  which-way = go (edition? n)
+  which-way : ((x : ℕ) × Stops n ws b res x) ⊎ Passes n ws b res
+  which-way = go (edition? n) (checks.which-way ws b) (checks.which-way res noWords)
     where
-      go : Dec (IsEdition n) → ((x : ℕ) × Stops n ws m c x) ⊎ Passes n ws m c
-      go (no h) = inl (14, no-edition h refl)
-      go (yes h) =
-          by-lt limit (length ws)
-          (λ l. inl (1, long h l refl))
-          (λ l. by-lt (length ws) m
-          (λ k. inl (2, over h l k refl))
-          (λ k. by-lt limit c
-          (λ q. inl (1, result-long h l k q refl))
-          (λ q. inr (record { edition = h; short = l; inside = k; result = q }))))
+      go : Dec (IsEdition n) → ((x : ℕ) × Stopped ws b x) ⊎ Passed ws b → ((x : ℕ) × Stopped res noWords x) ⊎ Passed res noWords
+          → ((x : ℕ) × Stops n ws b res x) ⊎ Passes n ws b res
+      go (no h) o q = inl (14, no-edition h refl)
+      go (yes h) (inl (x, s)) q = inl (x, old-stopped h s)
+      go (yes h) (inr p) (inl (x, s)) = inl (x, result-stopped h p s)
+      go (yes h) (inr p) (inr q) = inr (record { edition = h; old = p; result = q })
 
   -- none of them is done or a newer kind
-  stops-number : (x : ℕ) → Stops n ws m c x → (0 < x) × (x ≡ 13 → ⊥)
+  stops-number : (x : ℕ) → Stops n ws b res x → (0 < x) × (x ≡ 13 → ⊥)
   stops-number x (no-edition h q) = (omega arith, λ z. omega arith)
-  stops-number x (long h l q) = (omega arith, λ z. omega arith)
-  stops-number x (over h l k q) = (omega arith, λ z. omega arith)
-  stops-number x (result-long h l k t q) = (omega arith, λ z. omega arith)
+  stops-number x (old-stopped h s) = stop-number ws b x s
+  stops-number x (result-stopped h p s) = stop-number res noWords x s
 
   module _ (sheet : List ℕ) where
     abbrev reading : Answer Bits
-    reading = read (editionOf c n) sheet (fitting c (view ws m))
+    reading = read (editionOf space n) sheet (fitting space (held ws b))
 
-    pub course-passes : Passes n ws m c → course n sheet ws m c ≡ went reading
+    pub course-passes : Passes n ws b res → course n sheet ws b res ≡ went reading
     unfolding course
     course-passes p =
-        take-true _ _ (edition-true n (p .edition)) ∙ checked-ok (length ws) m stopped _ (p .short) (p .inside)
-        ∙ checked-ok c 0 stopped (went reading) (p .result) (omega arith)
+        take-true _ _ (edition-true n (p .edition)) ∙ checked-ok ws b stopped _ (p .old)
+        ∙ checked-ok res noWords stopped (went reading) (p .result)
 
     -- stopped, by that number
     pub record Halts (x : ℕ) : Type 0 where
       pub why : Refusal
-      pub is : course n sheet ws m c ≡ stopped why
+      pub is : course n sheet ws b res ≡ stopped why
       pub number : numberOf why ≡ x
 
-    course-stops : (x : ℕ) → Stops n ws m c x → Halts x
+    course-stops : (x : ℕ) → Stops n ws b res x → Halts x
     unfolding course
     course-stops x (no-edition h q) = record { why = NoEdition; is = take-false _ _ (edition-false n h); number = sym q }
-    course-stops x (long h l q) =
-        record { why = StoreTooLong; is = take-true _ _ (edition-true n h) ∙ checked-long (length ws) m stopped _ l; number = sym q }
-    course-stops x (over h l k q) =
-        record { why = CountOverStore; is = take-true _ _ (edition-true n h) ∙ checked-over (length ws) m stopped _ l k; number = sym q }
-    course-stops x (result-long h l k t q) = record {
-      why = StoreTooLong;
-      is = take-true _ _ (edition-true n h) ∙ checked-ok (length ws) m stopped _ l k ∙ checked-long c 0 stopped (went reading) t;
-      number = sym q;
-    }
+    course-stops x (old-stopped h s) =
+        let t = refuses ws b x s in
+        record { why = t .why; is = take-true _ _ (edition-true n h) ∙ t .is _ stopped _; number = t .number }
+    course-stops x (result-stopped h p s) =
+        let t = refuses res noWords x s in
+        record { why = t .why; is = take-true _ _ (edition-true n h) ∙ checked-ok ws b stopped _ p ∙ t .is _ stopped (went reading); number = t .number }
 
 -- ---- what is answered and left
 
@@ -133,80 +131,80 @@ kept-start ws m c s q =
     (λ l. subst (Kept c) (next-inj (sym (fits-old ws m c l) ∙ q))
     (record { bounded = bounded-view ws m; space = subst (λ (x : ℕ). x ≤ c) (sym (view-count ws m)) l }))
 
-module _ (n : ℕ) (sheet ws : List ℕ) (m : ℕ) (res : List ℕ) (r : Reading) (res' : List ℕ) (h : Reads n sheet ws m res r res') where
+module _ (n : ℕ) (sheet ws : List ℕ) (b : Bitmap) (res : List ℕ) (r : Reading) (res' : List ℕ) (h : Reads n sheet ws b res r res') where
   abbrev c : ℕ
   c = length res
 
   abbrev answer : Answer Bits
-  answer = read (editionOf c n) sheet (fitting c (view ws m))
+  answer = read (editionOf c n) sheet (fitting c (held ws b))
 
-  passed : Passes n ws m c → r ≡ readAnswer (went answer)
-  passed p = h .answers ∙ ap readAnswer (course-passes n ws m c sheet p)
+  passed : Passes n ws b res → r ≡ readAnswer (went answer)
+  passed p = h .answers ∙ ap readAnswer (course-passes n ws b res sheet p)
 
-  left : Passes n ws m c → res' ≡ readStore (went answer) res
-  left p = h .leaves ∙ ap (λ (x : Course). readStore x res) (course-passes n ws m c sheet p)
+  left : Passes n ws b res → res' ≡ readStore (went answer) res
+  left p = h .leaves ∙ ap (λ (x : Course). readStore x res) (course-passes n ws b res sheet p)
 
-  halted : (x : ℕ) → Stops n ws m c x → Says r x 0 0
+  halted : (x : ℕ) → Stops n ws b res x → Says r x 0 0
   halted x s =
-      let a = course-stops n ws m c sheet x s in
+      let a = course-stops n ws b res sheet x s in
       let q = h .answers ∙ ap readAnswer (a .is) in
       (ap readingNumber q ∙ a .number, ap readingRecord q, ap readingCount q)
 
-  untouched : (x : ℕ) → Stops n ws m c x → res' ≡ res
-  untouched x s = h .leaves ∙ ap (λ (y : Course). readStore y res) (course-stops n ws m c sheet x s .is)
+  untouched : (x : ℕ) → Stops n ws b res x → res' ≡ res
+  untouched x s = h .leaves ∙ ap (λ (y : Course). readStore y res) (course-stops n ws b res sheet x s .is)
 
-  says-refused : (e : Refusal) (k : ℕ) → Passes n ws m c → answer ≡ refused e k → Says r (numberOf e) k 0
+  says-refused : (e : Refusal) (k : ℕ) → Passes n ws b res → answer ≡ refused e k → Says r (numberOf e) k 0
   says-refused e k p a = let q = passed p ∙ ap (λ (x : Answer Bits). readAnswer (went x)) a in (ap readingNumber q, ap readingRecord q, ap readingCount q)
 
-  says-done : (k : ℕ) (s : Bits) → Passes n ws m c → answer ≡ done k s → Says r 0 k (s .count)
+  says-done : (k : ℕ) (s : Bits) → Passes n ws b res → answer ≡ done k s → Says r 0 k (s .count)
   says-done k s p a = let q = passed p ∙ ap (λ (x : Answer Bits). readAnswer (went x)) a in (ap readingNumber q, ap readingRecord q, ap readingCount q)
 
   -- what it says is due
-  due : Gets n sheet ws m c (readingNumber r) (readingRecord r) (readingCount r)
-  due = go (which-way n ws m c)
+  due : Gets n sheet ws b res (readingNumber r) (readingRecord r) (readingCount r)
+  due = go (which-way n ws b res)
     where
-      is-answer : (x : Answer Bits) → answer ≡ x → Due (editionOf c n) sheet (fitting c (view ws m)) x
-      is-answer x a = exact _ _ (editionOf c n) sheet (fitting c (view ws m)) x .0 a
+      is-answer : (x : Answer Bits) → answer ≡ x → Due (editionOf c n) sheet (fitting c (held ws b)) x
+      is-answer x a = exact _ _ (editionOf c n) sheet (fitting c (held ws b)) x .0 a
 
-      on : Passes n ws m c → (x : Answer Bits) → answer ≡ x → Gets n sheet ws m c (readingNumber r) (readingRecord r) (readingCount r)
+      on : Passes n ws b res → (x : Answer Bits) → answer ≡ x → Gets n sheet ws b res (readingNumber r) (readingRecord r) (readingCount r)
       on p (refused e k) a = let (x, y, z) = says-refused e k p a in rw (x, y, z) (applies p (is-answer (refused e k) a) refl)
       on p (done k s) a = let (x, y, z) = says-done k s p a in rw (x, y, z) (accepted p s (is-answer (done k s) a) refl refl)
 
-      go : ((x : ℕ) × Stops n ws m c x) ⊎ Passes n ws m c → Gets n sheet ws m c (readingNumber r) (readingRecord r) (readingCount r)
+      go : ((x : ℕ) × Stops n ws b res x) ⊎ Passes n ws b res → Gets n sheet ws b res (readingNumber r) (readingRecord r) (readingCount r)
       go (inl (x, s)) = let (a, b, d) = halted x s in rw (a, b, d) (stops s refl refl)
       go (inr p) = on p answer refl
 
   -- and what is due it says
-  said : (x k t : ℕ) → Gets n sheet ws m c x k t → Says r x k t
+  said : (x k t : ℕ) → Gets n sheet ws b res x k t → Says r x k t
   said x k t (stops s z y) = let (a, b, d) = halted x s in (a, b ∙ sym z, d ∙ sym y)
   said x k t (applies p a y) =
-      let (e, q) = refusal-of (editionOf c n) sheet (fitting c (view ws m)) x k a in
-      let g : Applies (editionOf c n) sheet (fitting c (view ws m)) (numberOf e) k = subst (λ (x : ℕ). Applies (editionOf c n) sheet (fitting c (view ws m)) x k) (sym q) a in
-      let (u, v, w) = says-refused e k p (exact _ _ (editionOf c n) sheet (fitting c (view ws m)) (refused e k) .1 g) in
+      let (e, q) = refusal-of (editionOf c n) sheet (fitting c (held ws b)) x k a in
+      let g : Applies (editionOf c n) sheet (fitting c (held ws b)) (numberOf e) k = subst (λ (x : ℕ). Applies (editionOf c n) sheet (fitting c (held ws b)) x k) (sym q) a in
+      let (u, v, w) = says-refused e k p (exact _ _ (editionOf c n) sheet (fitting c (held ws b)) (refused e k) .1 g) in
       (u ∙ q, v, w ∙ sym y)
   said x k t (accepted p s a z y) =
-      let (u, v, w) = says-done k s p (exact _ _ (editionOf c n) sheet (fitting c (view ws m)) (done k s) .1 a) in
+      let (u, v, w) = says-done k s p (exact _ _ (editionOf c n) sheet (fitting c (held ws b)) (done k s) .1 a) in
       (u ∙ sym z, v, w ∙ sym y)
 
-  answer-exact : (x k t : ℕ) → Says r x k t ↔ Gets n sheet ws m c x k t
+  answer-exact : (x k t : ℕ) → Says r x k t ↔ Gets n sheet ws b res x k t
   answer-exact x k t = ((λ q. rw (← (q .0), ← (q .1), ← (q .2)) due), said x k t)
 
-  makes : readingNumber r ≡ 0 → Made n sheet ws m res (readingRecord r) (readingCount r) res'
-  makes q = go (which-way n ws m c)
+  makes : readingNumber r ≡ 0 → Made n sheet ws b res (readingRecord r) (readingCount r) res'
+  makes q = go (which-way n ws b res)
     where
-      on : Passes n ws m c → (x : Answer Bits) → answer ≡ x → Made n sheet ws m res (readingRecord r) (readingCount r) res'
+      on : Passes n ws b res → (x : Answer Bits) → answer ≡ x → Made n sheet ws b res (readingRecord r) (readingCount r) res'
       on p (refused e k) a = absurd (positive e (sym (says-refused e k p a .0) ∙ q))
       on p (done k s) a =
           let (u, v, w) = says-done k s p a in
-          let t = exact _ _ (editionOf c n) sheet (fitting c (view ws m)) (done k s) .0 a in
-          let start = kept-start ws m c (t .reached .from) (t .reached .fits) in
+          let t = exact _ _ (editionOf c n) sheet (fitting c (held ws b)) (done k s) .0 a in
+          let start = kept-start ws (b .count) c (t .reached .from) (t .reached .fits) in
           let kept : Kept c s = subst (Kept c) (t .makes) (effect-kept c n _ (t .reached .from) (t .reached .state) start (t .reached .applied)) in
           let stored : res' ≡ written res c s = left p ∙ ap (λ (x : Answer Bits). readStore (went x) res) a in
           let rules = space-rules res c s (kept .space) (omega arith) in
           record {
             passes = p;
             state = s;
-            accepted = subst (λ (j : ℕ). Accepted (editionOf c n) sheet (fitting c (view ws m)) j s) (sym v) t;
+            accepted = subst (λ (j : ℕ). Accepted (editionOf c n) sheet (fitting c (held ws b)) j s) (sym v) t;
             count = w;
             space = subst (λ (x : ℕ). x ≤ c) (sym w) (kept .space);
             bounded = kept .bounded;
@@ -218,31 +216,31 @@ module _ (n : ℕ) (sheet ws : List ℕ) (m : ℕ) (res : List ℕ) (r : Reading
                 (λ v. past res' j (omega (arith, ap length stored ∙ rules .long)));
           }
 
-      go : ((x : ℕ) × Stops n ws m c x) ⊎ Passes n ws m c → Made n sheet ws m res (readingRecord r) (readingCount r) res'
-      go (inl (x, s)) = absurd (omega (arith, stops-number n ws m c x s .0, halted x s .0))
+      go : ((x : ℕ) × Stops n ws b res x) ⊎ Passes n ws b res → Made n sheet ws b res (readingRecord r) (readingCount r) res'
+      go (inl (x, s)) = absurd (omega (arith, stops-number n ws b res x s .0, halted x s .0))
       go (inr p) = on p answer refl
 
   -- a step of the table has no other number than 6, so 13 is the newer kind's alone
-  newer-exact : (k : ℕ) → ((readingNumber r ≡ 13) × (readingRecord r ≡ k)) ↔ NamesNewer n sheet ws m c k
-  newer-exact k = ((λ q. to (subst (λ (j : ℕ). Gets n sheet ws m c (readingNumber r) j (readingCount r)) (q .1) due) (q .0)), λ a. back a)
+  newer-exact : (k : ℕ) → ((readingNumber r ≡ 13) × (readingRecord r ≡ k)) ↔ NamesNewer n sheet ws b res k
+  newer-exact k = ((λ q. to (subst (λ (j : ℕ). Gets n sheet ws b res (readingNumber r) j (readingCount r)) (q .1) due) (q .0)), λ a. back a)
     where
       old : Turn Bits
-      old = fitting c (view ws m)
+      old = fitting c (held ws b)
 
-      step-fails : Passes n ws m c → (why : Refusal) (a : AtRecord (editionOf c n) sheet old k (Fails (editionOf c n) sheet why)) → numberOf why ≡ 6
+      step-fails : Passes n ws b res → (why : Refusal) (a : AtRecord (editionOf c n) sheet old k (Fails (editionOf c n) sheet why)) → numberOf why ≡ 6
       step-fails p why a =
           let (q, _, e, asks, f) = a .here in
           let g = a .reached in
-          let kept : Kept c (g .state) = effect-kept c n (g .edits) (g .from) (g .state) (kept-start ws m c (g .from) (g .fits)) (g .applied) in
-          step-stops c n (suc (a .index)) e (g .state) why (p .result) kept (asks-ranged n c q e asks) f
+          let kept : Kept c (g .state) = effect-kept c n (g .edits) (g .from) (g .state) (kept-start ws (b .count) c (g .from) (g .fits)) (g .applied) in
+          step-stops c n (suc (a .index)) e (g .state) why (p .result .short) kept (asks-ranged n c q e asks) f
 
       unfits : (why : Refusal) → old ≡ stop why → numberOf why ≡ 6
       unfits why q =
-          by-lt c m
-          (λ l. let z : why ≡ NoSpace = stop-inj (sym q ∙ fits-not ws m c l) in ap numberOf z)
-          (λ l. absurd (stop-next (sym q ∙ fits-old ws m c l)))
+          by-lt c (b .count)
+          (λ l. let z : why ≡ NoSpace = stop-inj (sym q ∙ fits-not ws (b .count) c l) in ap numberOf z)
+          (λ l. absurd (stop-next (sym q ∙ fits-old ws (b .count) c l)))
 
-      on : (x : ℕ) → Passes n ws m c → Applies (editionOf c n) sheet old x k → x ≡ 13 → NamesNewer n sheet ws m c k
+      on : (x : ℕ) → Passes n ws b res → Applies (editionOf c n) sheet old x k → x ≡ 13 → NamesNewer n sheet ws b res k
       on x p (not-sheet g q z) e = absurd (omega arith)
       on x p (unfit g why u q z) e = absurd (omega (arith, unfits why u))
       on x p (cut a q) e = absurd (omega arith)
@@ -251,15 +249,15 @@ module _ (n : ℕ) (sheet ws : List ℕ) (m : ℕ) (res : List ℕ) (r : Reading
       on x p (fails why a q) e = absurd (omega (arith, step-fails p why a))
       on x p (remain g l q z) e = absurd (omega arith)
 
-      to : {x t : ℕ} → Gets n sheet ws m c x k t → x ≡ 13 → NamesNewer n sheet ws m c k
-      to {x} (stops s z y) e = absurd (stops-number n ws m c x s .1 e)
+      to : {x t : ℕ} → Gets n sheet ws b res x k t → x ≡ 13 → NamesNewer n sheet ws b res k
+      to {x} (stops s z y) e = absurd (stops-number n ws b res x s .1 e)
       to {x} (applies p a y) e = on x p a e
       to (accepted p s a z y) e = absurd (omega arith)
 
-      back : NamesNewer n sheet ws m c k → (readingNumber r ≡ 13) × (readingRecord r ≡ k)
+      back : NamesNewer n sheet ws b res k → (readingNumber r ≡ 13) × (readingRecord r ≡ k)
       back a = let (u, v, w) = said 13 k 0 (applies (a .0) (newer (a .1) refl) refl) in (u, v)
 
-  cleared : Passes n ws m c → 0 < readingNumber r → (length res' ≡ length res) × ((j : ℕ) → getD res' j 0 ≡ 0)
+  cleared : Passes n ws b res → 0 < readingNumber r → (length res' ≡ length res) × ((j : ℕ) → getD res' j 0 ≡ 0)
   cleared p l = go answer refl
     where
       go : (x : Answer Bits) → answer ≡ x → (length res' ≡ length res) × ((j : ℕ) → getD res' j 0 ≡ 0)
@@ -269,12 +267,12 @@ module _ (n : ℕ) (sheet ws : List ℕ) (m : ℕ) (res : List ℕ) (r : Reading
           (l, λ j. by-lt j c (λ u. ap (λ (x : List ℕ). getD x j 0) w ∙ zeroed-in 0 c res j (omega arith) u) (λ u. past res' j (omega arith)))
       go (done k s) a = absurd (omega (arith, says-done k s p a .0))
 
-  means : ReadingMeans n sheet ws m res r res'
+  means : ReadingMeans n sheet ws b res r res'
   means = record {
     made = makes;
     exact = answer-exact;
-    fits = fits-old ws m c;
-    lacks = λ l. (NoSpace, fits-not ws m c l, refl);
+    fits = fits-old ws (b .count) c;
+    lacks = λ l. (NoSpace, fits-not ws (b .count) c l, refl);
     newer = newer-exact;
     untouched = untouched;
     cleared = cleared;
@@ -321,58 +319,58 @@ same-store (done k s) xs ys e = same-written s xs ys e
 
 -- (b), of editions 1 and 2 and of any two of the table
 pub keeps-meaning : KeepsMeaning
-keeps-meaning e f ge gf l sheet ws m res₁ res₂ size words r₁ r₂ res₁' res₂' h₁ h₂ = go (which-way e ws m (length res₁))
+keeps-meaning e f ge gf l sheet ws b res₁ res₂ size words r₁ r₂ res₁' res₂' h₁ h₂ = go (which-way e ws b res₁)
   where
     c : ℕ
     c = length res₁
 
-    later : Passes e ws m c → Passes f ws m (length res₂)
-    later p = record { edition = gf; short = p .short; inside = p .inside; result = subst (λ (x : ℕ). x ≤ limit) size (p .result) }
+    later : Passes e ws b res₁ → Passes f ws b res₂
+    later p = record { edition = gf; old = p .old; result = passed-as res₁ res₂ noWords 0 (sym size) (omega arith) (p .result) }
 
-    also : (x : ℕ) → Stops e ws m c x → Stops f ws m (length res₂) x
+    also : (x : ℕ) → Stops e ws b res₁ x → Stops f ws b res₂ x
     also x (no-edition g q) = absurd (g ge)
-    also x (long g u q) = long gf u q
-    also x (over g u v q) = over gf u v q
-    also x (result-long g u v w q) = result-long gf u v (subst (λ (y : ℕ). limit < y) size w) q
+    also x (old-stopped g s) = old-stopped gf s
+    also x (result-stopped g p s) = result-stopped gf p (subst (λ (y : List ℕ). Stopped y noWords x) (words x (result-stopped g p s)) s)
 
     earlier : Answer Bits
-    earlier = read (editionOf c e) sheet (fitting c (view ws m))
+    earlier = read (editionOf c e) sheet (fitting c (held ws b))
 
-    first : Passes e ws m c → course e sheet ws m c ≡ went earlier
-    first p = course-passes e ws m c sheet p
+    first : Passes e ws b res₁ → course e sheet ws b res₁ ≡ went earlier
+    first p = course-passes e ws b res₁ sheet p
 
-    second : Passes e ws m c → course f sheet ws m (length res₂) ≡ went (read (editionOf c f) sheet (fitting c (view ws m)))
+    second : Passes e ws b res₁ → course f sheet ws b res₂ ≡ went (read (editionOf c f) sheet (fitting c (held ws b)))
     second p =
-        course-passes f ws m (length res₂) sheet (later p)
-        ∙ ap (λ (x : ℕ). went (read (editionOf x f) sheet (fitting x (view ws m)))) (sym size)
+        course-passes f ws b res₂ sheet (later p)
+        ∙ ap (λ (x : ℕ). went (read (editionOf x f) sheet (fitting x (held ws b)))) (sym size)
 
-    answered : Passes e ws m c → r₁ ≡ readAnswer (went earlier)
+    answered : Passes e ws b res₁ → r₁ ≡ readAnswer (went earlier)
     answered p = h₁ .answers ∙ ap readAnswer (first p)
 
     Ends : Type 0
-    Ends = (Alike r₁ r₂ × (res₁' ≡ res₂')) ⊎ ((readingNumber r₁ ≡ 13) × NamesNewer e sheet ws m c (readingRecord r₁))
+    Ends = (Alike r₁ r₂ × (res₁' ≡ res₂')) ⊎ ((readingNumber r₁ ≡ 13) × NamesNewer e sheet ws b res₁ (readingRecord r₁))
 
-    compare : Passes e ws m c
-        → (earlier ≡ read (editionOf c f) sheet (fitting c (view ws m)))
-        ⊎ ((why : Refusal) × (k : ℕ) × (earlier ≡ refused why k) × (numberOf why ≡ 13) × AtRecord (editionOf c e) sheet (fitting c (view ws m)) k (Newer (editionOf c e) sheet))
+    compare : Passes e ws b res₁
+        → (earlier ≡ read (editionOf c f) sheet (fitting c (held ws b))) ⊎
+        ((why : Refusal) × (k : ℕ) × (earlier ≡ refused why k) × (numberOf why ≡ 13) × AtRecord (editionOf c e) sheet (fitting c (held ws b)) k
+        (Newer (editionOf c e) sheet))
         → Ends
     compare p (inl q) =
         let same : r₁ ≡ r₂ = answered p ∙ ap (λ (x : Answer Bits). readAnswer (went x)) q ∙ sym (h₂ .answers ∙ ap readAnswer (second p)) in
         inl (
           (ap readingNumber same, ap readingRecord same, ap readingCount same),
-          h₁ .leaves ∙ ap (λ (y : Course). readStore y res₁) (first p ∙ ap went q) ∙ same-store (read (editionOf c f) sheet (fitting c (view ws m))) res₁ res₂ size
+          h₁ .leaves ∙ ap (λ (y : Course). readStore y res₁) (first p ∙ ap went q) ∙ same-store (read (editionOf c f) sheet (fitting c (held ws b))) res₁ res₂ size
               ∙ sym (h₂ .leaves ∙ ap (λ (y : Course). readStore y res₂) (second p)),
         )
     compare p (inr (why, k, q, x, a)) =
         let is : r₁ ≡ readAnswer (went (refused why k)) = answered p ∙ ap (λ (y : Answer Bits). readAnswer (went y)) q in
-        inr (ap readingNumber is ∙ x, (p, subst (λ (j : ℕ). AtRecord (editionOf c e) sheet (fitting c (view ws m)) j (Newer (editionOf c e) sheet)) (sym (ap readingRecord is)) a))
+        inr (ap readingNumber is ∙ x, (p, subst (λ (j : ℕ). AtRecord (editionOf c e) sheet (fitting c (held ws b)) j (Newer (editionOf c e) sheet)) (sym (ap readingRecord is)) a))
 
-    go : ((x : ℕ) × Stops e ws m c x) ⊎ Passes e ws m c → Ends
+    go : ((x : ℕ) × Stops e ws b res₁ x) ⊎ Passes e ws b res₁ → Ends
     go (inl (x, s)) =
-        let (a, b, d) = halted e sheet ws m res₁ r₁ res₁' h₁ x s in
-        let (a′, b′, d′) = halted f sheet ws m res₂ r₂ res₂' h₂ x (also x s) in
+        let (a, z, d) = halted e sheet ws b res₁ r₁ res₁' h₁ x s in
+        let (a′, z′, d′) = halted f sheet ws b res₂ r₂ res₂' h₂ x (also x s) in
         inl (
-          (a ∙ sym a′, b ∙ sym b′, d ∙ sym d′),
-          untouched e sheet ws m res₁ r₁ res₁' h₁ x s ∙ words x s ∙ sym (untouched f sheet ws m res₂ r₂ res₂' h₂ x (also x s)),
+          (a ∙ sym a′, z ∙ sym z′, d ∙ sym d′),
+          untouched e sheet ws b res₁ r₁ res₁' h₁ x s ∙ words x s ∙ sym (untouched f sheet ws b res₂ r₂ res₂' h₂ x (also x s)),
         )
-    go (inr p) = compare p (any-two _ _ (editionOf c e) (editionOf c f) (later-holds c e f l) sheet (fitting c (view ws m)) .same)
+    go (inr p) = compare p (any-two _ _ (editionOf c e) (editionOf c f) (later-holds c e f l) sheet (fitting c (held ws b)) .same)

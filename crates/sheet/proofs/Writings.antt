@@ -12,7 +12,7 @@ use lib.Dec.{leb, ltb}
 use borrow.Author.Tests.{ltb-true, ltb-false, lt-ltb, le-ltb, le-leb, lt-leb}
 use Rattle.word.specs.Sets.{choose}
 use Rattle.word.proofs.Cases.{by-lt, or-true}
-use Rattle.storage.specs.Stores.{Bits, view}
+use Rattle.storage.specs.Stores.{Bits, held}
 use Rattle.storage.specs.Refusals.{numberOf}
 use Rattle.storage.proofs.Promises.{each-number-once}
 use Rattle.storage.specs.declared.Refusal.{Refusal}
@@ -269,13 +269,13 @@ whole-lists buf cs row = record {
   length-is = λ es e. (front es e) .0;
   bytes-are = λ es e. (front es e) .1;
   laid = λ es e. sheet-is es (front es e .2) (front es e .3);
-  effect-is = λ es e ws m res a res' p l t q h.
+  effect-is = λ es e ws b res a res' p l t q h.
       let c : ℕ = length res in
       let sheet : List ℕ = take (lastLength 0 cs) (lastBuffer buf cs) in
-      let reads : read (editionOf c latest) sheet (fitting c (view ws m)) ≡ done (length es) t =
-      ap₂ (λ (s : List ℕ) (o : Turn Bits). read (editionOf c latest) s o) (front es e .1) (fits-old ws m c l)
-      ∙ read-sheet c latest es (view ws m) t (front es e .2) (front es e .3) (in-latest es) q in
-      let goes : course latest sheet ws m c ≡ went (done (length es) t) = course-passes latest ws m c sheet p ∙ ap went reads in
+      let reads : read (editionOf c latest) sheet (fitting c (held ws b)) ≡ done (length es) t =
+      ap₂ (λ (s : List ℕ) (o : Turn Bits). read (editionOf c latest) s o) (front es e .1) (fits-old ws (b .count) c l)
+      ∙ read-sheet c latest es (held ws b) t (front es e .2) (front es e .3) (in-latest es) q in
+      let goes : course latest sheet ws b res ≡ went (done (length es) t) = course-passes latest ws b res sheet p ∙ ap went reads in
       let answer = h .answers ∙ ap readAnswer goes in
       (ap readingNumber answer, ap readingRecord answer, ap readingCount answer, h .leaves ∙ ap (λ (x : Course). readStore x res) goes);
 }

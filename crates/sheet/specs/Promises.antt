@@ -11,8 +11,9 @@ use lib.Dec.{leb}
 use Rattle.word.specs.Sets.{choose}
 use Rattle.word.specs.Bits.{member}
 use Rattle.storage.specs.Refusals.{numberOf}
-use Rattle.storage.specs.Stores.{Bits, Bounded, view, written}
-use Rattle.storage.specs.Promises.{mostWords}
+use Rattle.storage.specs.Stores.{Bits, Bounded, noWords, spaceOf, held, written}
+use Rattle.storage.specs.Guards.{mostWords, Stopped, Passed}
+use Rattle.storage.specs.declared.Bitmap.{Bitmap}
 use Rattle.storage.specs.declared.Refusal.{Refusal}
 use Rattle.bits.specs.Promises.{Reversed}
 use Rattle.shift.specs.Promises.{RotatedLeft, RotatedRight}
@@ -108,36 +109,37 @@ PayloadsExact =
     (n c m : ℕ) (r : Item) (e : Edit) → r .duty ≡ true → editionOf c n .size (r .kind) ≡ some m → ((i : ℕ) → getD (r .payload) i 0 < 256)
     → Asks (editionOf c n) r e ↔ Laid (r .kind) (r .payload) e
 
--- a reading in edition n, from the first m words of the store ws, into a store of c words: none of 14, 1 and 2 applies
-pub record Passes (n : ℕ) (ws : List ℕ) (m c : ℕ) : Type 0 where
+-- a reading in edition n, from the bitmap b in the store ws, into the store res, which has no earlier count: none of 14, 1 and 2 applies
+pub record Passes (n : ℕ) (ws : List ℕ) (b : Bitmap) (res : List ℕ) : Type 0 where
   pub edition : IsEdition n
-  pub short : length ws ≤ mostWords
-  pub inside : m ≤ length ws
-  pub result : c ≤ mostWords
+  pub old : Passed ws b
+  pub result : Passed res noWords
 
 -- 14, then 1 and 2 for each store in order
-pub data Stops (n : ℕ) (ws : List ℕ) (m c x : ℕ) : Type 0 where
-  no-edition : ¬ IsEdition n → x ≡ 14 → Stops n ws m c x
-  long : IsEdition n → mostWords < length ws → x ≡ 1 → Stops n ws m c x
-  over : IsEdition n → length ws ≤ mostWords → length ws < m → x ≡ 2 → Stops n ws m c x
-  result-long : IsEdition n → length ws ≤ mostWords → m ≤ length ws → mostWords < c → x ≡ 1 → Stops n ws m c x
+pub data Stops (n : ℕ) (ws : List ℕ) (b : Bitmap) (res : List ℕ) (x : ℕ) : Type 0 where
+  no-edition : ¬ IsEdition n → x ≡ 14 → Stops n ws b res x
+  old-stopped : IsEdition n → Stopped ws b x → Stops n ws b res x
+  result-stopped : IsEdition n → Passed ws b → Stopped res noWords x → Stops n ws b res x
 
 -- the number x, the record k and the word count t that a reading answers
-pub data Gets (n : ℕ) (sheet ws : List ℕ) (m c x k t : ℕ) : Type 0 where
-  stops : Stops n ws m c x → k ≡ 0 → t ≡ 0 → Gets n sheet ws m c x k t
-  applies : Passes n ws m c → Applies (editionOf c n) sheet (fitting c (view ws m)) x k → t ≡ 0 → Gets n sheet ws m c x k t
-  accepted : Passes n ws m c → (s : Bits) → Accepted (editionOf c n) sheet (fitting c (view ws m)) k s → x ≡ 0 → t ≡ s .count → Gets n sheet ws m c x k t
+pub data Gets (n : ℕ) (sheet ws : List ℕ) (b : Bitmap) (res : List ℕ) (x k t : ℕ) : Type 0 where
+  stops : Stops n ws b res x → k ≡ 0 → t ≡ 0 → Gets n sheet ws b res x k t
+  applies : Passes n ws b res → Applies (editionOf (spaceOf res) n) sheet (fitting (spaceOf res) (held ws b)) x k → t ≡ 0 → Gets n sheet ws b res x k t
+  accepted : Passes n ws b res → (s : Bits) → Accepted (editionOf (spaceOf res) n) sheet (fitting (spaceOf res) (held ws b)) k s → x ≡ 0 → t ≡ s .count
+      → Gets n sheet ws b res x k t
 
 -- demand 3's condition: the old bitmap fits, all earlier records are sound and applied, and record k, its frame whole, is a duty record of a kind that
 -- the edition lacks
-abbrev pub NamesNewer : ℕ → List ℕ → List ℕ → ℕ → ℕ → ℕ → Type 0
-NamesNewer n sheet ws m c k = Passes n ws m c × AtRecord (editionOf c n) sheet (fitting c (view ws m)) k (Newer (editionOf c n) sheet)
+abbrev pub NamesNewer : ℕ → List ℕ → List ℕ → Bitmap → List ℕ → ℕ → Type 0
+NamesNewer n sheet ws b res k =
+    let E = editionOf (spaceOf res) n in
+    Passes n ws b res × AtRecord E sheet (fitting (spaceOf res) (held ws b)) k (Newer E sheet)
 
 -- an accepted sheet: its duty records' edits in order have made the bitmap that stands in the result store
-pub record Made (n : ℕ) (sheet ws : List ℕ) (m : ℕ) (res : List ℕ) (k t : ℕ) (res' : List ℕ) : Type 0 where
-  pub passes : Passes n ws m (length res)
+pub record Made (n : ℕ) (sheet ws : List ℕ) (b : Bitmap) (res : List ℕ) (k t : ℕ) (res' : List ℕ) : Type 0 where
+  pub passes : Passes n ws b res
   pub state : Bits
-  pub accepted : Accepted (editionOf (length res) n) sheet (fitting (length res) (view ws m)) k state
+  pub accepted : Accepted (editionOf (spaceOf res) n) sheet (fitting (spaceOf res) (held ws b)) k state
   pub count : t ≡ state .count
   pub space : t ≤ length res
   pub bounded : Bounded state
@@ -146,23 +148,23 @@ pub record Made (n : ℕ) (sheet ws : List ℕ) (m : ℕ) (res : List ℕ) (k t 
   pub zeros : (j : ℕ) → t ≤ j → getD res' j 0 ≡ 0
 
 -- what a reading answers and leaves, whatever it is given
-pub record ReadingMeans (n : ℕ) (sheet ws : List ℕ) (m : ℕ) (res : List ℕ) (r : Reading) (res' : List ℕ) : Type 0 where
+pub record ReadingMeans (n : ℕ) (sheet ws : List ℕ) (b : Bitmap) (res : List ℕ) (r : Reading) (res' : List ℕ) : Type 0 where
   -- (a): what an accepted reading has made
-  pub made : readingNumber r ≡ 0 → Made n sheet ws m res (readingRecord r) (readingCount r) res'
+  pub made : readingNumber r ≡ 0 → Made n sheet ws b res (readingRecord r) (readingCount r) res'
   -- (c): number, record and word count, exactly where they are due
-  pub exact : (x k t : ℕ) → ((readingNumber r ≡ x) × (readingRecord r ≡ k) × (readingCount r ≡ t)) ↔ Gets n sheet ws m (length res) x k t
+  pub exact : (x k t : ℕ) → ((readingNumber r ≡ x) × (readingRecord r ≡ k) × (readingCount r ≡ t)) ↔ Gets n sheet ws b res x k t
   -- the old bitmap, or 6 exactly where its count is above the result store
-  pub fits : m ≤ length res → fitting (length res) (view ws m) ≡ next (view ws m)
-  pub lacks : length res < m → (why : Refusal) × (fitting (length res) (view ws m) ≡ stop why) × (numberOf why ≡ 6)
+  pub fits : b .count ≤ length res → fitting (spaceOf res) (held ws b) ≡ next (held ws b)
+  pub lacks : length res < b .count → (why : Refusal) × (fitting (spaceOf res) (held ws b) ≡ stop why) × (numberOf why ≡ 6)
   -- 13 names the first duty record of a kind that the edition lacks
-  pub newer : (k : ℕ) → ((readingNumber r ≡ 13) × (readingRecord r ≡ k)) ↔ NamesNewer n sheet ws m (length res) k
+  pub newer : (k : ℕ) → ((readingNumber r ≡ 13) × (readingRecord r ≡ k)) ↔ NamesNewer n sheet ws b res k
   -- 14, 1 and 2 touch nothing; any later refusal leaves zeros
-  pub untouched : (x : ℕ) → Stops n ws m (length res) x → res' ≡ res
-  pub cleared : Passes n ws m (length res) → 0 < readingNumber r → (length res' ≡ length res) × ((j : ℕ) → getD res' j 0 ≡ 0)
+  pub untouched : (x : ℕ) → Stops n ws b res x → res' ≡ res
+  pub cleared : Passes n ws b res → 0 < readingNumber r → (length res' ≡ length res) × ((j : ℕ) → getD res' j 0 ≡ 0)
 
 abbrev pub ReadsMean : Type 0
 ReadsMean =
-    (n : ℕ) (sheet ws : List ℕ) (m : ℕ) (res : List ℕ) (r : Reading) (res' : List ℕ) → Reads n sheet ws m res r res' → ReadingMeans n sheet ws m res r res'
+    (n : ℕ) (sheet ws : List ℕ) (b : Bitmap) (res : List ℕ) (r : Reading) (res' : List ℕ) → Reads n sheet ws b res r res' → ReadingMeans n sheet ws b res r res'
 
 -- two readings with one number, record and word count
 abbrev pub Alike : Reading → Reading → Type 0
@@ -172,10 +174,10 @@ Alike r s = (readingNumber r ≡ readingNumber s) × (readingRecord r ≡ readin
 -- answer and words, or names a newer kind
 abbrev pub KeepsMeaning : Type 0
 KeepsMeaning =
-    (e f : ℕ) → IsEdition e → IsEdition f → e ≤ f → (sheet ws : List ℕ) (m : ℕ) (res₁ res₂ : List ℕ) → length res₁ ≡ length res₂
-    → ((x : ℕ) → Stops e ws m (length res₁) x → res₁ ≡ res₂) → (r₁ r₂ : Reading) (res₁' res₂' : List ℕ)
-    → Reads e sheet ws m res₁ r₁ res₁' → Reads f sheet ws m res₂ r₂ res₂'
-    → (Alike r₁ r₂ × (res₁' ≡ res₂')) ⊎ ((readingNumber r₁ ≡ 13) × NamesNewer e sheet ws m (length res₁) (readingRecord r₁))
+    (e f : ℕ) → IsEdition e → IsEdition f → e ≤ f → (sheet ws : List ℕ) (b : Bitmap) (res₁ res₂ : List ℕ) → length res₁ ≡ length res₂
+    → ((x : ℕ) → Stops e ws b res₁ x → res₁ ≡ res₂) → (r₁ r₂ : Reading) (res₁' res₂' : List ℕ)
+    → Reads e sheet ws b res₁ r₁ res₁' → Reads f sheet ws b res₂ r₂ res₂'
+    → (Alike r₁ r₂ × (res₁' ≡ res₂')) ⊎ ((readingNumber r₁ ≡ 13) × NamesNewer e sheet ws b res₁ (readingRecord r₁))
 
 -- of any edition, whatever its edits and states: a reading gives the answer that is due, and no other
 abbrev pub ReadExact : Type 1
@@ -307,9 +309,9 @@ pub record ListMeans (buf : List ℕ) (cs : List Call) : Type 0 where
   pub laid : (es : List Entry) → lastPlain none cs ≡ some es → Holding (sheetOf es) es
   -- and the latest edition accepts them with the effect of exactly its edits in order
   pub effect-is : (es : List Entry) → lastPlain none cs ≡ some es
-      → (ws : List ℕ) (m : ℕ) (res : List ℕ) (r : Reading) (res' : List ℕ) → Passes latest ws m (length res) → m ≤ length res
-      → (t : Bits) → effect (editionOf (length res) latest) (editsIn es) (view ws m) ≡ next t
-      → Reads latest (take (lastLength 0 cs) (lastBuffer buf cs)) ws m res r res'
+      → (ws : List ℕ) (b : Bitmap) (res : List ℕ) (r : Reading) (res' : List ℕ) → Passes latest ws b res → b .count ≤ length res
+      → (t : Bits) → effect (editionOf (spaceOf res) latest) (editsIn es) (held ws b) ≡ next t
+      → Reads latest (take (lastLength 0 cs) (lastBuffer buf cs)) ws b res r res'
       → (readingNumber r ≡ 0) × (readingRecord r ≡ length es) × (readingCount r ≡ t .count) × (res' ≡ written res (length res) t)
 
 abbrev pub WholeLists : Type 0

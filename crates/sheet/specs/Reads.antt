@@ -7,7 +7,8 @@ use lib.ListN.{length}
 use lib.Dec.{leb}
 use Rattle.word.specs.Sets.{choose}
 use Rattle.storage.specs.Refusals.{numberOf}
-use Rattle.storage.specs.Stores.{Bits, Outcome, refused, done, Op, checked, view, written, zeroed}
+use Rattle.storage.specs.Stores.{Bits, Outcome, refused, done, Space, Op, noWords, withCount, spaceOf, checked, view, held, written, zeroed}
+use Rattle.storage.specs.declared.Bitmap.{Bitmap}
 use Rattle.storage.specs.declared.Refusal.{Refusal}
 use Rattle.storage.specs.declared.Refusal.the-variants.{NoSpace, NoEdition}
 use Rattle.bits.specs.Bits.{reversing}
@@ -40,8 +41,8 @@ abbrev pub made : Outcome → Turn Bits
 made (Outcome.refused e) = stop e
 made (Outcome.done s) = next s
 
--- an edition of the table, on bitmaps in a store of c words: a step goes by its edit alone, whichever record asks for it
-unfoldable pub editionOf : ℕ → ℕ → Edition Edit Bits
+-- an edition of the table, on bitmaps in the space c: a step goes by its edit alone, whichever record asks for it
+unfoldable pub editionOf : Space → ℕ → Edition Edit Bits
 editionOf c n = record { size = sizeIn n; rule = ruleOf; step = λ k e b. made (step e c b) }
 
 -- the editions there are
@@ -51,8 +52,8 @@ latest = 2
 abbrev pub isEdition : ℕ → Bool
 isEdition n = leb 1 n && leb n latest
 
--- the old bitmap, or 6 where it does not fit into a store of c words
-abbrev pub fitting : ℕ → Bits → Turn Bits
+-- the old bitmap, or 6 where it does not fit into the space c
+abbrev pub fitting : Space → Bits → Turn Bits
 fitting c b = choose (leb (b .count) c) (next b) (stop NoSpace)
 
 -- what a reading comes to: 14, 1 and 2 stop it before it touches anything
@@ -60,17 +61,17 @@ pub data Course : Type 0 where
   stopped : Refusal → Course
   went : Answer Bits → Course
 
--- a reading in edition n of a sheet, from the first m words of the store ws, into a store of c words
-unfoldable pub course : ℕ → List ℕ → List ℕ → ℕ → ℕ → Course
+-- a reading in edition n of a sheet, from the bitmap b in the store ws, into the store res, which has no earlier count
+unfoldable pub course : ℕ → List ℕ → List ℕ → Bitmap → List ℕ → Course
 unfolding checked read editionOf view
-course n sheet ws m c =
-    let answer = went (read (editionOf c n) sheet (fitting c (view ws m))) in
-    choose (isEdition n) (checked (length ws) m stopped (checked c 0 stopped answer)) (stopped NoEdition)
+course n sheet ws b res =
+    let answer = went (read (editionOf (spaceOf res) n) sheet (fitting (spaceOf res) (held ws b))) in
+    choose (isEdition n) (checked ws b stopped (checked res noWords stopped answer)) (stopped NoEdition)
 
 abbrev pub readAnswer : Course → Reading
 readAnswer (stopped e) = Refused e 0
 readAnswer (went (refused e k)) = Refused e k
-readAnswer (went (done k s)) = Done k (record { count = s .count })
+readAnswer (went (done k s)) = Done k (withCount noWords (s .count))
 
 -- the result store: all zero where the sheet is refused, else the bitmap's words and zeros past its count
 abbrev pub readStore : Course → List ℕ → List ℕ
@@ -79,9 +80,9 @@ readStore (went (refused e k)) res = zeroed 0 (length res) res
 readStore (went (done k s)) res = written res (length res) s
 
 -- the contract: a reading into the store res answers r and leaves res'
-pub record Reads (n : ℕ) (sheet ws : List ℕ) (m : ℕ) (res : List ℕ) (r : Reading) (res' : List ℕ) : Type 0 where
-  pub answers : r ≡ readAnswer (course n sheet ws m (length res))
-  pub leaves : res' ≡ readStore (course n sheet ws m (length res)) res
+pub record Reads (n : ℕ) (sheet ws : List ℕ) (b : Bitmap) (res : List ℕ) (r : Reading) (res' : List ℕ) : Type 0 where
+  pub answers : r ≡ readAnswer (course n sheet ws b res)
+  pub leaves : res' ≡ readStore (course n sheet ws b res) res
 
 -- of an answer its number, 0 for done, its record, and the word count, 0 where it is refused
 abbrev pub readingNumber : Reading → ℕ

@@ -5,6 +5,7 @@ use crate::tally;
 use crate::tally::Told;
 use sheet::Reading;
 use storage::Bitmap;
+use storage::EMPTY;
 
 // The numbers of a line after its part: edition, number, record, count, and how many words follow.
 const EDITION: usize = 95;
@@ -79,7 +80,7 @@ fn told(counts: &[u64; 170], sheet: &[u8], store: &mut [u64]) -> Told {
         counts[EDITION] as usize,
         sheet,
         &all[tally::OLD..tally::OLD + words],
-        Bitmap { count: count },
+        Bitmap { count, ..EMPTY },
         store,
     ))
 }

@@ -8,17 +8,17 @@ use borrow.Author.Tests.{lt-ltb}
 use lib.ListN.{length, take, drop}
 use lib.Seq.{length-take-le}
 use Rattle.word.specs.Bits.{member, wordsOf}
-use Rattle.storage.specs.Stores.{done, Op, view, Changes}
+use Rattle.storage.specs.Stores.{done, Op, spaceOf, view, held, Changes}
+use Rattle.storage.specs.Guards.{Passed}
 use Rattle.storage.specs.declared.Bitmap.{Bitmap}
 use Rattle.storage.specs.declared.Change.the-variants.{Done}
-use Rattle.storage.proofs.Checks.{Passed}
 use Rattle.storage.proofs.Views.{view-count, view-whole}
 use Rattle.storage.proofs.Stores.{part-changes}
 use Rattle.shift.specs.Shifts.{kept}
 
 -- f makes the set from the length and the old set
-pub kept-changes : (op : Op) (f : ℕ → (ℕ → Bool) → ℕ → Bool) (ws part : List ℕ) (b : Bitmap) → Passed (length ws) (b .count)
-    → op (length ws) (view ws (b .count)) ≡ done (kept (f (64 * view ws (b .count) .count) (view ws (b .count) .members)) (view ws (b .count)))
+pub kept-changes : (op : Op) (f : ℕ → (ℕ → Bool) → ℕ → Bool) (ws part : List ℕ) (b : Bitmap) → Passed ws b
+    → op (spaceOf ws) (held ws b) ≡ done (kept (f (64 * held ws b .count) (held ws b .members)) (held ws b))
     → part ≡ wordsOf (f (64 * length (take (b .count) ws)) (member (take (b .count) ws))) (length (take (b .count) ws))
     → Changes op ws b (Done b) (part ++ drop (b .count) ws)
 kept-changes op f ws part b p q e =

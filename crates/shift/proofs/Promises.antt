@@ -14,7 +14,8 @@ use Rattle.word.proofs.Lists.{member-past, member-words, length-words}
 use Rattle.storage.specs.Stores.{Bits, Bounded, done, Op}
 use Rattle.storage.proofs.Outcomes.{same, never, sound-done}
 use Rattle.shift.specs.Shifts.{movedUp, movedDown, turnedUp, turnedDown, kept, shiftingLeft, shiftingRight, rotatingLeft, rotatingRight}
-use Rattle.shift.specs.Promises.{Moves, MovesWords, ShiftedLeft, ShiftsLeft, LeftWordsMeans, ShiftedRight, ShiftsRight, RightWordsMeans, RotatedLeft, RotatesLeft, TurnLeftMeans, RotatedRight, RotatesRight, TurnRightMeans, Rotations}
+use Rattle.shift.specs.Promises.{Moves, MovesWords, ShiftedLeft, ShiftsLeft, LeftWordsMeans, ShiftedRight, ShiftsRight, RightWordsMeans}
+use Rattle.shift.specs.Promises.{RotatedLeft, RotatesLeft, TurnLeftMeans, RotatedRight, RotatesRight, TurnRightMeans, Rotations}
 use Rattle.shift.proofs.Rings.{there, back, turned-from}
 use Rattle.shift.proofs.Moves.{moved-up, moved-in}
 

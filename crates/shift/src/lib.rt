@@ -80,7 +80,7 @@ pub fn shift_left(words: &mut [u64], b: Bitmap, k: usize) -> Change
     ensures { λ r. ⌜ Changes (shiftingLeft k) (now (words .entry)) b r (now (words .exit)) ⌝ }
 {
     let n = b.count;
-    match storage::check(words.len(), n) {
+    match storage::check(words, b) {
         Guard::Stop(e) => return Change::Refused(e, b),
         Guard::Pass => {}
     }
@@ -93,7 +93,7 @@ pub fn shift_right(words: &mut [u64], b: Bitmap, k: usize) -> Change
     ensures { λ r. ⌜ Changes (shiftingRight k) (now (words .entry)) b r (now (words .exit)) ⌝ }
 {
     let n = b.count;
-    match storage::check(words.len(), n) {
+    match storage::check(words, b) {
         Guard::Stop(e) => return Change::Refused(e, b),
         Guard::Pass => {}
     }
@@ -104,7 +104,8 @@ pub fn shift_right(words: &mut [u64], b: Bitmap, k: usize) -> Change
 // Each bit goes `up` places up, within its word or into the next; those that pass the end go to the start.
 fn turn_up(words: &mut [u64], up: usize)
     requires { ⌜ (0 < length (now words)) × (up < 64) ⌝ }
-    ensures { λ r. ⌜ now (words .exit) ≡ wordsOf (turnedUp (64 * length (now (words .entry))) up (member (now (words .entry)))) (length (now (words .entry))) ⌝ }
+    ensures { λ r. ⌜ now (words .exit)
+        ≡ wordsOf (turnedUp (64 * length (now (words .entry))) up (member (now (words .entry)))) (length (now (words .entry))) ⌝ }
 {
     if up == 0 {
         return;
@@ -123,7 +124,8 @@ fn turn_up(words: &mut [u64], up: usize)
 // Each bit goes `down` places down, within its word or into the one before; those that pass the start go to the end.
 fn turn_down(words: &mut [u64], down: usize)
     requires { ⌜ (0 < length (now words)) × (down < 64) ⌝ }
-    ensures { λ r. ⌜ now (words .exit) ≡ wordsOf (turnedDown (64 * length (now (words .entry))) down (member (now (words .entry)))) (length (now (words .entry))) ⌝ }
+    ensures { λ r. ⌜ now (words .exit)
+        ≡ wordsOf (turnedDown (64 * length (now (words .entry))) down (member (now (words .entry)))) (length (now (words .entry))) ⌝ }
 {
     if down == 0 {
         return;
@@ -154,7 +156,8 @@ pub fn turn_left(words: &mut [u64], k: usize)
 
 // Bit i goes to i - k, counted on from the end past the start.
 pub fn turn_right(words: &mut [u64], k: usize)
-    ensures { λ r. ⌜ now (words .exit) ≡ wordsOf (turnedDown (64 * length (now (words .entry))) k (member (now (words .entry)))) (length (now (words .entry))) ⌝ }
+    ensures { λ r. ⌜ now (words .exit)
+        ≡ wordsOf (turnedDown (64 * length (now (words .entry))) k (member (now (words .entry)))) (length (now (words .entry))) ⌝ }
 {
     let n = words.len();
     if n == 0 {
@@ -170,7 +173,7 @@ pub fn rotate_left(words: &mut [u64], b: Bitmap, k: usize) -> Change
     ensures { λ r. ⌜ Changes (rotatingLeft k) (now (words .entry)) b r (now (words .exit)) ⌝ }
 {
     let n = b.count;
-    match storage::check(words.len(), n) {
+    match storage::check(words, b) {
         Guard::Stop(e) => return Change::Refused(e, b),
         Guard::Pass => {}
     }
@@ -183,7 +186,7 @@ pub fn rotate_right(words: &mut [u64], b: Bitmap, k: usize) -> Change
     ensures { λ r. ⌜ Changes (rotatingRight k) (now (words .entry)) b r (now (words .exit)) ⌝ }
 {
     let n = b.count;
-    match storage::check(words.len(), n) {
+    match storage::check(words, b) {
         Guard::Stop(e) => return Change::Refused(e, b),
         Guard::Pass => {}
     }

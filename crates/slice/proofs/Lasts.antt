@@ -4,16 +4,17 @@ use mathlib.Core.Bool.{Bool}
 use mathlib.Core.List.{List}
 use Prim.Native.Nat.{ℕ, suc, _-_, _*_}
 use native.Mathlib.Omega.{arith}
-use lib.ListN.{length}
 use borrow.Author.Tests.{eq-eqb, ne-eqb}
 use Rattle.word.specs.Sets.{choose, topBelow}
 use Rattle.word.proofs.Cases.{by-eq}
-use Rattle.storage.specs.Stores.{Bits, checked, view, reading}
+use Rattle.storage.specs.Stores.{Bits, checked, held, reading}
+use Rattle.storage.specs.Guards.{Passed}
+use Rattle.storage.specs.declared.Bitmap.{Bitmap}
 use Rattle.storage.specs.declared.Refusal.{Refusal}
 use Rattle.storage.specs.declared.Found.{Found}
 use Rattle.storage.specs.declared.Found.the-variants.{At, Nothing}
 use Rattle.storage.specs.declared.Guard.the-variants.{Pass, Stop}
-use Rattle.storage.proofs.Checks.{Passed, told-refused, told}
+use Rattle.storage.proofs.Checks.{told-refused, told}
 use Rattle.slice.specs.Slices.{lastSet}
 
 -- which answer, and its place
@@ -37,9 +38,9 @@ module _ (b : Bits) where
   unfolding lastSet
   last-some n = ap (λ (t : Bool). choose t Nothing (At (topBelow (b .members) (64 * b .count) - 1))) (ne-eqb (topBelow (b .members) (64 * b .count)) 0 n)
 
-module _ (ws : List ℕ) (n : ℕ) where
+module _ (ws : List ℕ) (a : Bitmap) where
   abbrev t : ℕ
-  t = topBelow (view ws n .members) (64 * view ws n .count)
+  t = topBelow (held ws a .members) (64 * held ws a .count)
 
   never : (b : Bits) (e : Refusal) → lastSet b ≡ Found.Refused e → ⊥
   never b e q =
@@ -47,19 +48,19 @@ module _ (ws : List ℕ) (n : ℕ) where
       (λ z. omega (arith, ap tag (sym (last-none b z) ∙ q)))
       (λ z. omega (arith, ap tag (sym (last-some b z) ∙ q)))
 
-  pub last-refused : (e : Refusal) → Found.Refused e ≡ reading ws n Found.Refused lastSet → Stop e ≡ checked (length ws) n Stop Pass
-  last-refused e q = told-refused ws n Found.Refused lastSet e (λ d r. cc) (λ b r. never b e (sym r)) q
+  pub last-refused : (e : Refusal) → Found.Refused e ≡ reading ws a Found.Refused lastSet → Stop e ≡ checked ws a Stop Pass
+  last-refused e q = told-refused ws a Found.Refused lastSet e (λ d r. cc) (λ b r. never b e (sym r)) q
 
-  pub last-nothing : Nothing ≡ reading ws n Found.Refused lastSet → Passed (length ws) n × (topBelow (view ws n .members) (64 * view ws n .count) ≡ 0)
+  pub last-nothing : Nothing ≡ reading ws a Found.Refused lastSet → Passed ws a × (topBelow (held ws a .members) (64 * held ws a .count) ≡ 0)
   last-nothing q =
-      let a = told ws n Found.Refused lastSet Nothing (λ e r. omega (arith, ap tag r)) q in
-      (a .0, by-eq t 0 (λ z. z) (λ z. absurd (omega (arith, ap tag (a .1 ∙ last-some (view ws n) z)))))
+      let r = told ws a Found.Refused lastSet Nothing (λ e s. omega (arith, ap tag s)) q in
+      (r .0, by-eq t 0 (λ z. z) (λ z. absurd (omega (arith, ap tag (r .1 ∙ last-some (held ws a) z)))))
 
-  pub last-at : (p : ℕ) → At p ≡ reading ws n Found.Refused lastSet → Passed (length ws) n × (topBelow (view ws n .members) (64 * view ws n .count) ≡ suc p)
+  pub last-at : (p : ℕ) → At p ≡ reading ws a Found.Refused lastSet → Passed ws a × (topBelow (held ws a .members) (64 * held ws a .count) ≡ suc p)
   last-at p q =
-      let a = told ws n Found.Refused lastSet (At p) (λ e r. omega (arith, ap tag r)) q in (
-        a .0,
+      let r = told ws a Found.Refused lastSet (At p) (λ e s. omega (arith, ap tag s)) q in (
+        r .0,
         by-eq t 0
-            (λ z. absurd (omega (arith, ap tag (a .1 ∙ last-none (view ws n) z))))
-            (λ z. omega (arith, ap place (a .1 ∙ last-some (view ws n) z))),
+            (λ z. absurd (omega (arith, ap tag (r .1 ∙ last-none (held ws a) z))))
+            (λ z. omega (arith, ap place (r .1 ∙ last-some (held ws a) z))),
       )

@@ -14,9 +14,9 @@ use Rattle.word.proofs.Cases.{by-lt, by-eq, and-false}
 use Rattle.word.proofs.Bits.{bit-past, bit-pack, pack-lt}
 use Rattle.word.proofs.Sets.{count-ext, count-flat, counted, least, top}
 use Rattle.arch.specs.Scans.{nonzeroLen}
-use Rattle.storage.specs.Refusals.{numberOf, foundNumber, foundFlag, foundValue, fieldNumber, fieldValue}
-use Rattle.storage.specs.Stores.{Bits, Bounded, Outcome, refused, done, view, reading, size, nextFrom}
-use Rattle.storage.specs.Promises.{Guarded, HandsNone, Hands, Tests, NextMember}
+use Rattle.storage.specs.Refusals.{numberOf, foundNumber, foundFlag, foundValue, fieldNumber, fieldValue, truthNumber, truthValue}
+use Rattle.storage.specs.Stores.{Bits, Bounded, Outcome, refused, done, size, nextFrom}
+use Rattle.storage.specs.Promises.{HandsNone, Hands, Tests, NextMember}
 use Rattle.storage.specs.declared.Refusal.{Refusal}
 use Rattle.storage.specs.declared.Refusal.the-variants.{WidthOver, PastLength}
 use Rattle.storage.specs.declared.Found.{Found}
@@ -28,9 +28,11 @@ use Rattle.storage.specs.declared.Field.the-variants.{Is, Refused}
 use Rattle.storage.specs.declared.Truth.{Truth}
 use Rattle.storage.specs.declared.Truth.the-variants.{Is, Refused}
 use Rattle.storage.proofs.Outcomes.{same, never, which}
-use Rattle.storage.proofs.Promises.{number-call, field-call, truth-call, found-call, tests, next-member}
+use Rattle.storage.proofs.Promises.{number-call, field-call, truth-call, found-call, both-means, tests, next-member}
 use Rattle.slice.specs.Slices.{frontPart, equal, fieldAt, withField, fieldSetting, lastSet, nextClear}
-use Rattle.slice.specs.Promises.{GetMeans, FieldDigits, GetFieldMeans, NextSetMeans, FirstSetMeans, LastMember, LastSetMeans, NextOther, NextClearMeans, FirstClearMeans, EqMeans, EqualWords, FieldWritten, FieldRefused, SetFieldStrict, AllCounted, CountSetBitsMeans, CountsMembers, TrimmedMeans}
+use Rattle.slice.specs.Promises.{GetMeans, FieldDigits, GetFieldMeans, NextSetMeans, FirstSetMeans, LastMember, LastSetMeans, NextOther}
+use Rattle.slice.specs.Promises.{NextClearMeans, FirstClearMeans, EqMeans, EqualWords, FieldWritten, FieldRefused, SetFieldStrict, AllCounted}
+use Rattle.slice.specs.Promises.{CountSetBitsMeans, CountsMembers, TrimmedMeans}
 use Rattle.slice.proofs.Equals.{size-none, none-of-size, equal-of-same, same-of-equal, same-of-front, front-of-same, length-front, zero-past}
 
 -- ---- what a call answers, from what it makes of a bitmap
@@ -98,14 +100,10 @@ pub equal-words : EqualWords
 equal-words ws os n m hn hm f g = (front-of-same ws os n m hn hm f g, same-of-front ws os n m hn hm)
 
 pub eq-means : EqMeans
-eq-means ws os n m =
-    truth-call (λ s. reading os m Truth.Refused (λ t. Truth.Is (equal s t)))
-    (λ b x v. Guarded (length os) m (HandsNone x v) (Tests ((i : ℕ) → b .members i ≡ view os m .members i) x v))
-    (λ b bb.
-    truth-call (λ t. Truth.Is (equal b t)) (λ o. Tests ((i : ℕ) → b .members i ≡ o .members i))
-    (λ o bo. tests ((i : ℕ) → b .members i ≡ o .members i) (equal b o) (same-of-equal b o bb bo) (equal-of-same b o))
-    os m (reading os m Truth.Refused (λ t. Truth.Is (equal b t))) refl)
-    ws n
+eq-means =
+    both-means Truth.Refused (λ s t. Truth.Is (equal s t)) (λ r. HandsNone (truthNumber r) (truthValue r))
+    (λ b o r. Tests ((i : ℕ) → b .members i ≡ o .members i) (truthNumber r) (truthValue r)) (λ e. (refl, refl))
+    (λ b o bb bo. tests ((i : ℕ) → b .members i ≡ o .members i) (equal b o) (same-of-equal b o bb bo) (equal-of-same b o))
 
 -- ---- fields
 

@@ -1,5 +1,5 @@
 -- The scans, the greatest member and the count, from what the kernels leave. Assumes nothing.
-use mathlib.Core.Path.{_≡_, sym, ap, ap₂, _∙_}
+use mathlib.Core.Path.{_≡_, sym, ap, _∙_}
 use mathlib.Core.Bool.{Bool, not}
 use mathlib.Core.List.{List}
 use mathlib.Core.Logic.{inl, inr}
@@ -10,7 +10,7 @@ use lib.Seq.{getD-take, getD-drop, length-take-le}
 use lib.Pow.{ones-sub-lt}
 use lib.Dec.{ltb}
 use borrow.Author.Tests.{lt-ltb, le-ltb, eq-eqb, ne-eqb}
-use Rattle.word.specs.Sets.{choose, countBelow, leastFrom, topBelow, Top}
+use Rattle.word.specs.Sets.{choose, leastFrom, topBelow, Top}
 use Rattle.word.specs.Bits.{bit}
 use Rattle.word.specs.Words.{allOnes}
 use Rattle.word.proofs.Bits.{bit-not}
@@ -19,12 +19,14 @@ use Rattle.word.proofs.Lists.{Fit}
 use Rattle.arch.specs.Scans.{Alike, firstOther, wordFound, nonzeroLen, countSet}
 use Rattle.arch.specs.Promises.{FirstOther}
 use Rattle.arch.specs.declared.FoundWord.the-variants as word-found
-use Rattle.arch.proofs.Promises.{first-other, count-is-whole}
-use Rattle.storage.specs.Stores.{view, size, foundBelow, nextFrom, trimmedCount, wordsFor}
+use Rattle.arch.proofs.Promises.{first-other}
+use Rattle.storage.specs.Stores.{view, held, size, foundBelow, nextFrom, trimmedCount, wordsFor}
+use Rattle.storage.specs.Guards.{Passed}
+use Rattle.storage.specs.declared.Bitmap.{Bitmap}
 use Rattle.storage.specs.declared.Found.the-variants.{At, Nothing}
-use Rattle.storage.proofs.Checks.{Passed}
-use Rattle.storage.proofs.Views.{view-in, view-whole}
+use Rattle.storage.proofs.Views.{view-in}
 use Rattle.storage.proofs.Trims.{trimmed-view}
+use Rattle.storage.proofs.Sizes.{size-counted}
 use Rattle.slice.specs.Slices.{lastSet, nextClear}
 use Rattle.slice.proofs.Fields.{fit-part}
 use Rattle.slice.proofs.Firsts.{Words, First, kept, first-here, first-after, first-none}
@@ -195,9 +197,5 @@ module _ (ws : List ℕ) (n m : ℕ) (h : n ≤ length ws) (f : Fit ws) (e : m �
 
 -- ---- the count
 
-pub count-is : (ws : List ℕ) (n c : ℕ) → Passed (length ws) n → c ≡ countSet (take n ws) → c ≡ size (view ws n)
-unfolding size view
-count-is ws n c p e =
-    let l : length (take n ws) ≡ n = length-take-le n ws (p .inside) in
-    e ∙ count-is-whole (take n ws) (omega (arith, p .short, p .inside))
-    ∙ ap₂ (λ (s : ℕ → Bool) (m : ℕ). countBelow s (64 * m)) (sym (view-whole ws n (p .inside))) l
+pub count-is : (ws : List ℕ) (b : Bitmap) (c : ℕ) → Passed ws b → c ≡ countSet (take (b .count) ws) → c ≡ size (held ws b)
+count-is ws b c p e = e ∙ size-counted ws b p

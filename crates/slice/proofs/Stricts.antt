@@ -12,7 +12,7 @@ use lib.Pow.{ones-sub-lt}
 use lib.Dec.{ltb, leb}
 use borrow.Author.Tests.{lt-ltb, le-ltb, le-leb, lt-leb, eq-eqb, ne-eqb}
 use Rattle.word.specs.Sets.{choose}
-use Rattle.word.specs.Bits.{bit, member}
+use Rattle.word.specs.Bits.{bit}
 use Rattle.word.specs.Words.{lowMask}
 use Rattle.word.proofs.Cases.{by-lt, by-eq, and-false}
 use Rattle.word.proofs.Bits.{bit-and, bit-or, bit-not, bit-shr, bit-shl-mod, pack-lt, bit-pack, pack-is}
@@ -20,10 +20,10 @@ use Rattle.word.proofs.Words.{bit-low-mask}
 use Rattle.word.proofs.Lists.{Fit}
 use Rattle.word.proofs.Sweep.{getD-set}
 use Rattle.storage.specs.Stores.{refused, done, view, Changes}
+use Rattle.storage.specs.Guards.{Passed}
 use Rattle.storage.specs.declared.Bitmap.{Bitmap}
 use Rattle.storage.specs.declared.Refusal.the-variants.{WidthOver, PastLength}
 use Rattle.storage.specs.declared.Change.the-variants.{Done, Refused}
-use Rattle.storage.proofs.Checks.{Passed}
 use Rattle.storage.proofs.Views.{view-in}
 use Rattle.storage.proofs.Stores.{Stored, changes-refused, changes-done}
 use Rattle.slice.specs.Slices.{withField, fieldSetting}
@@ -226,7 +226,7 @@ module _ (ws : List ℕ) (n i value width : ℕ) where
       apart k (inl p) = (λ q. omega arith, λ q. omega arith)
       apart k (inr p) = (λ q. omega arith, λ q. omega arith)
 
-module _ (ws : List ℕ) (b : Bitmap) (i value width : ℕ) (p : Passed (length ws) (b .count)) where
+module _ (ws : List ℕ) (b : Bitmap) (i value width : ℕ) (p : Passed ws b) where
   setting-wide : 64 < width → fieldSetting i value width (length ws) (view ws (b .count)) ≡ refused WidthOver
   unfolding fieldSetting
   setting-wide h = rw (lt-ltb 64 width h)

@@ -8,8 +8,9 @@ use lib.ListN.{length, getD, take}
 use Rattle.word.specs.Sets.{Counted}
 use Rattle.word.specs.Bits.{bit}
 use Rattle.storage.specs.Refusals.{truthNumber, truthValue}
-use Rattle.storage.specs.Stores.{Bits, Bounded, view, reading, size, nextFrom}
-use Rattle.storage.specs.Promises.{Guarded, HandsNone, Hands, Tests, Finds, NextMember, NumberCall, FieldCall, TruthCall, FoundCall, Meets, MeetsExactly}
+use Rattle.storage.specs.Stores.{Bits, Bounded, view, held, readingBoth, size, nextFrom}
+use Rattle.storage.specs.Promises.{GuardedBoth, HandsNone, Hands, Tests, Finds, NextMember, NumberCall, FieldCall, TruthCall, FoundCall, Meets, MeetsExactly}
+use Rattle.storage.specs.declared.Bitmap.{Bitmap}
 use Rattle.storage.specs.declared.Number.{Number}
 use Rattle.storage.specs.declared.Number.the-variants.{Is}
 use Rattle.storage.specs.declared.Truth.{Truth}
@@ -62,11 +63,10 @@ FirstClearMeans = NumberCall (λ s. Number.Is (nextClear s 0)) (λ b. Hands (Nex
 -- `eq`: the second store after the first; 1 exactly where every number is a member of both or of neither
 abbrev pub EqMeans : Type 0
 EqMeans =
-    (ws os : List ℕ) (n m : ℕ) (r : Truth) → r ≡ reading ws n Truth.Refused (λ s. reading os m Truth.Refused (λ t. Truth.Is (equal s t)))
+    (ws : List ℕ) (b : Bitmap) (os : List ℕ) (o : Bitmap) (r : Truth) → r ≡ readingBoth ws b os o Truth.Refused (λ s t. Truth.Is (equal s t))
     → let x = truthNumber r in
     let v = truthValue r in
-    Guarded (length ws) n (HandsNone x v)
-    (Guarded (length os) m (HandsNone x v) (Tests ((i : ℕ) → view ws n .members i ≡ view os m .members i) x v))
+    GuardedBoth ws b os o (HandsNone x v) (Tests ((i : ℕ) → held ws b .members i ≡ held os o .members i) x v)
 
 -- 01's equality: two sets are one exactly where the words agree after trailing zero words are dropped
 abbrev pub EqualWords : Type 0

@@ -15,7 +15,7 @@ ghost use mathlib.Core.Path.{_≡_};
 ghost use mathlib.Core.Bool.{true};
 ghost use Prim.Native.Nat.{_+_, _≤_, _<_};
 ghost use lib.ListN.{length, getD, set};
-ghost use Rattle.storage.specs.Stores.{reading, size, nextFrom, Changes};
+ghost use Rattle.storage.specs.Stores.{reading, readingBoth, size, nextFrom, Changes};
 ghost use Rattle.slice.specs.Slices.{frontPart, equal, fieldAt, fieldSetting, lastSet, nextClear};
 ghost use Rattle.slice.specs.Kernels.{Agree, Tells, overlaid};
 
@@ -29,10 +29,10 @@ pub fn trimmed(words: &[u64]) -> &[u64]
 
 // Bit i; false past the end.
 pub fn get(words: &[u64], b: Bitmap, i: usize) -> Truth
-    ensures { λ r. ⌜ r ≡ reading (now (words .entry)) (b .count) Truth.Refused (λ s. Truth.Is (s .members i)) ⌝ }
+    ensures { λ r. ⌜ r ≡ reading (now (words .entry)) b Truth.Refused (λ s. Truth.Is (s .members i)) ⌝ }
 {
     let n = b.count;
-    match storage::check(words.len(), n) {
+    match storage::check(words, b) {
         Guard::Stop(e) => return Truth::Refused(e),
         Guard::Pass => {}
     }
@@ -45,10 +45,10 @@ pub fn get(words: &[u64], b: Bitmap, i: usize) -> Truth
 
 // The bits from i on, below i + width, as a number; zeros past the end, whatever i. 3 over 64 bits.
 pub fn get_field(words: &[u64], b: Bitmap, i: usize, width: usize) -> Field
-    ensures { λ r. ⌜ r ≡ reading (now (words .entry)) (b .count) Field.Refused (fieldAt i width) ⌝ }
+    ensures { λ r. ⌜ r ≡ reading (now (words .entry)) b Field.Refused (fieldAt i width) ⌝ }
 {
     let n = b.count;
-    match storage::check(words.len(), n) {
+    match storage::check(words, b) {
         Guard::Stop(e) => return Field::Refused(e),
         Guard::Pass => {}
     }
@@ -75,7 +75,7 @@ pub fn set_field_strict(words: &mut [u64], b: Bitmap, i: usize, value: u64, widt
     ensures { λ r. ⌜ Changes (fieldSetting i value width) (now (words .entry)) b r (now (words .exit)) ⌝ }
 {
     let n = b.count;
-    match storage::check(words.len(), n) {
+    match storage::check(words, b) {
         Guard::Stop(e) => return Change::Refused(e, b),
         Guard::Pass => {}
     }
@@ -101,17 +101,17 @@ pub fn set_field_strict(words: &mut [u64], b: Bitmap, i: usize, value: u64, widt
 
 // The lowest set bit.
 pub fn first_set(words: &[u64], b: Bitmap) -> Found
-    ensures { λ r. ⌜ r ≡ reading (now (words .entry)) (b .count) Found.Refused (λ s. nextFrom s 0) ⌝ }
+    ensures { λ r. ⌜ r ≡ reading (now (words .entry)) b Found.Refused (λ s. nextFrom s 0) ⌝ }
 {
     next_set(words, b, 0)
 }
 
 // The highest set bit.
 pub fn last_set(words: &[u64], b: Bitmap) -> Found
-    ensures { λ r. ⌜ r ≡ reading (now (words .entry)) (b .count) Found.Refused lastSet ⌝ }
+    ensures { λ r. ⌜ r ≡ reading (now (words .entry)) b Found.Refused lastSet ⌝ }
 {
     let n = b.count;
-    match storage::check(words.len(), n) {
+    match storage::check(words, b) {
         Guard::Stop(e) => return Found::Refused(e),
         Guard::Pass => {}
     }
@@ -124,17 +124,17 @@ pub fn last_set(words: &[u64], b: Bitmap) -> Found
 
 // The lowest clear bit; the length if every bit below it is set.
 pub fn first_clear(words: &[u64], b: Bitmap) -> Number
-    ensures { λ r. ⌜ r ≡ reading (now (words .entry)) (b .count) Number.Refused (λ s. Number.Is (nextClear s 0)) ⌝ }
+    ensures { λ r. ⌜ r ≡ reading (now (words .entry)) b Number.Refused (λ s. Number.Is (nextClear s 0)) ⌝ }
 {
     next_clear(words, b, 0)
 }
 
 // The number of set bits.
 pub fn count_set_bits(words: &[u64], b: Bitmap) -> Number
-    ensures { λ r. ⌜ r ≡ reading (now (words .entry)) (b .count) Number.Refused (λ s. Number.Is (size s)) ⌝ }
+    ensures { λ r. ⌜ r ≡ reading (now (words .entry)) b Number.Refused (λ s. Number.Is (size s)) ⌝ }
 {
     let n = b.count;
-    match storage::check(words.len(), n) {
+    match storage::check(words, b) {
         Guard::Stop(e) => return Number::Refused(e),
         Guard::Pass => {}
     }
@@ -144,10 +144,10 @@ pub fn count_set_bits(words: &[u64], b: Bitmap) -> Number
 
 // The first set bit from i on: in the word of i by itself, then in the first word after it that is not zero.
 pub fn next_set(words: &[u64], b: Bitmap, i: usize) -> Found
-    ensures { λ r. ⌜ r ≡ reading (now (words .entry)) (b .count) Found.Refused (λ s. nextFrom s i) ⌝ }
+    ensures { λ r. ⌜ r ≡ reading (now (words .entry)) b Found.Refused (λ s. nextFrom s i) ⌝ }
 {
     let n = b.count;
-    match storage::check(words.len(), n) {
+    match storage::check(words, b) {
         Guard::Stop(e) => return Found::Refused(e),
         Guard::Pass => {}
     }
@@ -168,10 +168,10 @@ pub fn next_set(words: &[u64], b: Bitmap, i: usize) -> Found
 
 // The first clear bit from i on; from the length on that is i.
 pub fn next_clear(words: &[u64], b: Bitmap, i: usize) -> Number
-    ensures { λ r. ⌜ r ≡ reading (now (words .entry)) (b .count) Number.Refused (λ s. Number.Is (nextClear s i)) ⌝ }
+    ensures { λ r. ⌜ r ≡ reading (now (words .entry)) b Number.Refused (λ s. Number.Is (nextClear s i)) ⌝ }
 {
     let n = b.count;
-    match storage::check(words.len(), n) {
+    match storage::check(words, b) {
         Guard::Stop(e) => return Number::Refused(e),
         Guard::Pass => {}
     }
@@ -240,15 +240,11 @@ fn same_words(a: &[u64], b: &[u64]) -> bool
 
 // Do both have the same bits set? Trailing zero words do not count.
 pub fn eq(words: &[u64], b: Bitmap, other: &[u64], o: Bitmap) -> Truth
-    ensures { λ r. ⌜ r ≡ reading (now (words .entry)) (b .count) Truth.Refused (λ s. reading (now (other .entry)) (o .count) Truth.Refused (λ t. Truth.Is (equal s t))) ⌝ }
+    ensures { λ r. ⌜ r ≡ readingBoth (now (words .entry)) b (now (other .entry)) o Truth.Refused (λ s t. Truth.Is (equal s t)) ⌝ }
 {
     let n = b.count;
-    match storage::check(words.len(), n) {
-        Guard::Stop(e) => return Truth::Refused(e),
-        Guard::Pass => {}
-    }
     let m = o.count;
-    match storage::check(other.len(), m) {
+    match storage::check_two(words, b, other, o) {
         Guard::Stop(e) => return Truth::Refused(e),
         Guard::Pass => {}
     }

@@ -18,8 +18,11 @@ use Rattle.word.proofs.Words.{bit-single, single-lt}
 use Rattle.word.proofs.Lists.{Fit, at-place, member-at, member-past, word-none, length-words, word-at, words-fit}
 use Rattle.word.proofs.Sweep.{getD-set}
 use Rattle.arch.specs.Scans.{nonzeroLen}
-use Rattle.storage.specs.Stores.{Bits, view, flipped, trimmedCount, trimmed, zeroed}
+use Rattle.storage.specs.Stores.{Bits, withCount, view, flipped, trimmedCount, trimmed, zeroed}
+use Rattle.storage.specs.Guards.{Passed}
+use Rattle.storage.specs.declared.Bitmap.{Bitmap}
 use Rattle.storage.proofs.Views.{view-count, view-out}
+use Rattle.storage.proofs.Checks.{passed-as}
 use Rattle.storage.proofs.Stores.{Stored, part-stored, length-zeroed, zeroed-out, zeroed-fit, grown-bit}
 use Rattle.storage.proofs.Trims.{trimmed-length, trimmed-stored}
 
@@ -97,6 +100,10 @@ module _ (ws z : List ℕ) (n e : ℕ) (ez : z ≡ zeroed n e ws) where
 
       front : (k : ℕ) → k < m → getD (part ++ drop m z) k 0 ≡ getD (wordsOf g m) k 0
       front k l = List·getD-append part (drop m z) 0 k (omega (arith, part-long)) ∙ ap (λ (y : List ℕ). getD y k 0) is
+
+-- the grown store passes with its count
+pub passed-grown : (ws z : List ℕ) (b : Bitmap) (e m : ℕ) → Passed ws b → z ≡ zeroed (b .count) e ws → m ≡ max (b .count) e → e ≤ length ws → Passed z (withCount b m)
+passed-grown ws z b e m p ez em h = passed-as ws z b m (grown-long ws z (b .count) e ez) (omega (arith, p .inside)) p
 
 -- ---- one bit of the grown words flipped
 

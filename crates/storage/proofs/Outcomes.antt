@@ -4,15 +4,16 @@ use mathlib.Core.Bool.{Bool, false}
 use mathlib.Core.List.{List}
 use Prim.Native.Nat.{ℕ, _≤_, _<_}
 use native.Mathlib.Omega.{arith}
-use lib.ListN.{length}
 use borrow.Author.Tests.{ne-eqb}
 use Rattle.word.specs.Sets.{xorb}
 use Rattle.word.proofs.Cases.{by-lt}
 use Rattle.storage.specs.Refusals.{numberOf}
-use Rattle.storage.specs.Stores.{Bits, Bounded, Outcome, refused, done, Op, limit, checked, view, beside, within, flipped, combined}
+use Rattle.storage.specs.Stores.{Bits, Bounded, Outcome, refused, done, Space, Op, checked, held, beside, within, flipped, combined}
+use Rattle.storage.specs.Guards.{Passed}
 use Rattle.storage.specs.Promises.{Sound, Meets, Unchanged, Never}
+use Rattle.storage.specs.declared.Bitmap.{Bitmap}
 use Rattle.storage.specs.declared.Refusal.{Refusal}
-use Rattle.storage.proofs.Checks.{checked-ok, checked-long, checked-over, within-ok, within-no, within-done}
+use Rattle.storage.proofs.Checks.{checked-ok, by-guard, within-ok, within-no, within-done}
 use Rattle.storage.proofs.Views.{bounded-view}
 
 pub same : {b s : Bits} → done b ≡ done s → b ≡ s
@@ -30,20 +31,15 @@ by-outcome (refused e) f g = g e refl
 by-outcome (done s) f g = f s refl
 
 -- a result that was refused for space has too many words
-pub lacks : (c : ℕ) (b : Bits) (e : Refusal) → within c b ≡ refused e → (numberOf e ≡ 6) × (c < b .count)
+pub lacks : (c : Space) (b : Bits) (e : Refusal) → within c b ≡ refused e → (numberOf e ≡ 6) × (c < b .count)
 lacks c b e q =
     by-lt c (b .count)
     (λ h. (ap numberOf (which (sym q ∙ within-no c b h)), h))
     (λ h. absurd (never (sym (within-ok c b h) ∙ q)))
 
--- what 1 and 2 let pass
-pub let-pass : (c n : ℕ) (o : Outcome) (s : Bits) → checked c n refused o ≡ done s → (o ≡ done s) × (n ≤ c)
-let-pass c n o s q =
-    by-lt limit c
-    (λ h. absurd (never (sym q ∙ checked-long c n refused o h)))
-    (λ h. by-lt c n
-    (λ l. absurd (never (sym q ∙ checked-over c n refused o h l)))
-    (λ l. (sym (checked-ok c n refused o h l) ∙ q, l)))
+-- what the guard lets pass
+pub let-pass : (ws : List ℕ) (b : Bitmap) (o : Outcome) (s : Bits) → checked ws b refused o ≡ done s → (o ≡ done s) × Passed ws b
+let-pass ws b o s q = by-guard ws b (λ e p. absurd (never (sym q ∙ p _ refused o))) (λ p. (sym (checked-ok ws b refused o p) ∙ q, p))
 
 pub bounded-flipped : (i : ℕ) (b : Bits) → Bounded b → Bounded (flipped i b)
 bounded-flipped i b h = record { past = λ j l. ap₂ xorb (h .past j (omega arith)) (ne-eqb j i (omega arith)) }
@@ -55,14 +51,14 @@ unfolding combined
 bounded-combined f e b o h k = record { past = λ i l. ap₂ f (h .past i (omega arith)) (k .past i (omega arith)) ∙ e }
 
 -- a result and its space
-pub sound-within : (op : Op) (f : Bits → Bits) → ((c : ℕ) (b : Bits) → op c b ≡ within c (f b)) → ((b : Bits) → Bounded b → Bounded (f b)) → Sound op
+pub sound-within : (op : Op) (f : Bits → Bits) → ((c : Space) (b : Bits) → op c b ≡ within c (f b)) → ((b : Bits) → Bounded b → Bounded (f b)) → Sound op
 sound-within op f e g = record {
   space = λ c b s h l q. let w = within-done c (f b) s (sym (e c b) ∙ q) in subst (λ (x : Bits). x .count ≤ c) (w .0) (w .1);
   bound = λ c b s h l q. let w = within-done c (f b) s (sym (e c b) ∙ q) in subst Bounded (w .0) (g b h);
 }
 
 -- a result of no more words than there were
-pub sound-done : (op : Op) (f : Bits → Bits) → ((c : ℕ) (b : Bits) → op c b ≡ done (f b)) → ((b : Bits) → f b .count ≤ b .count)
+pub sound-done : (op : Op) (f : Bits → Bits) → ((c : Space) (b : Bits) → op c b ≡ done (f b)) → ((b : Bits) → f b .count ≤ b .count)
     → ((b : Bits) → Bounded b → Bounded (f b)) → Sound op
 sound-done op f e k g = record {
   space = λ c b s h l q. subst (λ (x : Bits). x .count ≤ c) (same (sym (e c b) ∙ q)) (omega (arith, k b));
@@ -78,9 +74,9 @@ meets-nothing op e = record {
 }
 
 -- a second bitmap, looked at after the first
-pub sound-beside : (os : List ℕ) (n : ℕ) (op : Bits → Op) → ((o : Bits) → Bounded o → Sound (op o)) → Sound (beside os n op)
+pub sound-beside : (os : List ℕ) (o : Bitmap) (op : Bits → Op) → ((o : Bits) → Bounded o → Sound (op o)) → Sound (beside os o op)
 unfolding beside
-sound-beside os n op f = record {
-  space = λ c b s h l q. f (view os n) (bounded-view os n) .space c b s h l (let-pass (length os) n (op (view os n) c b) s q .0);
-  bound = λ c b s h l q. f (view os n) (bounded-view os n) .bound c b s h l (let-pass (length os) n (op (view os n) c b) s q .0);
+sound-beside os o op f = record {
+  space = λ c b s h l q. f (held os o) (bounded-view os (o .count)) .space c b s h l (let-pass os o (op (held os o) c b) s q .0);
+  bound = λ c b s h l q. f (held os o) (bounded-view os (o .count)) .bound c b s h l (let-pass os o (op (held os o) c b) s q .0);
 }

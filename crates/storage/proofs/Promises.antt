@@ -13,12 +13,22 @@ use Rattle.word.specs.Bits.{member}
 use Rattle.word.proofs.Cases.{by-lt, every-at, or-true, and-true}
 use Rattle.word.proofs.Sets.{least, counted}
 use Rattle.word.proofs.Lists.{determined, at-place, member-at}
-use Rattle.storage.specs.Refusals.{lastNumber, numberOf, changeNumber, changeRecord, guardNumber, foundNumber, foundFlag, foundValue, numberNumber, numberValue, fieldNumber, fieldValue, truthNumber, truthValue}
-use Rattle.storage.specs.Stores.{Bits, Bounded, Outcome, refused, done, Op, limit, checked, view, beside, reading, combined, written, zeroed, answer, store, outcome, Leaves, foundBelow, nextFrom, size, wordsFor}
-use Rattle.storage.specs.Promises.{EachNumberOnce, Guarded, CheckMeans, RefusalKeeps, GrowMeans, WordsAndSets, SpaceRules, WrittenMeans, SpaceExact, TrimmedCountMeans, CombinedMeans, UnitedMeans, AndNotMeans, SizeMeans, PlacesMean, HandsNone, FindsNone, AnswersTell, Tests, Finds, NextMember, NextFromMeans, NumberCall, FieldCall, TruthCall, FoundCall, Meets, Kept, Made, Ends, EndsAs, ChangeMeans, MakeMeans, BesideMeans, OneEnd, Exactly, MeetsExactly, OnceExact, Determines, DeterminesBeside, Chains}
+use Rattle.storage.specs.Refusals.{lastNumber, numberOf, changeNumber, changeRecord, guardNumber, foundNumber, foundFlag, foundValue}
+use Rattle.storage.specs.Refusals.{numberNumber, numberValue, fieldNumber, fieldValue, truthNumber, truthValue}
+use Rattle.storage.specs.Stores.{Bits, Bounded, Outcome, refused, done, Space, Op, noWords, withCount, spaceOf, checked, view, held, beside}
+use Rattle.storage.specs.Stores.{reading, readingBoth, combined, written, answer, store, outcome, Leaves, foundBelow, nextFrom, size}
+use Rattle.storage.specs.Stores.{wordsFor}
+use Rattle.storage.specs.Guards.{Stopped, Passed}
+use Rattle.storage.specs.Promises.{EachNumberOnce, Guarded, CheckMeans, GuardedBoth, CheckTwoMeans}
+use Rattle.storage.specs.Promises.{CheckThreeMeans, RefusalKeeps, GrowMeans, WordsAndSets, SpaceRules, WrittenMeans, SpaceExact}
+use Rattle.storage.specs.Promises.{TrimmedCountMeans, CombinedMeans, UnitedMeans, AndNotMeans, SizeMeans, PlacesMean, HandsNone, FindsNone}
+use Rattle.storage.specs.Promises.{AnswersTell, Tests, Finds, NextMember, NextFromMeans, ReadingsMean, RecordsMean, NumberCall, FieldCall, TruthCall, FoundCall, Meets}
+use Rattle.storage.specs.Promises.{Kept, Made, Ends, EndsAs, ChangeMeans, MakeMeans, BesideMeans, OneEnd, Exactly, MeetsExactly, OnceExact}
+use Rattle.storage.specs.Promises.{Determines, DeterminesBeside, Chains}
 use Rattle.storage.specs.declared.Bitmap.{Bitmap}
 use Rattle.storage.specs.declared.Refusal.{Refusal}
-use Rattle.storage.specs.declared.Refusal.the-variants.{StoreTooLong, CountOverStore, WidthOver, IndexOver, PastLength, NoSpace, NotList, NotAscii, NotSheet, CutRecord, BytesRemain, BadPayload, NewerKind, NoEdition}
+use Rattle.storage.specs.declared.Refusal.the-variants.{StoreTooLong, CountOverStore, WidthOver, IndexOver, PastLength, NoSpace, NotList}
+use Rattle.storage.specs.declared.Refusal.the-variants.{NotAscii, NotSheet, CutRecord, BytesRemain, BadPayload, NewerKind, NoEdition}
 use Rattle.storage.specs.declared.Found.{Found}
 use Rattle.storage.specs.declared.Found.the-variants.{At, Nothing, Refused}
 use Rattle.storage.specs.declared.Number.{Number}
@@ -30,7 +40,7 @@ use Rattle.storage.specs.declared.Truth.the-variants.{Is, Refused}
 use Rattle.storage.specs.declared.Guard.the-variants.{Pass, Stop}
 use Rattle.storage.specs.declared.Change.{Change}
 use Rattle.storage.specs.declared.Change.the-variants.{Done, Refused}
-use Rattle.storage.proofs.Checks.{checked-ok, checked-long, checked-over, within-ok, within-no}
+use Rattle.storage.proofs.Checks.{checked-ok, which-way, refuses, passed-as, within-ok, within-no}
 use Rattle.storage.proofs.Outcomes.{by-outcome, let-pass, same, never, which}
 use Rattle.storage.proofs.Views.{view-count, view-in, bounded-view}
 use Rattle.storage.proofs.Stores.{Stored, stored-written, written-stored, view-written, written-view, length-written, length-zeroed, zeroed-in, zeroed-out}
@@ -89,28 +99,58 @@ each-number-once = record {
 -- ---- 1, then 2
 
 -- what a guard lets pass, and what it says where it does not
-pub guarded : {A : Type 0} (c n : ℕ) (refuse : Refusal → A) (a : A) (No : A → ℕ → Type 0) (Rest : A → Type 0) → ((e : Refusal) → No (refuse e) (numberOf e))
-    → (c ≤ limit → n ≤ c → Rest a) → (r : A) → r ≡ checked c n refuse a → Guarded c n (No r) (Rest r)
-guarded c n refuse a No Rest stop rest r q = record {
-  long = λ h. subst (λ x. No x 1) (sym (q ∙ checked-long c n refuse a h)) (stop StoreTooLong);
-  over = λ h l. subst (λ x. No x 2) (sym (q ∙ checked-over c n refuse a h l)) (stop CountOverStore);
-  rest = λ h l. subst Rest (sym (q ∙ checked-ok c n refuse a h l)) (rest h l);
+pub guarded : {A : Type 0} (ws : List ℕ) (b : Bitmap) (refuse : Refusal → A) (a : A) (No : A → ℕ → Type 0) (Rest : A → Type 0)
+    → ((e : Refusal) → No (refuse e) (numberOf e)) → (Passed ws b → Rest a) → (r : A) → r ≡ checked ws b refuse a → Guarded ws b (No r) (Rest r)
+guarded ws b refuse a No Rest stop rest r q = record {
+  stop = λ k s.
+      let t = refuses ws b k s in
+      subst (No r) (t .number) (subst (λ x. No x (numberOf (t .why))) (sym (q ∙ t .is _ refuse a)) (stop (t .why)));
+  rest = λ p. subst Rest (sym (q ∙ checked-ok ws b refuse a p)) (rest p);
 }
 
 -- of what holds where nothing is refused, something else follows
-pub guarded-map : {c n : ℕ} {No : ℕ → Type 0} {P Q : Type 0} → (c ≤ limit → n ≤ c → P → Q) → Guarded c n No P → Guarded c n No Q
-guarded-map f g = record { long = g .long; over = g .over; rest = λ h l. f h l (g .rest h l) }
+pub guarded-map : {ws : List ℕ} {b : Bitmap} {No : ℕ → Type 0} {P Q : Type 0} → (Passed ws b → P → Q) → Guarded ws b No P → Guarded ws b No Q
+guarded-map f g = record { stop = g .stop; rest = λ p. f p (g .rest p) }
 
 pub check-means : CheckMeans
-check-means c n = guarded c n Stop Pass (λ r k. guardNumber r ≡ k) (λ r. guardNumber r ≡ 0) (λ e. refl) (λ h l. refl) (checked c n Stop Pass) refl
+check-means ws b = guarded ws b Stop Pass (λ r k. guardNumber r ≡ k) (λ r. guardNumber r ≡ 0) (λ e. refl) (λ p. refl) (checked ws b Stop Pass) refl
+
+pub check-two-means : CheckTwoMeans
+check-two-means ws b os o =
+    guarded ws b Stop (checked os o Stop Pass) (λ r k. guardNumber r ≡ k) (λ r. Guarded os o (λ k. guardNumber r ≡ k) (guardNumber r ≡ 0)) (λ e. refl)
+    (λ p. check-means os o) _ refl
+
+pub check-three-means : CheckThreeMeans
+check-three-means ws b ls l rs r =
+    guarded ws b Stop (checked ls l Stop (checked rs r Stop Pass)) (λ g k. guardNumber g ≡ k)
+    (λ g. GuardedBoth ls l rs r (λ k. guardNumber g ≡ k) (guardNumber g ≡ 0)) (λ e. refl) (λ p. check-two-means ls l rs r) _ refl
 
 -- a call that only reads: what holds of its answer for every bitmap holds of it here
 pub reading-means : {A : Type 0} (refuse : Refusal → A) (f : Bits → A) (No : A → ℕ → Type 0) (Rest : Bits → A → Type 0)
-    → ((e : Refusal) → No (refuse e) (numberOf e)) → ((b : Bits) → Bounded b → Rest b (f b)) → (ws : List ℕ) (n : ℕ) (r : A) → r ≡ reading ws n refuse f
-    → Guarded (length ws) n (No r) (Rest (view ws n) r)
+    → ((e : Refusal) → No (refuse e) (numberOf e)) → ((b : Bits) → Bounded b → Rest b (f b)) → (ws : List ℕ) (b : Bitmap) (r : A) → r ≡ reading ws b refuse f
+    → Guarded ws b (No r) (Rest (held ws b) r)
 unfolding reading
-reading-means refuse f No Rest stop rest ws n r q =
-    guarded (length ws) n refuse (f (view ws n)) No (Rest (view ws n)) stop (λ h l. rest (view ws n) (bounded-view ws n)) r q
+reading-means refuse f No Rest stop rest ws b r q =
+    guarded ws b refuse (f (held ws b)) No (Rest (held ws b)) stop (λ p. rest (held ws b) (bounded-view ws (b .count))) r q
+
+-- and of two bitmaps
+pub both-means : {A : Type 0} (refuse : Refusal → A) (f : Bits → Bits → A) (No : A → ℕ → Type 0) (Rest : Bits → Bits → A → Type 0)
+    → ((e : Refusal) → No (refuse e) (numberOf e)) → ((b o : Bits) → Bounded b → Bounded o → Rest b o (f b o))
+    → (ws : List ℕ) (b : Bitmap) (os : List ℕ) (o : Bitmap) (r : A) → r ≡ readingBoth ws b os o refuse f
+    → GuardedBoth ws b os o (No r) (Rest (held ws b) (held os o) r)
+unfolding readingBoth
+both-means refuse f No Rest stop rest ws b os o =
+    reading-means refuse (λ s. reading os o refuse (f s)) No (λ s a. Guarded os o (No a) (Rest s (held os o) a)) stop
+    (λ s h. reading-means refuse (f s) No (Rest s) stop (λ t k. rest s t h k) os o (reading os o refuse (f s)) refl) ws b
+
+pub readings-mean : ReadingsMean
+readings-mean = record {
+  one = λ A refuse f No Rest. reading-means refuse f No Rest;
+  two = λ A refuse f No Rest. both-means refuse f No Rest;
+}
+
+pub records-mean : RecordsMean
+records-mean = record { none = refl; made = λ b n. refl; kept = λ b. refl }
 
 -- a test whose truth value is true exactly where P holds
 pub tests : (P : Type 0) (t : Bool) → (t ≡ true → P) → (P → t ≡ true) → Tests P (truthNumber (Truth.Is t)) (truthValue (Truth.Is t))
@@ -214,15 +254,16 @@ keeps (refused e) ws ws' b r l p = (ap changeRecord (l .answers), l .leaves)
 keeps (done s) ws ws' b r l p = absurd (omega (arith, ap changeNumber (l .answers)))
 
 pub refusal-keeps : RefusalKeeps
-refusal-keeps op ws ws' b r l p = keeps (outcome op ws (b .count)) ws ws' b r l p
+refusal-keeps op ws ws' b r l p = keeps (outcome op ws b) ws ws' b r l p
 
 -- a guard before an outcome
-pub leaves-guarded : (c n : ℕ) (o : Outcome) (ws ws' : List ℕ) (b : Bitmap) (r : Change) → Leaves (checked c n refused o) ws b r ws'
-    → Guarded c n (Kept (b .count) ws (changeNumber r) (changeRecord r .count) ws') (Leaves o ws b r ws')
-leaves-guarded c n o ws ws' b r l = record {
-  long = λ h. leaves-kept _ ws ws' b r StoreTooLong l (checked-long c n refused o h);
-  over = λ h k. leaves-kept _ ws ws' b r CountOverStore l (checked-over c n refused o h k);
-  rest = λ h k. subst (λ (x : Outcome). Leaves x ws b r ws') (checked-ok c n refused o h k) l;
+pub leaves-guarded : (os : List ℕ) (o : Bitmap) (x : Outcome) (ws ws' : List ℕ) (b : Bitmap) (r : Change) → Leaves (checked os o refused x) ws b r ws'
+    → Guarded os o (Kept (b .count) ws (changeNumber r) (changeRecord r .count) ws') (Leaves x ws b r ws')
+leaves-guarded os o x ws ws' b r l = record {
+  stop = λ k s.
+      let t = refuses os o k s in
+      subst (Kept (b .count) ws (changeNumber r) (changeRecord r .count) ws') (t .number) (leaves-kept _ ws ws' b r (t .why) l (t .is _ refused x));
+  rest = λ p. subst (λ (y : Outcome). Leaves y ws b r ws') (checked-ok os o refused x p) l;
 }
 
 -- a store that was written with s holds it
@@ -242,7 +283,7 @@ leaves-made : (o : Outcome) (ws ws' : List ℕ) (b : Bitmap) (r : Change) (s : B
     → b .count ≤ length ws → s .count ≤ length ws → Bounded s → rule s → Made rule (b .count) ws (changeNumber r) (changeRecord r .count) ws'
 unfolding answer store
 leaves-made o ws ws' b r s rule l q h k bound holds =
-    let a : r ≡ Done (record { count = s .count }) = l .answers ∙ ap (λ (x : Outcome). answer x b) q in
+    let a : r ≡ Done (withCount b (s .count)) = l .answers ∙ ap (λ (x : Outcome). answer x b) q in
     stored rule (b .count) ws ws' s _ _ h k bound holds (ap changeNumber a) (ap (λ (x : Change). changeRecord x .count) a)
     (l .leaves ∙ ap (λ (x : Outcome). store x ws (b .count)) q)
 
@@ -250,13 +291,13 @@ positive : (e : Refusal) → 0 < numberOf e
 positive e = omega (arith, range e .0)
 
 -- an operation by its promise, on a bitmap that 1 and 2 have let pass
-pub leaves-ends : (op : Op) (rule : ℕ → Bits → Bits → Type 0) (why : ℕ → Bits → ℕ → Type 0) → Meets op rule why
-    → (ws ws' : List ℕ) (b : Bitmap) (r : Change) → b .count ≤ length ws → Leaves (op (length ws) (view ws (b .count))) ws b r ws'
-    → EndsAs rule why (view ws (b .count)) ws (changeNumber r) (changeRecord r .count) ws'
-leaves-ends op rule why meets ws ws' b r h l =
+pub leaves-ends : (op : Op) (rule : Space → Bits → Bits → Type 0) (why : Space → Bits → ℕ → Type 0) → Meets op rule why
+    → (ws ws' : List ℕ) (b : Bitmap) (r : Change) → Passed ws b → Leaves (op (spaceOf ws) (held ws b)) ws b r ws'
+    → EndsAs rule why (held ws b) ws (changeNumber r) (changeRecord r .count) ws'
+leaves-ends op rule why meets ws ws' b r p l =
     subst (λ (n : ℕ). Ends (rule (length ws) s) (why (length ws) s) n ws (changeNumber r) (changeRecord r .count) ws') (sym (view-count ws (b .count)))
     (by-outcome (op (length ws) s)
-    (λ t q. inl (leaves-made _ ws ws' b r t (rule (length ws) s) l q h
+    (λ t q. inl (leaves-made _ ws ws' b r t (rule (length ws) s) l q (p .inside)
     (meets .sound .space (length ws) s t bound in-view q)
     (meets .sound .bound (length ws) s t bound in-view q)
     (meets .made (length ws) s t q)))
@@ -269,34 +310,34 @@ leaves-ends op rule why meets ws ws' b r h l =
     )))
   where
     s : Bits
-    s = view ws (b .count)
+    s = held ws b
 
     bound : Bounded s
     bound = bounded-view ws (b .count)
 
     in-view : s .count ≤ length ws
-    in-view = omega (arith, h, view-count ws (b .count))
+    in-view = omega (arith, p .inside, view-count ws (b .count))
 
 pub change-means : ChangeMeans
 unfolding outcome
 change-means op rule why meets ws ws' b r l =
-    guarded-map (λ h k. leaves-ends op rule why meets ws ws' b r k)
-    (leaves-guarded (length ws) (b .count) (op (length ws) (view ws (b .count))) ws ws' b r l)
+    guarded-map (leaves-ends op rule why meets ws ws' b r)
+    (leaves-guarded ws b (op (spaceOf ws) (held ws b)) ws ws' b r l)
 
 pub make-means : MakeMeans
-make-means op rule why meets ws ws' r l = change-means op rule why meets ws ws' (record { count = 0 }) r l
+make-means op rule why meets ws ws' r l = change-means op rule why meets ws ws' noWords r l
 
 pub beside-means : BesideMeans
 unfolding outcome beside
-beside-means op rule why meets os ws ws' n b r l =
+beside-means op rule why meets os ws ws' o b r l =
     guarded-map
-    (λ h k x.
-    guarded-map (λ h' k'. leaves-ends (op o) (rule o) (why o) (meets o (bounded-view os n)) ws ws' b r k)
-    (leaves-guarded (length os) n (op o (length ws) (view ws (b .count))) ws ws' b r x))
-    (leaves-guarded (length ws) (b .count) (beside os n op (length ws) (view ws (b .count))) ws ws' b r l)
+    (λ p x.
+    guarded-map (λ p'. leaves-ends (op s) (rule s) (why s) (meets s (bounded-view os (o .count))) ws ws' b r p)
+    (leaves-guarded os o (op s (spaceOf ws) (held ws b)) ws ws' b r x))
+    (leaves-guarded ws b (beside os o op (spaceOf ws) (held ws b)) ws ws' b r l)
   where
-    o : Bits
-    o = view os n
+    s : Bits
+    s = held os o
 
 -- ---- one answer
 
@@ -335,16 +376,16 @@ made-written rule n ws ws' x m f h =
 kept-once : (n : ℕ) (ws xs ys : List ℕ) (x y k m a : ℕ) → Kept n ws x k xs a → Kept n ws y m ys a → (x ≡ y) × (k ≡ m) × (xs ≡ ys)
 kept-once n ws xs ys x y k m a p q = (p .number ∙ sym (q .number), p .count ∙ sym (q .count), p .words ∙ sym (q .words))
 
-module _ (op : Op) (rule : ℕ → Bits → Bits → Type 0) (why : ℕ → Bits → ℕ → Type 0) (exact : MeetsExactly op rule why) (ws xs ys : List ℕ) (n x y k m : ℕ)
+module _ (op : Op) (rule : Space → Bits → Bits → Type 0) (why : Space → Bits → ℕ → Type 0) (exact : MeetsExactly op rule why) (ws xs ys : List ℕ) (o : Bitmap) (x y k m : ℕ)
     (f : (i : ℕ) → getD xs i 0 < 2 ^ 64) (g : (i : ℕ) → getD ys i 0 < 2 ^ 64) where
-  pub ends-one : length ws ≤ limit → n ≤ length ws → EndsAs rule why (view ws n) ws x k xs → EndsAs rule why (view ws n) ws y m ys → (x ≡ y) × (k ≡ m) × (xs ≡ ys)
-  ends-one h l = go
+  pub ends-one : Passed ws o → EndsAs rule why (held ws o) ws x k xs → EndsAs rule why (held ws o) ws y m ys → (x ≡ y) × (k ≡ m) × (xs ≡ ys)
+  ends-one p = go
     where
       b : Bits
-      b = view ws n
+      b = held ws o
 
       is : Exactly (length ws) (op (length ws) b) (rule (length ws) b) (why (length ws) b)
-      is = exact (length ws) b h (omega (arith, view-count ws n)) (bounded-view ws n)
+      is = exact (length ws) b (p .short) (omega (arith, p .inside, view-count ws (o .count))) (bounded-view ws (o .count))
 
       makes : {x k : ℕ} {xs : List ℕ} → Made (rule (length ws) b) (b .count) ws x k xs → op (length ws) b ≡ done (view xs k)
       makes {k = k} {xs = xs} u = is .done-is (view xs k) .1 (u .made, omega (arith, u .inside, view-count xs k))
@@ -368,25 +409,26 @@ module _ (op : Op) (rule : ℕ → Bits → Bits → Type 0) (why : ℕ → Bits
           kept-once (b .count) ws xs ys x y k m x (u .2) (subst (Kept (b .count) ws y m ys) (sym t) (v .2))
 
 -- 1 and 2 leave one answer, and else what is left to say decides
-pub guarded-once : (c l n : ℕ) (ws xs ys : List ℕ) (x y k m : ℕ) {P Q : Type 0} → Guarded c l (Kept n ws x k xs) P → Guarded c l (Kept n ws y m ys) Q
-    → (c ≤ limit → l ≤ c → P → Q → (x ≡ y) × (k ≡ m) × (xs ≡ ys)) → (x ≡ y) × (k ≡ m) × (xs ≡ ys)
-guarded-once c l n ws xs ys x y k m p q f =
-    by-lt limit c
-    (λ h. kept-once n ws xs ys x y k m 1 (p .long h) (q .long h))
-    (λ h. by-lt c l (λ g. kept-once n ws xs ys x y k m 2 (p .over h g) (q .over h g)) (λ g. f h g (p .rest h g) (q .rest h g)))
+pub guarded-once : (os : List ℕ) (o : Bitmap) (n : ℕ) (ws xs ys : List ℕ) (x y k m : ℕ) {P Q : Type 0} → Guarded os o (Kept n ws x k xs) P
+    → Guarded os o (Kept n ws y m ys) Q → (Passed os o → P → Q → (x ≡ y) × (k ≡ m) × (xs ≡ ys)) → (x ≡ y) × (k ≡ m) × (xs ≡ ys)
+guarded-once os o n ws xs ys x y k m {P} {Q} p q f = go (which-way os o)
+  where
+    go : ((x : ℕ) × Stopped os o x) ⊎ Passed os o → (x ≡ y) × (k ≡ m) × (xs ≡ ys)
+    go (inl (z, s)) = kept-once n ws xs ys x y k m z (p .stop z s) (q .stop z s)
+    go (inr t) = f t (p .rest t) (q .rest t)
 
 pub determines : Determines
-determines op rule why exact ws xs ys n x y k m f g p q =
-    guarded-once (length ws) n n ws xs ys x y k m p q (ends-one op rule why exact ws xs ys n x y k m f g)
+determines op rule why exact ws xs ys b x y k m f g p q =
+    guarded-once ws b (b .count) ws xs ys x y k m p q (ends-one op rule why exact ws xs ys b x y k m f g)
 
 pub determines-beside : DeterminesBeside
-determines-beside op rule why exact os ws xs ys l n x y k m f g p q =
-    guarded-once (length ws) n n ws xs ys x y k m p q
-    (λ h j p' q'. guarded-once (length os) l n ws xs ys x y k m p' q'
-    (λ h' j'. ends-one (op o) (rule o) (why o) (exact o (bounded-view os l)) ws xs ys n x y k m f g h j))
+determines-beside op rule why exact os ws xs ys o b x y k m f g p q =
+    guarded-once ws b (b .count) ws xs ys x y k m p q
+    (λ t p' q'. guarded-once os o (b .count) ws xs ys x y k m p' q'
+    (λ t'. ends-one (op s) (rule s) (why s) (exact s (bounded-view os (o .count))) ws xs ys b x y k m f g t))
   where
-    o : Bits
-    o = view os l
+    s : Bits
+    s = held os o
 
 pub grow-means : GrowMeans
 grow-means old new ws = record {
@@ -423,18 +465,18 @@ and-not-means false q = ((λ e. absurd (false≢true e)), (λ h. h .0))
 -- ---- calls in a row
 
 accepted : (o : Outcome) (ws ws' : List ℕ) (b : Bitmap) (r : Change) → Leaves o ws b r ws' → changeNumber r ≡ 0
-    → (s : Bits) × (o ≡ done s) × (changeRecord r .count ≡ s .count) × (ws' ≡ written ws (b .count) s)
+    → (s : Bits) × (o ≡ done s) × (changeRecord r ≡ withCount b (s .count)) × (ws' ≡ written ws (b .count) s)
 unfolding answer store
 accepted (refused e) ws ws' b r l z = absurd (omega (arith, positive e, ap changeNumber (l .answers)))
-accepted (done s) ws ws' b r l z = (s, refl, ap (λ (r : Change). changeRecord r .count) (l .answers), l .leaves)
+accepted (done s) ws ws' b r l z = (s, refl, ap changeRecord (l .answers), l .leaves)
 
 pub chains : Chains
 unfolding outcome
 chains op ws ws' b r sound l z =
-    let a = accepted (outcome op ws (b .count)) ws ws' b r l z in
+    let a = accepted (outcome op ws b) ws ws' b r l z in
     let s : Bits = a .0 in
-    let p = let-pass (length ws) (b .count) (op (length ws) (view ws (b .count))) s (a .1) in
-    let in-view : view ws (b .count) .count ≤ length ws = subst (λ (n : ℕ). n ≤ length ws) (sym (view-count ws (b .count))) (p .1) in
+    let p = let-pass ws b (op (spaceOf ws) (held ws b)) s (a .1) in
+    let in-view : view ws (b .count) .count ≤ length ws = subst (λ (n : ℕ). n ≤ length ws) (sym (view-count ws (b .count))) (p .1 .inside) in
     let room : s .count ≤ length ws = sound .space (length ws) (view ws (b .count)) s (bounded-view ws (b .count)) in-view (p .0) in
     let bound : Bounded s = sound .bound (length ws) (view ws (b .count)) s (bounded-view ws (b .count)) in-view (p .0) in
     let long : length ws' ≡ length ws = ap length (a .3) ∙ length-written ws (b .count) s in (
@@ -442,8 +484,9 @@ chains op ws ws' b r sound l z =
       record {
         made = p .0;
         long = long;
-        seen = ap (view ws') (a .2) ∙ ap (λ (y : List ℕ). view y (s .count)) (a .3) ∙ view-written ws (b .count) s room (p .1) bound;
-        inside = omega (arith, a .2);
+        seen = ap (held ws') (a .2) ∙ ap (λ (y : List ℕ). view y (s .count)) (a .3) ∙ view-written ws (b .count) s room (p .1 .inside) bound;
+        record-is = a .2;
+        passes = subst (Passed ws') (sym (a .2)) (passed-as ws ws' b (s .count) long room (p .1));
       },
     )
 

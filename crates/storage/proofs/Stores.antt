@@ -17,13 +17,14 @@ use Rattle.word.proofs.Lists.{Fit, at-place, past, length-tab, tab-at, tab-is, 
 use Rattle.word.proofs.Sweep.{getD-set}
 use Rattle.arch.specs.Scans.{filledWords}
 use Rattle.arch.proofs.Regions.{length-filled-words, filled-in, filled-below, filled-above}
-use Rattle.storage.specs.Stores.{Bits, Bounded, Outcome, refused, done, Op, checked, view, beside, wordAt, written, zeroed, answer, store, Leaves, outcome, Changes}
+use Rattle.storage.specs.Stores.{Bits, Bounded, Outcome, refused, done, Op, withCount, spaceOf, checked, view, held, beside, wordAt, written, zeroed, answer, store, Leaves, outcome, Changes}
+use Rattle.storage.specs.Guards.{Passed}
 use Rattle.storage.specs.declared.Bitmap.{Bitmap}
 use Rattle.storage.specs.declared.Refusal.{Refusal}
 use Rattle.storage.specs.declared.Change.{Change}
 use Rattle.storage.specs.declared.Change.the-variants.{Done, Refused}
 use Rattle.storage.specs.declared.Guard.the-variants.{Pass, Stop}
-use Rattle.storage.proofs.Checks.{Passed, checked-ok, stopped, beside-stopped}
+use Rattle.storage.proofs.Checks.{checked-ok, stopped, stopped-two}
 use Rattle.storage.proofs.Views.{view-count, view-in, view-out}
 
 -- ---- the store afterwards, by its words and their bits
@@ -162,39 +163,39 @@ leaves-refused {o} {ws} {b} {e} q =
     record { answers = ap (λ (x : Outcome). answer x b) (sym q); leaves = ap (λ (x : Outcome). store x ws (b .count)) (sym q) }
 
 pub leaves-done : {o : Outcome} {ws ws' : List ℕ} {b : Bitmap} {s : Bits} {m : ℕ} → o ≡ done s → Stored ws (b .count) s ws' → m ≡ s .count
-    → Leaves o ws b (Done (record { count = m })) ws'
+    → Leaves o ws b (Done (withCount b m)) ws'
 unfolding answer store
 leaves-done {o} {ws} {ws'} {b} {s} {m} q t e = record {
-  answers = ap (λ (k : ℕ). Done (record { count = k })) e ∙ ap (λ (x : Outcome). answer x b) (sym q);
+  answers = ap (λ (k : ℕ). Done (withCount b k)) e ∙ ap (λ (x : Outcome). answer x b) (sym q);
   leaves = stored-written ws (b .count) s ws' t ∙ ap (λ (x : Outcome). store x ws (b .count)) (sym q);
 }
 
 module _ (op : Op) (ws : List ℕ) (b : Bitmap) where
-  pub outcome-ok : Passed (length ws) (b .count) → outcome op ws (b .count) ≡ op (length ws) (view ws (b .count))
+  pub outcome-ok : Passed ws b → outcome op ws b ≡ op (spaceOf ws) (held ws b)
   unfolding outcome
-  outcome-ok p = checked-ok (length ws) (b .count) refused (op (length ws) (view ws (b .count))) (p .short) (p .inside)
+  outcome-ok p = checked-ok ws b refused (op (spaceOf ws) (held ws b)) p
 
   -- refused by 1 or 2
-  pub changes-stopped : (e : Refusal) → Stop e ≡ checked (length ws) (b .count) Stop Pass → Changes op ws b (Refused e b) ws
+  pub changes-stopped : (e : Refusal) → Stop e ≡ checked ws b Stop Pass → Changes op ws b (Refused e b) ws
   unfolding outcome
-  changes-stopped e p = leaves-refused (stopped (length ws) (b .count) e refused (op (length ws) (view ws (b .count))) p)
+  changes-stopped e p = leaves-refused (stopped ws b e refused (op (spaceOf ws) (held ws b)) p)
 
   -- refused by the operation
-  pub changes-refused : (e : Refusal) → Passed (length ws) (b .count) → op (length ws) (view ws (b .count)) ≡ refused e → Changes op ws b (Refused e b) ws
+  pub changes-refused : (e : Refusal) → Passed ws b → op (spaceOf ws) (held ws b) ≡ refused e → Changes op ws b (Refused e b) ws
   changes-refused e p q = leaves-refused (outcome-ok p ∙ q)
 
-  pub changes-done : (ws' : List ℕ) (s : Bits) (m : ℕ) → Passed (length ws) (b .count) → op (length ws) (view ws (b .count)) ≡ done s
-      → Stored ws (b .count) s ws' → m ≡ s .count → Changes op ws b (Done (record { count = m })) ws'
+  pub changes-done : (ws' : List ℕ) (s : Bits) (m : ℕ) → Passed ws b → op (spaceOf ws) (held ws b) ≡ done s
+      → Stored ws (b .count) s ws' → m ≡ s .count → Changes op ws b (Done (withCount b m)) ws'
   changes-done ws' s m p q t e = leaves-done (outcome-ok p ∙ q) t e
 
 -- two operations that come to the same on a store
-pub changes-same : (op other : Op) (ws ws' : List ℕ) (b : Bitmap) (r : Change) → op (length ws) (view ws (b .count)) ≡ other (length ws) (view ws (b .count))
+pub changes-same : (op other : Op) (ws ws' : List ℕ) (b : Bitmap) (r : Change) → op (spaceOf ws) (held ws b) ≡ other (spaceOf ws) (held ws b)
     → Changes other ws b r ws' → Changes op ws b r ws'
 unfolding outcome
-changes-same op other ws ws' b r e h = subst (λ (o : Outcome). Leaves (checked (length ws) (b .count) refused o) ws b r ws') (sym e) h
+changes-same op other ws ws' b r e h = subst (λ (o : Outcome). Leaves (checked ws b refused o) ws b r ws') (sym e) h
 
 -- a call that changes nothing
-pub keeps-changes : (op : Op) (ws : List ℕ) (b : Bitmap) → Fit ws → Passed (length ws) (b .count) → op (length ws) (view ws (b .count)) ≡ done (view ws (b .count))
+pub keeps-changes : (op : Op) (ws : List ℕ) (b : Bitmap) → Fit ws → Passed ws b → op (spaceOf ws) (held ws b) ≡ done (view ws (b .count))
     → Changes op ws b (Done b) ws
 keeps-changes op ws b f p q =
     changes-done op ws b ws (view ws (b .count)) (b .count) p q
@@ -228,8 +229,8 @@ part-stored ws ws' n f s h e q g = record {
     front k l = ap (λ (y : List ℕ). getD y k 0) e ∙ List·getD-append (wordsOf f n) (drop n ws) 0 k (omega (arith, length-words f n))
 
 -- a call that keeps the count, by a kernel that leaves the words of g
-pub part-changes : (op : Op) (ws part : List ℕ) (b : Bitmap) (g : ℕ → Bool) (s : Bits) → Passed (length ws) (b .count)
-    → op (length ws) (view ws (b .count)) ≡ done s → s .count ≡ b .count → part ≡ wordsOf g (length (take (b .count) ws))
+pub part-changes : (op : Op) (ws part : List ℕ) (b : Bitmap) (g : ℕ → Bool) (s : Bits) → Passed ws b
+    → op (spaceOf ws) (held ws b) ≡ done s → s .count ≡ b .count → part ≡ wordsOf g (length (take (b .count) ws))
     → ((i : ℕ) → i < 64 * b .count → g i ≡ s .members i) → Changes op ws b (Done b) (part ++ drop (b .count) ws)
 part-changes op ws part b g s p q e w h =
     changes-done op ws b (part ++ drop n ws) s n p q
@@ -259,7 +260,8 @@ word-stored ws n k v s f h l e hv here there = record {
   kept = λ m p q. getD-set-other ws k m v 0 (omega arith);
 }
 
--- refused by the second store's 1 or 2
-pub second-stopped : (op : Bits → Op) (ws os : List ℕ) (b : Bitmap) (m : ℕ) (e : Refusal) → Passed (length ws) (b .count) → Stop e ≡ checked (length os) m Stop Pass
-    → Changes (beside os m op) ws b (Refused e b) ws
-second-stopped op ws os b m e p q = changes-refused (beside os m op) ws b e p (beside-stopped os m op (length ws) (view ws (b .count)) e q)
+-- refused by the 1 or 2 of either store
+pub two-stopped : (op : Bits → Op) (ws os : List ℕ) (b o : Bitmap) (e : Refusal) → Stop e ≡ checked ws b Stop (checked os o Stop Pass)
+    → Changes (beside os o op) ws b (Refused e b) ws
+unfolding outcome beside
+two-stopped op ws os b o e p = leaves-refused (stopped-two ws b os o e refused (op (held os o) (spaceOf ws) (held ws b)) p)

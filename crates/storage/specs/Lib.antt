@@ -1,4 +1,5 @@
 pub mod Refusals
 pub mod Stores
 pub mod Kernels
+pub mod Guards
 pub mod Promises

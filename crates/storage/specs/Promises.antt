@@ -7,8 +7,12 @@ use mathlib.Core.Logic.{_↔_, _⊎_}
 use lib.ListN.{length, getD}
 use Rattle.word.specs.Sets.{Counted}
 use Rattle.word.specs.Bits.{member}
-use Rattle.storage.specs.Refusals.{lastNumber, numberOf, foundNumber, foundFlag, foundValue, numberNumber, numberValue, fieldNumber, fieldValue, truthNumber, truthValue, changeNumber, changeRecord, guardNumber}
-use Rattle.storage.specs.Stores.{Bits, Bounded, Outcome, refused, done, Op, checked, view, beside, reading, size, combined, andNot, nextFrom, within, upTo, inRegion, passes, wordsFor, trimmedCount, trimmed, written, zeroed, Changes, Makes}
+use Rattle.storage.specs.Guards.{mostWords, Stopped, Passed}
+use Rattle.storage.specs.Refusals.{lastNumber, numberOf, foundNumber, foundFlag, foundValue, numberNumber, numberValue, fieldNumber}
+use Rattle.storage.specs.Refusals.{fieldValue, truthNumber, truthValue, changeNumber, changeRecord, guardNumber}
+use Rattle.storage.specs.Stores.{Bits, Bounded, Outcome, refused, done, Space, Op, withCount, noWords, checked, view}
+use Rattle.storage.specs.Stores.{beside, reading, readingBoth, size, combined, andNot, nextFrom, within, upTo, inRegion, passes, wordsFor, trimmedCount, trimmed}
+use Rattle.storage.specs.Stores.{written, zeroed, Changes, Makes}
 use Rattle.storage.specs.declared.Bitmap.{Bitmap}
 use Rattle.storage.specs.declared.Refusal.{Refusal}
 use Rattle.storage.specs.declared.Change.{Change}
@@ -23,26 +27,43 @@ use Rattle.storage.specs.declared.Truth.{Truth}
 use Rattle.storage.specs.declared.Truth.the-variants.{Is, Refused}
 use Rattle.storage.specs.declared.Guard.the-variants.{Pass, Stop}
 
+-- the record of no words, and one with another count
+pub record RecordsMean : Type 0 where
+  pub none : noWords .count ≡ 0
+  pub made : (b : Bitmap) (n : ℕ) → withCount b n .count ≡ n
+  pub kept : (b : Bitmap) → withCount b (b .count) ≡ b
+
 -- demand 1: the numbers from 1 to the last, each for one refusal
 pub record EachNumberOnce : Type 0 where
   pub range : (e : Refusal) → (1 ≤ numberOf e) × (numberOf e ≤ lastNumber)
   pub once : (d e : Refusal) → numberOf d ≡ numberOf e → d ≡ e
   pub each : (n : ℕ) → 1 ≤ n → n ≤ lastNumber → (e : Refusal) × (numberOf e ≡ n)
 
--- the limit of a store, as 01 has it
-abbrev pub mostWords : ℕ
-mostWords = 67_108_864
-
--- demand 1: of a store of c words and its count n, 1 exactly where the store is over the limit, then 2 exactly where the count is over the store.
--- `No k` says that the call is refused with k, `Rest` what holds where neither applies; a second store's guard stands in the rest of the first one's.
-pub record Guarded (c n : ℕ) (No : ℕ → Type 0) (Rest : Type 0) : Type 0 where
-  pub long : mostWords < c → No 1
-  pub over : c ≤ mostWords → c < n → No 2
-  pub rest : c ≤ mostWords → n ≤ c → Rest
+-- demand 1: `No k` says that the call is refused with k, `Rest` what holds where neither applies; a second store's guard stands in the rest of the first one's
+pub record Guarded (ws : List ℕ) (b : Bitmap) (No : ℕ → Type 0) (Rest : Type 0) : Type 0 where
+  pub stop : (k : ℕ) → Stopped ws b k → No k
+  pub rest : Passed ws b → Rest
 
 -- `check`
 abbrev pub CheckMeans : Type 0
-CheckMeans = (c n : ℕ) → Guarded c n (λ k. guardNumber (checked c n Stop Pass) ≡ k) (guardNumber (checked c n Stop Pass) ≡ 0)
+CheckMeans = (ws : List ℕ) (b : Bitmap) → Guarded ws b (λ k. guardNumber (checked ws b Stop Pass) ≡ k) (guardNumber (checked ws b Stop Pass) ≡ 0)
+
+-- of two stores, the first one's first
+abbrev pub GuardedBoth : List ℕ → Bitmap → List ℕ → Bitmap → (ℕ → Type 0) → Type 0 → Type 0
+GuardedBoth ws b os o No Rest = Guarded ws b No (Guarded os o No Rest)
+
+-- `check_two` and `check_three`
+abbrev pub CheckTwoMeans : Type 0
+CheckTwoMeans =
+    (ws : List ℕ) (b : Bitmap) (os : List ℕ) (o : Bitmap)
+    → let r = checked ws b Stop (checked os o Stop Pass) in
+    GuardedBoth ws b os o (λ k. guardNumber r ≡ k) (guardNumber r ≡ 0)
+
+abbrev pub CheckThreeMeans : Type 0
+CheckThreeMeans =
+    (ws : List ℕ) (b : Bitmap) (ls : List ℕ) (l : Bitmap) (rs : List ℕ) (r : Bitmap)
+    → let g = checked ws b Stop (checked ls l Stop (checked rs r Stop Pass)) in
+    Guarded ws b (λ k. guardNumber g ≡ k) (GuardedBoth ls l rs r (λ k. guardNumber g ≡ k) (guardNumber g ≡ 0))
 
 -- demand 1: whatever the operation, a call whose number is not 0 returns the old record and leaves every word
 abbrev pub RefusalKeeps : Type 0
@@ -82,8 +103,8 @@ WrittenMeans = (ws : List ℕ) (n : ℕ) (b : Bits) → b .count ≤ length ws �
 
 -- demand 2: 6 exactly where the result has more words than there are
 pub record SpaceExact : Type 0 where
-  pub enough : (c : ℕ) (b : Bits) → b .count ≤ c → within c b ≡ done b
-  pub lacking : (c : ℕ) (b : Bits) → c < b .count → (e : Refusal) × (within c b ≡ refused e) × (numberOf e ≡ 6)
+  pub enough : (c : Space) (b : Bits) → b .count ≤ c → within c b ≡ done b
+  pub lacking : (c : Space) (b : Bits) → c < b .count → (e : Refusal) × (within c b ≡ refused e) × (numberOf e ≡ 6)
 
 -- demand 2: the trimmed count holds all members, and is the least that does
 pub record LeastCount (s : ℕ → Bool) (n m : ℕ) : Type 0 where
@@ -178,62 +199,72 @@ NextFromMeans =
     → let r = nextFrom b i in
     NextMember (b .members) i (foundNumber r) (foundFlag r) (foundValue r)
 
+-- a call that only reads, whatever it answers: 1 and 2 of the store, then what holds of its answer for every bitmap; so of two bitmaps
+pub record ReadingsMean : Type 1 where
+  pub one : (A : Type 0) (refuse : Refusal → A) (f : Bits → A) (No : A → ℕ → Type 0) (Rest : Bits → A → Type 0)
+      → ((e : Refusal) → No (refuse e) (numberOf e)) → ((b : Bits) → Bounded b → Rest b (f b))
+      → (ws : List ℕ) (b : Bitmap) (r : A) → r ≡ reading ws b refuse f → Guarded ws b (No r) (Rest (view ws (b .count)) r)
+  pub two : (A : Type 0) (refuse : Refusal → A) (f : Bits → Bits → A) (No : A → ℕ → Type 0) (Rest : Bits → Bits → A → Type 0)
+      → ((e : Refusal) → No (refuse e) (numberOf e)) → ((b o : Bits) → Bounded b → Bounded o → Rest b o (f b o))
+      → (ws : List ℕ) (b : Bitmap) (os : List ℕ) (o : Bitmap) (r : A) → r ≡ readingBoth ws b os o refuse f
+      → GuardedBoth ws b os o (No r) (Rest (view ws (b .count)) (view os (o .count)) r)
+
 -- A call that only reads, by its contract: 1 and 2 of the store, then what holds of the bitmap, the number and the value, and of a search the flag.
 
 abbrev pub NumberCall : (Bits → Number) → (Bits → ℕ → ℕ → Type 0) → Type 0
 NumberCall f Rest =
-    (ws : List ℕ) (n : ℕ) (r : Number) → r ≡ reading ws n Number.Refused f
+    (ws : List ℕ) (b : Bitmap) (r : Number) → r ≡ reading ws b Number.Refused f
     → let x = numberNumber r in
     let v = numberValue r in
-    Guarded (length ws) n (HandsNone x v) (Rest (view ws n) x v)
+    Guarded ws b (HandsNone x v) (Rest (view ws (b .count)) x v)
 
 abbrev pub FieldCall : (Bits → Field) → (Bits → ℕ → ℕ → Type 0) → Type 0
 FieldCall f Rest =
-    (ws : List ℕ) (n : ℕ) (r : Field) → r ≡ reading ws n Field.Refused f
+    (ws : List ℕ) (b : Bitmap) (r : Field) → r ≡ reading ws b Field.Refused f
     → let x = fieldNumber r in
     let v = fieldValue r in
-    Guarded (length ws) n (HandsNone x v) (Rest (view ws n) x v)
+    Guarded ws b (HandsNone x v) (Rest (view ws (b .count)) x v)
 
 abbrev pub TruthCall : (Bits → Truth) → (Bits → ℕ → ℕ → Type 0) → Type 0
 TruthCall f Rest =
-    (ws : List ℕ) (n : ℕ) (r : Truth) → r ≡ reading ws n Truth.Refused f
+    (ws : List ℕ) (b : Bitmap) (r : Truth) → r ≡ reading ws b Truth.Refused f
     → let x = truthNumber r in
     let v = truthValue r in
-    Guarded (length ws) n (HandsNone x v) (Rest (view ws n) x v)
+    Guarded ws b (HandsNone x v) (Rest (view ws (b .count)) x v)
 
 abbrev pub FoundCall : (Bits → Found) → (Bits → ℕ → ℕ → ℕ → Type 0) → Type 0
 FoundCall f Rest =
-    (ws : List ℕ) (n : ℕ) (r : Found) → r ≡ reading ws n Found.Refused f
+    (ws : List ℕ) (b : Bitmap) (r : Found) → r ≡ reading ws b Found.Refused f
     → let x = foundNumber r in
     let t = foundFlag r in
     let v = foundValue r in
-    Guarded (length ws) n (FindsNone x t v) (Rest (view ws n) x t v)
+    Guarded ws b (FindsNone x t v) (Rest (view ws (b .count)) x t v)
 
 -- an operation whose results have space and hold no member past their words
 pub record Sound (op : Op) : Type 0 where
-  pub space : (c : ℕ) (b s : Bits) → Bounded b → b .count ≤ c → op c b ≡ done s → s .count ≤ c
-  pub bound : (c : ℕ) (b s : Bits) → Bounded b → b .count ≤ c → op c b ≡ done s → Bounded s
+  pub space : (c : Space) (b s : Bits) → Bounded b → b .count ≤ c → op c b ≡ done s → s .count ≤ c
+  pub bound : (c : Space) (b s : Bits) → Bounded b → b .count ≤ c → op c b ≡ done s → Bounded s
 
 -- what is done is as the rule says, has space and no member past its words; what is refused gets its number where the condition holds
-pub record Meets (op : Op) (rule : ℕ → Bits → Bits → Type 0) (no : ℕ → Bits → ℕ → Type 0) : Type 0 where
-  pub made : (c : ℕ) (b s : Bits) → op c b ≡ done s → rule c b s
+pub record Meets (op : Op) (rule : Space → Bits → Bits → Type 0) (no : Space → Bits → ℕ → Type 0) : Type 0 where
+  pub made : (c : Space) (b s : Bits) → op c b ≡ done s → rule c b s
   pub sound : Sound op
-  pub why : (c : ℕ) (b : Bits) (e : Refusal) → op c b ≡ refused e → no c b (numberOf e)
+  pub why : (c : Space) (b : Bits) (e : Refusal) → op c b ≡ refused e → no c b (numberOf e)
 
 -- a call that changes nothing
-abbrev pub Unchanged : ℕ → Bits → Bits → Type 0
+abbrev pub Unchanged : Space → Bits → Bits → Type 0
 Unchanged c b s = s ≡ b
 
 -- a call that is never refused
-abbrev pub Never : ℕ → Bits → ℕ → Type 0
+abbrev pub Never : Space → Bits → ℕ → Type 0
 Never c b k = ⊥
 
 -- 6, where the count n of the result is above the capacity
-abbrev pub Lacks : (Bits → ℕ) → ℕ → Bits → ℕ → Type 0
+abbrev pub Lacks : (Bits → ℕ) → Space → Bits → ℕ → Type 0
 Lacks n c b k = (k ≡ 6) × (c < n b)
 
 -- 6, where a result as the rule says has more words than there are
-abbrev pub LacksResult : (Bits → Bits → Type 0) → ℕ → Bits → ℕ → Type 0
+abbrev pub LacksResult : (Bits → Bits → Type 0) → Space → Bits → ℕ → Type 0
 LacksResult rule c b k = (k ≡ 6) × ((s : Bits) × rule b s × (c < s .count))
 
 -- What a changing call answers and leaves, by its number x, its count m and the store's words ws' afterwards. Before there were n words in use of ws.
@@ -256,81 +287,84 @@ abbrev pub Ends : (Bits → Type 0) → (ℕ → Type 0) → ℕ → List ℕ �
 Ends rule why n ws x m ws' = Made rule n ws x m ws' ⊎ ((0 < x) × why x × Kept n ws x m ws' x)
 
 -- the rule and the conditions are an operation's, at the store's capacity and the bitmap b
-abbrev pub EndsAs : (ℕ → Bits → Bits → Type 0) → (ℕ → Bits → ℕ → Type 0) → Bits → List ℕ → ℕ → ℕ → List ℕ → Type 0
+abbrev pub EndsAs : (Space → Bits → Bits → Type 0) → (Space → Bits → ℕ → Type 0) → Bits → List ℕ → ℕ → ℕ → List ℕ → Type 0
 EndsAs rule why b ws x m ws' = Ends (rule (length ws) b) (why (length ws) b) (b .count) ws x m ws'
 
--- 1 and 2 of the store, of which n words were in use, and then that end
-abbrev pub CallEnds : (ℕ → Bits → Bits → Type 0) → (ℕ → Bits → ℕ → Type 0) → List ℕ → ℕ → ℕ → ℕ → List ℕ → Type 0
-CallEnds rule why ws n x m ws' = Guarded (length ws) n (Kept n ws x m ws') (EndsAs rule why (view ws n) ws x m ws')
+-- 1 and 2 of the store and its record, and then that end
+abbrev pub CallEnds : (Space → Bits → Bits → Type 0) → (Space → Bits → ℕ → Type 0) → List ℕ → Bitmap → ℕ → ℕ → List ℕ → Type 0
+CallEnds rule why ws b x m ws' = Guarded ws b (Kept (b .count) ws x m ws') (EndsAs rule why (view ws (b .count)) ws x m ws')
 
 -- demands 1 and 2 of a call of any operation, from its contract
 abbrev pub ChangeMeans : Type 1
 ChangeMeans =
-    (op : Op) (rule : ℕ → Bits → Bits → Type 0) (why : ℕ → Bits → ℕ → Type 0) → Meets op rule why
+    (op : Op) (rule : Space → Bits → Bits → Type 0) (why : Space → Bits → ℕ → Type 0) → Meets op rule why
     → (ws ws' : List ℕ) (b : Bitmap) (r : Change) → Changes op ws b r ws'
-    → CallEnds rule why ws (b .count) (changeNumber r) (changeRecord r .count) ws'
+    → CallEnds rule why ws b (changeNumber r) (changeRecord r .count) ws'
 
 -- a call that makes a bitmap: no word was in use, and a refusal answers count 0
 abbrev pub MakeMeans : Type 1
 MakeMeans =
-    (op : Op) (rule : ℕ → Bits → Bits → Type 0) (why : ℕ → Bits → ℕ → Type 0) → Meets op rule why
-    → (ws ws' : List ℕ) (r : Change) → Makes op ws r ws' → CallEnds rule why ws 0 (changeNumber r) (changeRecord r .count) ws'
+    (op : Op) (rule : Space → Bits → Bits → Type 0) (why : Space → Bits → ℕ → Type 0) → Meets op rule why
+    → (ws ws' : List ℕ) (r : Change) → Makes op ws r ws' → CallEnds rule why ws noWords (changeNumber r) (changeRecord r .count) ws'
 
--- and with a second bitmap, the first l words of os, whose store is looked at after the first
-abbrev pub BesideEnds : (Bits → ℕ → Bits → Bits → Type 0) → (Bits → ℕ → Bits → ℕ → Type 0) → List ℕ → ℕ → List ℕ → ℕ → ℕ → ℕ → List ℕ → Type 0
-BesideEnds rule why os l ws n x m ws' =
-    Guarded (length ws) n (Kept n ws x m ws')
-    (Guarded (length os) l (Kept n ws x m ws') (EndsAs (rule (view os l)) (why (view os l)) (view ws n) ws x m ws'))
+-- and with a second bitmap, o in os, whose store is looked at after the first
+abbrev pub BesideEnds : (Bits → Space → Bits → Bits → Type 0) → (Bits → Space → Bits → ℕ → Type 0) → List ℕ → Bitmap → List ℕ → Bitmap → ℕ → ℕ → List ℕ
+    → Type 0
+BesideEnds rule why os o ws b x m ws' =
+    Guarded ws b (Kept (b .count) ws x m ws')
+    (Guarded os o (Kept (b .count) ws x m ws')
+    (EndsAs (rule (view os (o .count))) (why (view os (o .count))) (view ws (b .count)) ws x m ws'))
 
 abbrev pub BesideMeans : Type 1
 BesideMeans =
-    (op : Bits → Op) (rule : Bits → ℕ → Bits → Bits → Type 0) (why : Bits → ℕ → Bits → ℕ → Type 0) → ((o : Bits) → Bounded o → Meets (op o) (rule o) (why o))
-    → (os ws ws' : List ℕ) (n : ℕ) (b : Bitmap) (r : Change) → Changes (beside os n op) ws b r ws'
-    → BesideEnds rule why os n ws (b .count) (changeNumber r) (changeRecord r .count) ws'
+    (op : Bits → Op) (rule : Bits → Space → Bits → Bits → Type 0) (why : Bits → Space → Bits → ℕ → Type 0) → ((o : Bits) → Bounded o → Meets (op o) (rule o) (why o))
+    → (os ws ws' : List ℕ) (o b : Bitmap) (r : Change) → Changes (beside os o op) ws b r ws'
+    → BesideEnds rule why os o ws b (changeNumber r) (changeRecord r .count) ws'
 
 -- in c words: the rule makes one result, no two conditions hold, and none does where a result has space
-pub record OneEnd (c : ℕ) (rule : Bits → Type 0) (why : ℕ → Type 0) : Type 0 where
+pub record OneEnd (c : Space) (rule : Bits → Type 0) (why : ℕ → Type 0) : Type 0 where
   pub result : (s t : Bits) → rule s → rule t → s ≡ t
   pub number : (k l : ℕ) → why k → why l → k ≡ l
   pub apart : (s : Bits) (k : ℕ) → rule s → s .count ≤ c → why k → ⊥
 
 -- of every bitmap that 1 and 2 let pass
-abbrev pub EndsOnce : (ℕ → Bits → Bits → Type 0) → (ℕ → Bits → ℕ → Type 0) → Type 0
-EndsOnce rule why = (c : ℕ) (b : Bits) → c ≤ mostWords → b .count ≤ c → Bounded b → OneEnd c (rule c b) (why c b)
+abbrev pub EndsOnce : (Space → Bits → Bits → Type 0) → (Space → Bits → ℕ → Type 0) → Type 0
+EndsOnce rule why = (c : Space) (b : Bits) → c ≤ mostWords → b .count ≤ c → Bounded b → OneEnd c (rule c b) (why c b)
 
 -- the operation is done exactly with a result that has space, and refused with k exactly where its condition holds
-pub record Exactly (c : ℕ) (o : Outcome) (rule : Bits → Type 0) (why : ℕ → Type 0) : Type 0 where
+pub record Exactly (c : Space) (o : Outcome) (rule : Bits → Type 0) (why : ℕ → Type 0) : Type 0 where
   pub done-is : (s : Bits) → (o ≡ done s) ↔ (rule s × (s .count ≤ c))
   pub refused-is : (k : ℕ) → ((e : Refusal) × (o ≡ refused e) × (numberOf e ≡ k)) ↔ why k
 
-abbrev pub MeetsExactly : Op → (ℕ → Bits → Bits → Type 0) → (ℕ → Bits → ℕ → Type 0) → Type 0
-MeetsExactly op rule why = (c : ℕ) (b : Bits) → c ≤ mostWords → b .count ≤ c → Bounded b → Exactly c (op c b) (rule c b) (why c b)
+abbrev pub MeetsExactly : Op → (Space → Bits → Bits → Type 0) → (Space → Bits → ℕ → Type 0) → Type 0
+MeetsExactly op rule why = (c : Space) (b : Bits) → c ≤ mostWords → b .count ≤ c → Bounded b → Exactly c (op c b) (rule c b) (why c b)
 
 -- where a call ends once, its promise is exact
 abbrev pub OnceExact : Type 1
-OnceExact = (op : Op) (rule : ℕ → Bits → Bits → Type 0) (why : ℕ → Bits → ℕ → Type 0) → Meets op rule why → EndsOnce rule why → MeetsExactly op rule why
+OnceExact = (op : Op) (rule : Space → Bits → Bits → Type 0) (why : Space → Bits → ℕ → Type 0) → Meets op rule why → EndsOnce rule why → MeetsExactly op rule why
 
 -- and where that is exact, what is promised of a call leaves it one number, one count and one content of the store
 abbrev pub Determines : Type 1
 Determines =
-    (op : Op) (rule : ℕ → Bits → Bits → Type 0) (why : ℕ → Bits → ℕ → Type 0) → MeetsExactly op rule why
-    → (ws xs ys : List ℕ) (n x y k m : ℕ) → ((i : ℕ) → getD xs i 0 < 2 ^ 64) → ((i : ℕ) → getD ys i 0 < 2 ^ 64)
-    → CallEnds rule why ws n x k xs → CallEnds rule why ws n y m ys → (x ≡ y) × (k ≡ m) × (xs ≡ ys)
+    (op : Op) (rule : Space → Bits → Bits → Type 0) (why : Space → Bits → ℕ → Type 0) → MeetsExactly op rule why
+    → (ws xs ys : List ℕ) (b : Bitmap) (x y k m : ℕ) → ((i : ℕ) → getD xs i 0 < 2 ^ 64) → ((i : ℕ) → getD ys i 0 < 2 ^ 64)
+    → CallEnds rule why ws b x k xs → CallEnds rule why ws b y m ys → (x ≡ y) × (k ≡ m) × (xs ≡ ys)
 
--- so with a second bitmap, the first l words of os
+-- so with a second bitmap
 abbrev pub DeterminesBeside : Type 1
 DeterminesBeside =
-    (op : Bits → Op) (rule : Bits → ℕ → Bits → Bits → Type 0) (why : Bits → ℕ → Bits → ℕ → Type 0)
+    (op : Bits → Op) (rule : Bits → Space → Bits → Bits → Type 0) (why : Bits → Space → Bits → ℕ → Type 0)
     → ((o : Bits) → Bounded o → MeetsExactly (op o) (rule o) (why o))
-    → (os ws xs ys : List ℕ) (l n x y k m : ℕ) → ((i : ℕ) → getD xs i 0 < 2 ^ 64) → ((i : ℕ) → getD ys i 0 < 2 ^ 64)
-    → BesideEnds rule why os l ws n x k xs → BesideEnds rule why os l ws n y m ys → (x ≡ y) × (k ≡ m) × (xs ≡ ys)
+    → (os ws xs ys : List ℕ) (o b : Bitmap) (x y k m : ℕ) → ((i : ℕ) → getD xs i 0 < 2 ^ 64) → ((i : ℕ) → getD ys i 0 < 2 ^ 64)
+    → BesideEnds rule why os o ws b x k xs → BesideEnds rule why os o ws b y m ys → (x ≡ y) × (k ≡ m) × (xs ≡ ys)
 
 -- calls in a row: the next call on the record and the store that a call left sees exactly what the operation made
 pub record Seen (op : Op) (ws : List ℕ) (b b' : Bitmap) (ws' : List ℕ) (s : Bits) : Type 0 where
   pub made : op (length ws) (view ws (b .count)) ≡ done s
   pub long : length ws' ≡ length ws
   pub seen : view ws' (b' .count) ≡ s
-  pub inside : b' .count ≤ length ws'
+  pub record-is : b' ≡ withCount b (s .count)
+  pub passes : Passed ws' b'
 
 abbrev pub Chains : Type 0
 Chains =

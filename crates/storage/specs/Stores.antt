@@ -30,9 +30,13 @@ pub data Outcome : Type 0 where
   refused : Refusal → Outcome
   done : Bits → Outcome
 
--- an operation, from the store's capacity in words and the bitmap's meaning
+-- the space that a result may take, in words
+abbrev pub Space : Type 0
+Space = ℕ
+
+-- an operation, from the space there is and the bitmap's meaning
 abbrev pub Op : Type 0
-Op = ℕ → Bits → Outcome
+Op = Space → Bits → Outcome
 
 -- one operation after another: the second sees what the first made, and a refusal stays
 unfoldable pub andThen : Outcome → (Bits → Outcome) → Outcome
@@ -43,23 +47,43 @@ andThen (done s) next = next s
 abbrev pub limit : ℕ
 limit = 67_108_864
 
+-- every record is made of another by the count alone, or is the one of no words
+abbrev pub withCount : Bitmap → ℕ → Bitmap
+withCount b n = record { count = n }
+
+abbrev pub noWords : Bitmap
+noWords = record { count = 0 }
+
+-- the space of a store
+abbrev pub spaceOf : List ℕ → Space
+spaceOf ws = length ws
+
 -- 1 and then 2 come before all else: a store over the limit, a count over its store
-unfoldable pub checked : {A : Type 0} → ℕ → ℕ → (Refusal → A) → A → A
-checked c n refuse a = choose (ltb limit c) (refuse StoreTooLong) (choose (ltb c n) (refuse CountOverStore) a)
+unfoldable pub checked : {A : Type 0} → List ℕ → Bitmap → (Refusal → A) → A → A
+checked ws b refuse a = choose (ltb limit (length ws)) (refuse StoreTooLong) (choose (ltb (length ws) (b .count)) (refuse CountOverStore) a)
 
 -- the first n words of a store
 unfoldable pub view : List ℕ → ℕ → Bits
 view ws n = record { members = λ i. ltb (i / 64) n && member ws i; count = n }
 
--- an operation with a second bitmap, the first n words of the store os: it is looked at after the first
-unfoldable pub beside : List ℕ → ℕ → (Bits → Op) → Op
-unfolding checked view
-beside os n op c b = checked (length os) n refused (op (view os n) c b)
+-- the bitmap whose record is b
+abbrev pub held : List ℕ → Bitmap → Bits
+held ws b = view ws (b .count)
 
--- a call that only reads: what f answers of the bitmap of n words, after 1 and 2
-unfoldable pub reading : {A : Type 0} → List ℕ → ℕ → (Refusal → A) → (Bits → A) → A
+-- an operation with a second bitmap, o in the store os: it is looked at after the first
+unfoldable pub beside : List ℕ → Bitmap → (Bits → Op) → Op
 unfolding checked view
-reading ws n refuse f = checked (length ws) n refuse (f (view ws n))
+beside os o op c b = checked os o refused (op (held os o) c b)
+
+-- a call that only reads: what f answers of the bitmap, after 1 and 2
+unfoldable pub reading : {A : Type 0} → List ℕ → Bitmap → (Refusal → A) → (Bits → A) → A
+unfolding checked view
+reading ws b refuse f = checked ws b refuse (f (held ws b))
+
+-- a call that reads two bitmaps: what f answers of both, after 1 and 2 of the first store and then of the second
+unfoldable pub readingBoth : {A : Type 0} → List ℕ → Bitmap → List ℕ → Bitmap → (Refusal → A) → (Bits → Bits → A) → A
+unfolding reading
+readingBoth ws b os o refuse f = reading ws b refuse (λ s. reading os o refuse (f s))
 
 -- how many members there are
 unfoldable pub size : Bits → ℕ
@@ -83,7 +107,7 @@ unfolding foundBelow
 nextFrom b i = foundBelow (64 * b .count) (leastFrom (b .members) i (64 * b .count - i))
 
 -- 6 where the result has more words than there are
-unfoldable pub within : ℕ → Bits → Outcome
+unfoldable pub within : Space → Bits → Outcome
 within c b = choose (ltb c (b .count)) (refused NoSpace) (done b)
 
 -- the words up to the one of bit i
@@ -132,7 +156,7 @@ zeroed old new ws = filledWords old new 0 ws
 -- what is answered, and what is left in the store: a refusal returns the old record and leaves every word
 unfoldable pub answer : Outcome → Bitmap → Change
 answer (refused e) b = Refused e b
-answer (done s) b = Done (record { count = s .count })
+answer (done s) b = Done (withCount b (s .count))
 
 unfoldable pub store : Outcome → List ℕ → ℕ → List ℕ
 unfolding written
@@ -145,14 +169,14 @@ pub record Leaves (o : Outcome) (ws : List ℕ) (b : Bitmap) (r : Change) (ws' :
   pub leaves : ws' ≡ store o ws (b .count)
 
 -- what an operation makes of the bitmap in a store
-unfoldable pub outcome : Op → List ℕ → ℕ → Outcome
+unfoldable pub outcome : Op → List ℕ → Bitmap → Outcome
 unfolding checked view
-outcome op ws n = checked (length ws) n refused (op (length ws) (view ws n))
+outcome op ws b = checked ws b refused (op (spaceOf ws) (held ws b))
 
 -- a call that carries out op on the store ws and the bitmap b
 abbrev pub Changes : Op → List ℕ → Bitmap → Change → List ℕ → Type 0
-Changes op ws b r ws' = Leaves (outcome op ws (b .count)) ws b r ws'
+Changes op ws b r ws' = Leaves (outcome op ws b) ws b r ws'
 
 -- a call that makes a bitmap in a store with no earlier count: no word was in use, and a refusal returns 0
 abbrev pub Makes : Op → List ℕ → Change → List ℕ → Type 0
-Makes op ws r ws' = Changes op ws (record { count = 0 }) r ws'
+Makes op ws r ws' = Changes op ws noWords r ws'

@@ -9,10 +9,13 @@ ghost use Rattle.storage.specs.declared.Guard.the-variants.{Pass, Stop};
 // The most words that a store may have.
 pub const LIMIT: usize = 67_108_864;
 
-// A bitmap's record: the words in use, from the start of its store.
+// A bitmap's record: the words in use, from the start of its store. A new one is made of an old one, as `Bitmap { count: n, ..b }`.
 pub struct Bitmap {
     pub count: usize,
 }
+
+// The record of a bitmap that has no words yet: the only one that is made of nothing.
+pub const EMPTY: Bitmap = Bitmap { count: 0 };
 
 // Why a call is refused.
 pub enum Refusal {
@@ -93,17 +96,46 @@ pub enum Guard {
     Stop(Refusal),
 }
 
-// Refuses a store over the limit, then a count over its store.
-pub fn check(capacity: usize, count: usize) -> Guard
-    ensures { λ r. ⌜ r ≡ checked capacity count Stop Pass ⌝ }
+// Refuses a store over the limit, then a count over its store: what every call asks first.
+pub fn check(words: &[u64], b: Bitmap) -> Guard
+    ensures { λ r. ⌜ r ≡ checked (now (words .entry)) b Stop Pass ⌝ }
 {
-    if capacity > LIMIT {
+    if words.len() > LIMIT {
         return Guard::Stop(Refusal::StoreTooLong);
     }
-    if count > capacity {
+    if b.count > words.len() {
         return Guard::Stop(Refusal::CountOverStore);
     }
     Guard::Pass
+}
+
+// The same of two stores, in their order.
+pub fn check_two(words: &[u64], b: Bitmap, other: &[u64], o: Bitmap) -> Guard
+    ensures { λ r. ⌜ r ≡ checked (now (words .entry)) b Stop (checked (now (other .entry)) o Stop Pass) ⌝ }
+{
+    match check(words, b) {
+        Guard::Stop(e) => return Guard::Stop(e),
+        Guard::Pass => {}
+    }
+    check(other, o)
+}
+
+// The same of three.
+pub fn check_three(
+    words: &[u64],
+    b: Bitmap,
+    left: &[u64],
+    l: Bitmap,
+    right: &[u64],
+    r: Bitmap,
+) -> Guard
+    ensures { λ g. ⌜ g ≡ checked (now (words .entry)) b Stop (checked (now (left .entry)) l Stop (checked (now (right .entry)) r Stop Pass)) ⌝ }
+{
+    match check(words, b) {
+        Guard::Stop(e) => return Guard::Stop(e),
+        Guard::Pass => {}
+    }
+    check_two(left, l, right, r)
 }
 
 // Zeroes the words between two counts, as far as the store has them.

@@ -10,7 +10,8 @@ use borrow.Author.Tests.{le-leb, lt-leb, leb-true, eq-eqb, eqb-true, eqb-false}
 use Rattle.word.proofs.Cases.{and-true, or-true}
 use Rattle.text.specs.Lists.{comma, joiner, limit, blank, digit, Range, zeroDigit}
 use Rattle.text.specs.Grammar as g
-use Rattle.text.specs.Readings.{kind, Number, Unread, Open, Closed, Part, part, fresh, value, unread, empty, ranged, token, byJoiner, step, Reading, reading, tokenEnds, after, next, reads, ranges, textEnds, parsed, parse}
+use Rattle.text.specs.Readings.{kind, Number, Unread, Open, Closed, Part, part, fresh, value, unread, empty, ranged, token, byJoiner, step, Reading, reading, tokenEnds, after, next, reads}
+use Rattle.text.specs.Readings.{ranges, textEnds, parsed, parse}
 use Rattle.text.specs.declared.Kind.{Kind}
 use Rattle.text.specs.declared.Value.{Value}
 use Rattle.text.specs.declared.Value.the-variants.{Of, Missing}

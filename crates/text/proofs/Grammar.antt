@@ -10,7 +10,8 @@ use borrow.Author.Tests.{leb-true}
 use Rattle.word.specs.Sets.{choose}
 use Rattle.text.specs.Lists.{comma, joiner, zeroDigit, limit, Range, range}
 use Rattle.text.specs.Grammar as g
-use Rattle.text.specs.Readings.{kind, grown, Number, Unread, Open, Closed, Part, part, fresh, value, unread, empty, ranged, token, Step, Go, Ends, Stop, byDigit, byBlank, byJoiner, step, Reading, bad, reading, tokenEnds, after, reads, notList, ranges, textEnds, parsed, parse}
+use Rattle.text.specs.Readings.{kind, grown, Number, Unread, Open, Closed, Part, part, fresh, value, unread, empty, ranged, token, Step, Go, Ends, Stop, byDigit, byBlank, byJoiner, step}
+use Rattle.text.specs.Readings.{Reading, bad, reading, tokenEnds, after, reads, notList, ranges, textEnds, parsed, parse}
 use Rattle.text.specs.declared.Kind.{Kind}
 use Rattle.text.specs.declared.Value.{Value}
 use Rattle.text.specs.declared.Value.the-variants.{Of, Missing}

@@ -11,12 +11,13 @@ use Rattle.word.specs.Sets.{choose}
 use Rattle.word.specs.Bits.{bit, member, wordsOf}
 use Rattle.word.proofs.Bits.{bit-zero}
 use Rattle.word.proofs.Lists.{member-at, at-place}
-use Rattle.storage.specs.Stores.{Bits, refused, view, within, zeroed, Changes}
+use Rattle.storage.specs.Stores.{Bits, refused, withCount, view, within, zeroed, Changes}
+use Rattle.storage.specs.Guards.{Passed}
 use Rattle.storage.specs.declared.Bitmap.{Bitmap}
 use Rattle.storage.specs.declared.Change.the-variants.{Done, Refused}
 use Rattle.storage.specs.declared.Refusal.{Refusal}
 use Rattle.storage.specs.declared.Refusal.the-variants.{NoSpace, NotList, NotAscii}
-use Rattle.storage.proofs.Checks.{Passed, within-ok, within-no}
+use Rattle.storage.proofs.Checks.{within-ok, within-no}
 use Rattle.storage.proofs.Stores.{Stored, changes-done, changes-refused, part-stored, length-zeroed, zeroed-in, zeroed-out}
 use Rattle.text.specs.Lists.{plain, Range, covers, highest}
 use Rattle.text.specs.Readings.{Parsed, notList, ranges, parse, union, taken, readingList}
@@ -54,7 +55,7 @@ none-marked rs = refl
 
 -- ---- the call
 
-module _ (t ws : List ℕ) (b : Bitmap) (p : Passed (length ws) (b .count)) where
+module _ (t ws : List ℕ) (b : Bitmap) (p : Passed ws b) where
   pub list-refused-8 : plain t ≡ false → Changes (readingList t) ws b (Refused NotAscii b) ws
   list-refused-8 e = changes-refused (readingList t) ws b NotAscii p (list-not-plain t (length ws) (view ws (b .count)) e)
 
@@ -122,7 +123,7 @@ module _ (t ws : List ℕ) (b : Bitmap) (p : Passed (length ws) (b .count)) wher
             part-stored z (us ++ drop c z) c (λ i. member (take c z) i || covers rs i) (union rs) list-room set count-is
             (λ i l. ap (λ (x : Bool). x || covers rs i) (none i l))
 
-        pub list-done : Changes (readingList t) ws b (Done (record { count = c })) (us ++ drop c z)
+        pub list-done : Changes (readingList t) ws b (Done (withCount b c)) (us ++ drop c z)
         list-done =
             changes-done (readingList t) ws b (us ++ drop c z) (union rs) c p
             (read ∙ within-ok (length ws) (union rs) (omega (arith, count-is, ap length untouched)))

@@ -264,7 +264,7 @@ pub fn from_list(words: &mut [u64], b: Bitmap, text: &[u8]) -> Change
     ensures { λ r. ⌜ Changes (readingList (now (text .entry))) (now (words .entry)) b r (now (words .exit)) ⌝ }
 {
     let n = b.count;
-    match storage::check(words.len(), n) {
+    match storage::check(words, b) {
         Guard::Stop(e) => return Change::Refused(e, b),
         Guard::Pass => {}
     }
@@ -282,5 +282,5 @@ pub fn from_list(words: &mut [u64], b: Bitmap, text: &[u8]) -> Change
     }
     storage::grow(words, 0, word::max(n, count));
     walk(&mut words[..count], text);
-    Change::Done(Bitmap { count: count })
+    Change::Done(Bitmap { count: count, ..b })
 }

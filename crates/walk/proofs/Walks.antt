@@ -16,11 +16,14 @@ use Rattle.word.proofs.Bits.{bit-zero, bit-from}
 use Rattle.word.proofs.Sets.{least, least-is}
 use Rattle.word.proofs.Words.{least-bit}
 use Rattle.word.proofs.Lists.{past, at-place, member-at, member-past}
-use Rattle.storage.specs.Stores.{Bits, limit, combined, foundBelow, nextFrom}
+use Rattle.storage.specs.Stores.{Bits, limit, checked, combined, foundBelow, nextFrom}
+use Rattle.storage.specs.Guards.{PassedTwo}
+use Rattle.storage.specs.declared.Bitmap.{Bitmap}
 use Rattle.storage.specs.declared.Refusal.{Refusal}
-use Rattle.storage.specs.declared.Guard.the-variants.{Stop}
+use Rattle.storage.specs.declared.Guard.the-variants.{Pass, Stop}
 use Rattle.storage.specs.declared.Found.{Found}
 use Rattle.storage.specs.declared.Found.the-variants.{At, Nothing, Refused}
+use Rattle.storage.proofs.Checks.{both-stopped}
 use Rattle.arch.specs.Scans.{Alike}
 use Rattle.arch.proofs.Scans.{alike-join}
 use Rattle.pairs.specs.Pairs.{tableOf, wordsBy}
@@ -28,9 +31,8 @@ use Rattle.pairs.specs.Kernels.{endBy}
 use Rattle.pairs.specs.declared.SetOp.{SetOp}
 use Rattle.pairs.proofs.Tables.{by-length, by-fit, by-member}
 use Rattle.pairs.proofs.Scans.{past-end}
-use Rattle.algebra.specs.Algebra.{checkedBoth}
 use Rattle.algebra.specs.Kernels.{made}
-use Rattle.algebra.proofs.Readings.{BothPassed, both-stopped, both-read}
+use Rattle.algebra.proofs.Readings.{both-read}
 use Rattle.algebra.proofs.Tables.{Holds}
 use Rattle.walk.specs.Walks.{walkOf}
 
@@ -202,11 +204,11 @@ module _ (op : SetOp) (xs ys : List ℕ) where
 abbrev pub isNext : (Bool → Bool → Bool) → ℕ → Bits → Bits → Found
 isNext f i b o = nextFrom (combined f b o) i
 
-module _ (f : Bool → Bool → Bool) (ws : List ℕ) (n : ℕ) (os : List ℕ) (m : ℕ) where
-  pub walk-stopped : (i : ℕ) {e : Refusal} → Stop e ≡ checkedBoth (length ws) n (length os) m → Refused e ≡ walkOf f ws n os m i
+module _ (f : Bool → Bool → Bool) (ws : List ℕ) (b : Bitmap) (os : List ℕ) (o : Bitmap) where
+  pub walk-stopped : (i : ℕ) {e : Refusal} → Stop e ≡ checked ws b Stop (checked os o Stop Pass) → Refused e ≡ walkOf f ws b os o i
   unfolding walkOf
-  walk-stopped i {e} p = sym (both-stopped ws n os m Refused (isNext f i) e p)
+  walk-stopped i {e} p = sym (both-stopped ws b os o Refused (isNext f i) e p)
 
-  pub walked : (i : ℕ) {r : Found} → BothPassed (length ws) n (length os) m → r ≡ nextFrom (made f (take n ws) (take m os)) i → r ≡ walkOf f ws n os m i
+  pub walked : (i : ℕ) {r : Found} → PassedTwo ws b os o → r ≡ nextFrom (made f (take (b .count) ws) (take (o .count) os)) i → r ≡ walkOf f ws b os o i
   unfolding walkOf
-  walked i p e = e ∙ sym (both-read ws n os m Refused (isNext f i) p)
+  walked i p e = e ∙ sym (both-read ws b os o Refused (isNext f i) p)

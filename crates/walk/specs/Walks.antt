@@ -2,12 +2,12 @@
 use Prim.Native.Nat.{ℕ}
 use mathlib.Core.Bool.{Bool}
 use mathlib.Core.List.{List}
-use Rattle.storage.specs.Stores.{combined, nextFrom}
+use Rattle.storage.specs.Stores.{readingBoth, combined, nextFrom}
+use Rattle.storage.specs.declared.Bitmap.{Bitmap}
 use Rattle.storage.specs.declared.Found.{Found}
 use Rattle.storage.specs.declared.Found.the-variants.{Refused}
-use Rattle.algebra.specs.Algebra.{readingBoth}
 
 -- the least number from i on that is in the combined set
-unfoldable pub walkOf : (Bool → Bool → Bool) → List ℕ → ℕ → List ℕ → ℕ → ℕ → Found
+unfoldable pub walkOf : (Bool → Bool → Bool) → List ℕ → Bitmap → List ℕ → Bitmap → ℕ → Found
 unfolding readingBoth
-walkOf f ws n os m i = readingBoth ws n os m Refused (λ b o. nextFrom (combined f b o) i)
+walkOf f ws b os o i = readingBoth ws b os o Refused (λ s t. nextFrom (combined f s t) i)

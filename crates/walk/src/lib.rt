@@ -14,11 +14,11 @@ ghost use Rattle.walk.specs.Walks.{walkOf};
 
 // The least number from i on that is in both bitmaps, or nothing.
 pub fn iter_and(words: &[u64], b: Bitmap, other: &[u64], o: Bitmap, i: usize) -> Found
-    ensures { λ r. ⌜ r ≡ walkOf (λ p q. p && q) (now (words .entry)) (b .count) (now (other .entry)) (o .count) i ⌝ }
+    ensures { λ r. ⌜ r ≡ walkOf (λ p q. p && q) (now (words .entry)) b (now (other .entry)) o i ⌝ }
 {
     let n = b.count;
     let m = o.count;
-    match algebra::check_both(words.len(), n, other.len(), m) {
+    match storage::check_two(words, b, other, o) {
         Guard::Stop(e) => return Found::Refused(e),
         Guard::Pass => {}
     }
@@ -27,11 +27,11 @@ pub fn iter_and(words: &[u64], b: Bitmap, other: &[u64], o: Bitmap, i: usize) ->
 
 // The least number from i on that is in either bitmap, or nothing.
 pub fn iter_or(words: &[u64], b: Bitmap, other: &[u64], o: Bitmap, i: usize) -> Found
-    ensures { λ r. ⌜ r ≡ walkOf (λ p q. p || q) (now (words .entry)) (b .count) (now (other .entry)) (o .count) i ⌝ }
+    ensures { λ r. ⌜ r ≡ walkOf (λ p q. p || q) (now (words .entry)) b (now (other .entry)) o i ⌝ }
 {
     let n = b.count;
     let m = o.count;
-    match algebra::check_both(words.len(), n, other.len(), m) {
+    match storage::check_two(words, b, other, o) {
         Guard::Stop(e) => return Found::Refused(e),
         Guard::Pass => {}
     }
@@ -40,11 +40,11 @@ pub fn iter_or(words: &[u64], b: Bitmap, other: &[u64], o: Bitmap, i: usize) -> 
 
 // The least number from i on that is in one bitmap and not in both, or nothing.
 pub fn iter_xor(words: &[u64], b: Bitmap, other: &[u64], o: Bitmap, i: usize) -> Found
-    ensures { λ r. ⌜ r ≡ walkOf xorb (now (words .entry)) (b .count) (now (other .entry)) (o .count) i ⌝ }
+    ensures { λ r. ⌜ r ≡ walkOf xorb (now (words .entry)) b (now (other .entry)) o i ⌝ }
 {
     let n = b.count;
     let m = o.count;
-    match algebra::check_both(words.len(), n, other.len(), m) {
+    match storage::check_two(words, b, other, o) {
         Guard::Stop(e) => return Found::Refused(e),
         Guard::Pass => {}
     }
@@ -53,11 +53,11 @@ pub fn iter_xor(words: &[u64], b: Bitmap, other: &[u64], o: Bitmap, i: usize) ->
 
 // The least number from i on that is in the first bitmap and not in the second, or nothing.
 pub fn iter_andnot(words: &[u64], b: Bitmap, other: &[u64], o: Bitmap, i: usize) -> Found
-    ensures { λ r. ⌜ r ≡ walkOf andNot (now (words .entry)) (b .count) (now (other .entry)) (o .count) i ⌝ }
+    ensures { λ r. ⌜ r ≡ walkOf andNot (now (words .entry)) b (now (other .entry)) o i ⌝ }
 {
     let n = b.count;
     let m = o.count;
-    match algebra::check_both(words.len(), n, other.len(), m) {
+    match storage::check_two(words, b, other, o) {
         Guard::Stop(e) => return Found::Refused(e),
         Guard::Pass => {}
     }

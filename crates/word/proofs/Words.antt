@@ -15,7 +15,8 @@ use Rattle.word.specs.Bits.{isOne, bit}
 use Rattle.word.specs.Words.{lowMask, single, mirrored, withoutLeast, funneled, pairBit}
 use Rattle.word.specs.Promises.{FromPlace}
 use Rattle.word.proofs.Cases.{by-lt, by-eq, or-false, and-keep, and-same}
-use Rattle.word.proofs.Bits.{bit-and, bit-or, bit-zero, bit-shr, bit-past, bit-mod, bit-cat-low, bit-cat-high, bit-shl-mod, bit-ones, bit-not, bit-suc, bits-ext, pack-lt, bit-pack, pack-is, bit-one, no-bits}
+use Rattle.word.proofs.Bits.{bit-and, bit-or, bit-zero, bit-shr, bit-past, bit-mod, bit-cat-low, bit-cat-high, bit-shl-mod, bit-ones, bit-not}
+use Rattle.word.proofs.Bits.{bit-suc, bits-ext, pack-lt, bit-pack, pack-is, bit-one, no-bits}
 use Rattle.word.proofs.Sets.{count-ext, least, least-suc, least-ext, top-is}
 
 -- ---- the language's counts

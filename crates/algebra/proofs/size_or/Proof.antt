@@ -18,7 +18,11 @@ count-from-requires-2 : tie.Need-count-from-requires-2
 count-from-requires-2 c κs = search needs
 
 add-result-2 : tie.Need-add-result-2
-add-result-2 c = omega (arith, common-small _ _ _ (c .before .before .common-or .ensures) (omega arith), from-small _ _ (c .before .count-from .ensures) (omega arith), from-small _ _ (c .count-from2 .ensures) (omega arith))
+add-result-2 c =
+    let x = common-small _ _ _ (c .before .before .common-or .ensures) (omega arith) in
+    let y = from-small _ _ (c .before .count-from .ensures) (omega arith) in
+    let z = from-small _ _ (c .count-from2 .ensures) (omega arith) in
+    omega (arith, x, y, z)
 
 returns : tie.Need-returns
 returns c = size-both keeps-or _ _ (c .before .before .common-or .ensures) (c .before .count-from .ensures) (c .count-from2 .ensures)

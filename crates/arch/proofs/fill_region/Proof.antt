@@ -30,9 +30,12 @@ same-length c = search needs
 
 returns : tie.Need-returns
 returns c =
-    region-by _ _ _ (c .before .before .before .before .before .before .before .before .before .before .before .before .before .before .before .before .args .words .now) (λ k. omega (arith, c .before .before .before .before .before .before .before .before .before .before .before .before .before .before .before .slice-known .given k)) _ _ _ _ _ _
-    (c .before .before .before .before .before .before .before .before .before .before .before .before .before .places .ensures) (c .before .before .before .before .before .before .before .before .all .ensures) (c .before .before .before .places2 .ensures)
-    (c .before .before .before .before .before .before .before .before .before .before .before .before .overlay .ensures) (c .before .before .before .before .before .before .before .fill-words .ensures) (c .before .before .overlay2 .ensures)
+    region-by _ _ _ (c .before .before .before .before .before .before .before .before .before .before .before .before .before .before .before .before .args .words .now)
+    (λ k. omega (arith, c .before .before .before .before .before .before .before .before .before .before .before .before .before .before .before .slice-known .given k)) _ _ _ _ _ _
+    (c .before .before .before .before .before .before .before .before .before .before .before .before .before .places .ensures)
+    (c .before .before .before .before .before .before .before .before .all .ensures) (c .before .before .before .places2 .ensures)
+    (c .before .before .before .before .before .before .before .before .before .before .before .before .overlay .ensures)
+    (c .before .before .before .before .before .before .before .fill-words .ensures) (c .before .before .overlay2 .ensures)
 
 pub fill-region-spec : {M : Type 1} → statement M
 fill-region-spec =

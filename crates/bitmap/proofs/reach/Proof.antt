@@ -36,8 +36,13 @@ loop-less : tie.Need-loop-less Inv-loop μ-loop
 loop-less c = omega arith
 
 loop-again : tie.Need-loop-again Inv-loop μ-loop
-loop-again c =
-    (omega arith, c .max .ensures ∙ ap (λ (x : ℕ). max x (getD (c .before .before .before .before .before .args .bits .now) (c .before .before .before .loop .t) 0 / 64 + 1)) (c .before .before .before .loop .inv .1) ∙ reach-next (c .before .before .before .before .before .args .bits .now) (c .before .before .before .loop .t) (omega arith))
+loop-again c = (
+  omega arith,
+  c .max .ensures ∙ ap
+      (λ (x : ℕ). max x (getD (c .before .before .before .before .before .args .bits .now) (c .before .before .before .loop .t) 0 / 64 + 1))
+      (c .before .before .before .loop .inv .1)
+      ∙ reach-next (c .before .before .before .before .before .args .bits .now) (c .before .before .before .loop .t) (omega arith),
+)
 
 returns : tie.Need-returns Inv-loop μ-loop
 returns c = c .before .loop .inv .1 ∙ ap reachOf (take-all (c .before .before .before .args .bits .now) (c .before .loop .t) (omega arith))

@@ -28,7 +28,8 @@ mul-words : tie.Need-mul-words Inv-loop μ-loop
 mul-words c = omega (arith, c .shared-slice-known2 .given (c .before .before .loop .t))
 
 slice-read-words : tie.Need-slice-read-words Inv-loop μ-loop
-slice-read-words c = omega (arith, reach-in (c .before .before .before .before .before .before .args .bits .now) (c .before .before .before .loop .t) (omega arith), c .before .before .before .loop .inv .1 .long)
+slice-read-words c =
+    omega (arith, reach-in (c .before .before .before .before .before .before .args .bits .now) (c .before .before .before .loop .t) (omega arith), c .before .before .before .loop .inv .1 .long)
 
 bit-requires : tie.Need-bit-requires Inv-loop μ-loop
 bit-requires c κs = search needs
@@ -37,7 +38,13 @@ mul-words-2 : tie.Need-mul-words-2 Inv-loop μ-loop
 mul-words-2 c = omega (arith, c .before .before .shared-slice-known2 .given (c .before .before .before .before .loop .t))
 
 slice-write-words : tie.Need-slice-write-words Inv-loop μ-loop
-slice-write-words c = omega (arith, reach-in (c .before .before .before .before .before .before .before .args .bits .now) (c .before .before .before .before .loop .t) (omega arith), c .before .before .before .before .loop .inv .1 .long)
+slice-write-words c =
+    omega (
+      arith,
+      reach-in (c .before .before .before .before .before .before .before .args .bits .now)
+          (c .before .before .before .before .loop .t) (omega arith),
+      c .before .before .before .before .loop .inv .1 .long,
+    )
 
 add-t : tie.Need-add-t Inv-loop μ-loop
 add-t c = omega arith
@@ -47,14 +54,21 @@ loop-less c = omega arith
 
 loop-again : tie.Need-loop-again Inv-loop μ-loop
 loop-again c =
-    let l = c .before .before .before .before .loop in
-    (omega arith, listed-next (c .before .before .before .before .before .before .before .args .words .now) (c .before .before .before .before .before .before .before .args .bits .now) _ (l .t) _ (l .inv .1) (omega arith) (omega (arith, reach-in (c .before .before .before .before .before .before .before .args .bits .now) (l .t) (omega arith))) (c .bit .ensures))
+    let l = c .before .before .before .before .loop in (
+      omega arith,
+      listed-next (c .before .before .before .before .before .before .before .args .words .now)
+          (c .before .before .before .before .before .before .before .args .bits .now) _ (l .t) _ (l .inv .1) (omega arith)
+          (omega (arith, reach-in (c .before .before .before .before .before .before .before .args .bits .now) (l .t) (omega arith)))
+          (c .bit .ensures),
+    )
 
 same-length : tie.Need-same-length Inv-loop μ-loop
 same-length c = c .before .loop .inv .1 .long
 
 returns : tie.Need-returns Inv-loop μ-loop
-returns c = subst (λ (is : List ℕ). Listed (c .before .before .before .before .args .words .now) is (c .before .loop .words)) (take-all (c .before .before .before .before .args .bits .now) (c .before .loop .t) (omega arith)) (c .before .loop .inv .1)
+returns c =
+    subst (λ (is : List ℕ). Listed (c .before .before .before .before .args .words .now) is (c .before .loop .words))
+    (take-all (c .before .before .before .before .args .bits .now) (c .before .loop .t) (omega arith)) (c .before .loop .inv .1)
 
 pub set-listed-spec : {M : Type 1} → statement M
 set-listed-spec =

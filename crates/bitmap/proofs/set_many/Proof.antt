@@ -1,5 +1,6 @@
 use mathlib.Core.Path.{sym, _∙_}
 use native.Mathlib.Omega.{arith}
+use Rattle.storage.specs.Guards.{Passed}
 use Rattle.storage.proofs.Checks.{passed}
 use Rattle.storage.proofs.Stores.{changes-stopped}
 use Rattle.bitmap.proofs.Many.{many-refused, many-changes}
@@ -7,11 +8,18 @@ use borrow.Author.Needs.{needs}
 use Rattle.bitmap.proofs.set_many.Statement.{statement}
 use Rattle.bitmap.proofs.set_many.Tie as tie
 
+-- the guard has let the store pass
+ok : (c : tie.After-enum-told) → Passed (c .before .before .before .before .before .before .args .words .now) (c .before .before .before .before .before .before .args .b)
+ok c = passed _ _ (sym (c .enum-told .given .1) ∙ c .before .before .check .ensures)
+
 check-requires : tie.Need-check-requires
 check-requires c κs = search needs
 
 enum-known-e : tie.Need-enum-known-e
 enum-known-e c = search needs
+
+same-length : tie.Need-same-length
+same-length c = search needs
 
 returns : tie.Need-returns
 returns c = changes-stopped _ _ _ _ (sym (c .before .e .given .1) ∙ c .before .before .before .check .ensures)
@@ -22,10 +30,16 @@ enum-told c = search needs
 reach-requires : tie.Need-reach-requires
 reach-requires c κs = search needs
 
+same-length-2 : tie.Need-same-length-2
+same-length-2 c = search needs
+
 returns-2 : tie.Need-returns-2
 returns-2 c =
-    many-refused (c .before .before .before .before .before .before .before .args .words .now) (c .before .before .before .before .before .before .before .args .bits .now) (c .before .before .before .before .before .before .before .args .b) (λ k. omega (arith, c .before .before .before .before .before .before .slice-known .given k))
-    (passed _ _ (sym (c .before .before .enum-told .given .1) ∙ c .before .before .before .before .check .ensures)) (omega (arith, c .before .reach .ensures, c .if1 .taken))
+    many-refused (c .before .before .before .before .before .before .before .before .args .words .now)
+    (c .before .before .before .before .before .before .before .before .args .bits .now)
+    (c .before .before .before .before .before .before .before .before .args .b)
+    (λ k. omega (arith, c .before .before .before .before .before .before .before .slice-known .given k))
+    (ok (c .before .before)) (omega (arith, c .before .reach .ensures, c .if1 .taken))
 
 grow-requires : tie.Need-grow-requires
 grow-requires c κs = search needs
@@ -36,13 +50,18 @@ set-listed-requires c κs = search needs
 max-requires : tie.Need-max-requires
 max-requires c κs = search needs
 
-same-length : tie.Need-same-length
-same-length c = search needs
+same-length-3 : tie.Need-same-length-3
+same-length-3 c = search needs
 
 returns-3 : tie.Need-returns-3
 returns-3 c =
-    many-changes (c .before .before .before .before .before .before .before .before .before .before .before .before .before .before .before .before .args .words .now) (c .before .before .before .before .before .before .before .before .before .before .before .before .before .before .before .before .args .bits .now) (c .before .before .before .before .before .before .before .before .before .before .before .before .before .before .before .before .args .b) (λ k. omega (arith, c .before .before .before .before .before .before .before .before .before .before .before .before .before .before .before .slice-known .given k))
-    (passed _ _ (sym (c .before .before .before .before .before .before .before .before .before .before .before .enum-told .given .1) ∙ c .before .before .before .before .before .before .before .before .before .before .before .before .before .check .ensures)) _ _ _ _ (c .before .before .before .before .before .before .before .before .before .before .reach .ensures) (c .before .before .before .before .before .before .before .before .before .if1 .left)
+    many-changes (c .before .before .before .before .before .before .before .before .before .before .before .before .before .before .before .before .before .args .words .now)
+    (c .before .before .before .before .before .before .before .before .before .before .before .before .before .before .before .before .before .args .bits .now)
+    (c .before .before .before .before .before .before .before .before .before .before .before .before .before .before .before .before .before .args .b)
+    (λ k. omega (arith, c .before .before .before .before .before .before .before .before .before .before .before .before .before .before .before .before .slice-known .given k))
+    (ok (c .before .before .before .before .before .before .before .before .before .before .before)) _ _ _ _
+    (c .before .before .before .before .before .before .before .before .before .before .reach .ensures)
+    (c .before .before .before .before .before .before .before .before .before .if1 .left)
     (c .before .before .before .before .before .before .before .grow .ensures) (c .before .before .before .set-listed .ensures) (c .max .ensures)
 
 pub set-many-spec : {M : Type 1} → statement M
@@ -51,12 +70,14 @@ set-many-spec =
     (tie.spec
     check-requires
     enum-known-e
+    same-length
     returns
     enum-told
     reach-requires
+    same-length-2
     returns-2
     grow-requires
     set-listed-requires
     max-requires
-    same-length
+    same-length-3
     returns-3)

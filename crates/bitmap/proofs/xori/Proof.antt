@@ -3,11 +3,16 @@ use Prim.Native.Nat.{max}
 use native.Mathlib.Omega.{arith}
 use borrow.Author.Needs.{needs}
 use lib.ListN.{length-set}
+use Rattle.storage.specs.Guards.{Passed}
 use Rattle.storage.proofs.Checks.{passed}
 use Rattle.storage.proofs.Stores.{changes-stopped}
 use Rattle.bitmap.proofs.Tidies.{xori-refused, xori-changes}
 use Rattle.bitmap.proofs.xori.Statement.{statement}
 use Rattle.bitmap.proofs.xori.Tie as tie
+
+-- the guard has let the store pass
+ok : (c : tie.After-enum-told) → Passed (c .before .before .before .before .before .args .words .now) (c .before .before .before .before .before .args .b)
+ok c = passed _ _ (sym (c .enum-told .given .1) ∙ c .before .before .check .ensures)
 
 check-requires : tie.Need-check-requires
 check-requires c κs = search needs
@@ -15,14 +20,20 @@ check-requires c κs = search needs
 enum-known-e : tie.Need-enum-known-e
 enum-known-e c = search needs
 
+same-length : tie.Need-same-length
+same-length c = search needs
+
 returns : tie.Need-returns
 returns c = changes-stopped _ _ _ _ (sym (c .before .e .given .1) ∙ c .before .before .before .check .ensures)
 
 enum-told : tie.Need-enum-told
 enum-told c = search needs
 
+same-length-2 : tie.Need-same-length-2
+same-length-2 c = search needs
+
 returns-2 : tie.Need-returns-2
-returns-2 c = xori-refused _ _ _ (λ k. omega (arith, c .before .before .before .before .slice-known .given k)) (passed _ _ (sym (c .before .enum-told .given .1) ∙ c .before .before .before .check .ensures)) (c .if1 .taken)
+returns-2 c = xori-refused _ _ _ (λ k. omega (arith, c .before .before .before .before .before .slice-known .given k)) (ok (c .before)) (c .if1 .taken)
 
 add-grow : tie.Need-add-grow
 add-grow c = search needs
@@ -52,13 +63,19 @@ max-requires : tie.Need-max-requires
 max-requires c κs = search needs
 
 tidy-requires : tie.Need-tidy-requires
-tidy-requires c κs = simp length-set (omega (arith, (passed _ _ (sym (c .before .before .before .before .before .before .before .before .before .enum-told .given .1) ∙ c .before .before .before .before .before .before .before .before .before .before .before .check .ensures)) .inside, c .max .ensures))
+tidy-requires c κs = simp length-set (omega (arith, ok (c .before .before .before .before .before .before .before .before .before) .inside, c .max .ensures))
 
-same-length : tie.Need-same-length
-same-length c = search needs
+same-length-3 : tie.Need-same-length-3
+same-length-3 c = search needs
 
 returns-3 : tie.Need-returns-3
-returns-3 c = xori-changes _ _ _ (λ k. omega (arith, c .before .before .before .before .before .before .before .before .before .before .before .before .before .slice-known .given k)) (passed _ _ (sym (c .before .before .before .before .before .before .before .before .before .before .enum-told .given .1) ∙ c .before .before .before .before .before .before .before .before .before .before .before .before .check .ensures)) _ _ _ _ (c .before .before .before .before .before .before .before .before .before .if1 .left) (c .before .before .before .before .before .before .before .grow .ensures) (c .before .before .before .bit .ensures) (c .before .max .ensures) (c .tidy .ensures)
+returns-3 c =
+    xori-changes _ _ _ (λ k. omega
+    (arith, c .before .before .before .before .before .before .before .before .before .before .before .before .before .before .slice-known .given k))
+    (ok (c .before .before .before .before .before .before .before .before .before .before)) _ _ _ _
+    (c .before .before .before .before .before .before .before .before .before .if1 .left)
+    (c .before .before .before .before .before .before .before .grow .ensures) (c .before .before .before .bit .ensures)
+    (c .before .max .ensures) (c .tidy .ensures)
 
 pub xori-spec : {M : Type 1} → statement M
 xori-spec =
@@ -66,8 +83,10 @@ xori-spec =
     (tie.spec
     check-requires
     enum-known-e
+    same-length
     returns
     enum-told
+    same-length-2
     returns-2
     add-grow
     grow-requires
@@ -79,5 +98,5 @@ xori-spec =
     add-max
     max-requires
     tidy-requires
-    same-length
+    same-length-3
     returns-3)

@@ -18,7 +18,8 @@ count-places-requires : tie.Need-count-places-requires
 count-places-requires c κs = search needs
 
 returns-2 : tie.Need-returns-2
-returns-2 c = range-one _ (c .before .before .before .before .before .args .i) (c .before .before .before .before .before .args .end) (omega arith) _ (c .before .before .if2 .taken) (c .count-places .ensures)
+returns-2 c =
+    range-one _ (c .before .before .before .before .before .args .i) (c .before .before .before .before .before .args .end) (omega arith) _ (c .before .before .if2 .taken) (c .count-places .ensures)
 
 mul-count-places-2 : tie.Need-mul-count-places-2
 mul-count-places-2 c = search needs
@@ -48,13 +49,34 @@ count-set-bits-requires : tie.Need-count-set-bits-requires
 count-set-bits-requires c κs = search needs
 
 add-result : tie.Need-add-result
-add-result c = omega (arith, most-le (c .before .before .before .before .before .before .before .before .args .words .now) (c .before .before .before .before .before .before .before .before .args .i) (c .before .before .before .before .before .before .before .before .args .end) (omega arith) (omega arith) (omega arith) (c .before .before .before .before .before .if2 .left) _ _ (c .before .before .before .count-places2 .ensures) (c .before .count-set-bits .ensures))
+add-result c =
+    omega (
+      arith,
+      most-le (c .before .before .before .before .before .before .before .before .args .words .now)
+          (c .before .before .before .before .before .before .before .before .args .i)
+          (c .before .before .before .before .before .before .before .before .args .end) (omega arith) (omega arith) (omega arith)
+          (c .before .before .before .before .before .if2 .left) _ _ (c .before .before .before .count-places2 .ensures)
+          (c .before .count-set-bits .ensures),
+    )
 
 returns-3 : tie.Need-returns-3
-returns-3 c = range-even (c .before .before .before .before .before .before .before .before .args .words .now) (c .before .before .before .before .before .before .before .before .args .i) (c .before .before .before .before .before .before .before .before .args .end) (omega arith) (omega arith) (omega arith) (c .before .before .before .before .before .if2 .left) _ _ (c .before .before .before .count-places2 .ensures) (c .before .count-set-bits .ensures) (c .if3 .taken)
+returns-3 c =
+    range-even (c .before .before .before .before .before .before .before .before .args .words .now)
+    (c .before .before .before .before .before .before .before .before .args .i)
+    (c .before .before .before .before .before .before .before .before .args .end) (omega arith) (omega arith) (omega arith)
+    (c .before .before .before .before .before .if2 .left) _ _ (c .before .before .before .count-places2 .ensures)
+    (c .before .count-set-bits .ensures) (c .if3 .taken)
 
 add-result-2 : tie.Need-add-result-2
-add-result-2 c = omega (arith, most-le (c .before .before .before .before .before .before .before .before .args .words .now) (c .before .before .before .before .before .before .before .before .args .i) (c .before .before .before .before .before .before .before .before .args .end) (omega arith) (omega arith) (omega arith) (c .before .before .before .before .before .if2 .left) _ _ (c .before .before .before .count-places2 .ensures) (c .before .count-set-bits .ensures))
+add-result-2 c =
+    omega (
+      arith,
+      most-le (c .before .before .before .before .before .before .before .before .args .words .now)
+          (c .before .before .before .before .before .before .before .before .args .i)
+          (c .before .before .before .before .before .before .before .before .args .end) (omega arith) (omega arith) (omega arith)
+          (c .before .before .before .before .before .if2 .left) _ _ (c .before .before .before .count-places2 .ensures)
+          (c .before .count-set-bits .ensures),
+    )
 
 mul-count-places-3 : tie.Need-mul-count-places-3
 mul-count-places-3 c = search needs
@@ -66,10 +88,25 @@ count-places-requires-3 : tie.Need-count-places-requires-3
 count-places-requires-3 c κs = search needs
 
 add-result-3 : tie.Need-add-result-3
-add-result-3 c = omega (arith, odd-le (c .before .before .before .before .before .before .before .before .before .before .args .words .now) (c .before .before .before .before .before .before .before .before .before .before .args .i) (c .before .before .before .before .before .before .before .before .before .before .args .end) (omega arith) (omega arith) (omega arith) (c .before .before .before .before .before .before .before .if2 .left) _ _ (c .before .before .before .before .before .count-places2 .ensures) (c .before .before .before .count-set-bits .ensures) _ (c .count-places3 .ensures))
+add-result-3 c =
+    omega (
+      arith,
+      odd-le (c .before .before .before .before .before .before .before .before .before .before .args .words .now)
+          (c .before .before .before .before .before .before .before .before .before .before .args .i)
+          (c .before .before .before .before .before .before .before .before .before .before .args .end) (omega arith) (omega arith) (omega arith)
+          (c .before .before .before .before .before .before .before .if2 .left) _ _
+          (c .before .before .before .before .before .count-places2 .ensures) (c .before .before .before .count-set-bits .ensures) _
+          (c .count-places3 .ensures),
+    )
 
 returns-4 : tie.Need-returns-4
-returns-4 c = range-odd (c .before .before .before .before .before .before .before .before .before .before .args .words .now) (c .before .before .before .before .before .before .before .before .before .before .args .i) (c .before .before .before .before .before .before .before .before .before .before .args .end) (omega arith) (omega arith) (omega arith) (c .before .before .before .before .before .before .before .if2 .left) _ _ (c .before .before .before .before .before .count-places2 .ensures) (c .before .before .before .count-set-bits .ensures) _ (c .count-places3 .ensures)
+returns-4 c =
+    range-odd (c .before .before .before .before .before .before .before .before .before .before .args .words .now)
+    (c .before .before .before .before .before .before .before .before .before .before .args .i)
+    (c .before .before .before .before .before .before .before .before .before .before .args .end) (omega arith) (omega arith) (omega arith)
+    (c .before .before .before .before .before .before .before .if2 .left) _ _
+    (c .before .before .before .before .before .count-places2 .ensures) (c .before .before .before .count-set-bits .ensures) _
+    (c .count-places3 .ensures)
 
 pub count-between-spec : {M : Type 1} → statement M
 count-between-spec =

@@ -3,11 +3,16 @@ use Prim.Native.Nat.{ℕ, _+_, min}
 use native.Mathlib.Omega.{arith}
 use borrow.Author.Needs.{needs}
 use lib.Seq.{length-take-le}
+use Rattle.storage.specs.Guards.{Passed}
 use Rattle.storage.proofs.Checks.{passed, reading-ok, reading-stopped}
 use Rattle.storage.specs.declared.Number.{Number}
 use Rattle.bits.proofs.Counts.{region-none, region-counted}
 use Rattle.bits.proofs.count_region.Statement.{statement}
 use Rattle.bits.proofs.count_region.Tie as tie
+
+-- the guard has let the store pass
+ok : (c : tie.After-enum-told) → Passed (c .before .before .before .before .args .words .now) (c .before .before .before .before .args .b)
+ok c = passed _ _ (sym (c .enum-told .given .1) ∙ c .before .before .check .ensures)
 
 check-requires : tie.Need-check-requires
 check-requires c κs = search needs
@@ -22,13 +27,13 @@ enum-told : tie.Need-enum-told
 enum-told c = search needs
 
 mul-if1 : tie.Need-mul-if1
-mul-if1 c = omega (arith, (passed _ _ (sym (c .enum-told .given .1) ∙ c .before .before .check .ensures)) .short, (passed _ _ (sym (c .enum-told .given .1) ∙ c .before .before .check .ensures)) .inside)
+mul-if1 c = omega (arith, ok c)
 
 returns-2 : tie.Need-returns-2
-returns-2 c = ap Number.Is (region-none _ _ _ _ (c .if1 .taken)) ∙ sym (reading-ok _ _ _ _ (passed _ _ (sym (c .before .enum-told .given .1) ∙ c .before .before .before .check .ensures)))
+returns-2 c = ap Number.Is (region-none _ _ _ _ (c .if1 .taken)) ∙ sym (reading-ok _ _ _ _ (ok (c .before)))
 
 mul-min : tie.Need-mul-min
-mul-min c = omega (arith, (passed _ _ (sym (c .before .enum-told .given .1) ∙ c .before .before .before .check .ensures)) .short, (passed _ _ (sym (c .before .enum-told .given .1) ∙ c .before .before .before .check .ensures)) .inside)
+mul-min c = omega (arith, ok (c .before))
 
 sub-min : tie.Need-sub-min
 sub-min c = search needs
@@ -37,16 +42,22 @@ min-requires : tie.Need-min-requires
 min-requires c κs = search needs
 
 add-end : tie.Need-add-end
-add-end c = omega (arith, (passed _ _ (sym (c .before .before .enum-told .given .1) ∙ c .before .before .before .before .check .ensures)) .short, (passed _ _ (sym (c .before .before .enum-told .given .1) ∙ c .before .before .before .before .check .ensures)) .inside)
+add-end c = omega (arith, ok (c .before .before))
 
 slice-aggregate-count-between : tie.Need-slice-aggregate-count-between
-slice-aggregate-count-between c = sym (length-take-le _ _ ((passed _ _ (sym (c .before .before .before .enum-told .given .1) ∙ c .before .before .before .before .before .check .ensures)) .inside))
+slice-aggregate-count-between c = sym (length-take-le _ _ (ok (c .before .before .before) .inside))
 
 count-between-requires : tie.Need-count-between-requires
-count-between-requires c κs = let e = length-take-le (c .before .before .before .before .before .before .before .args .b .count) (c .before .before .before .before .before .before .before .args .words .now) ((passed _ _ (sym (c .before .before .before .enum-told .given .1) ∙ c .before .before .before .before .before .check .ensures)) .inside) in omega (arith, (passed _ _ (sym (c .before .before .before .enum-told .given .1) ∙ c .before .before .before .before .before .check .ensures)) .short, (passed _ _ (sym (c .before .before .before .enum-told .given .1) ∙ c .before .before .before .before .before .check .ensures)) .inside)
+count-between-requires c κs =
+    let e = length-take-le (c .before .before .before .before .before .before .before .args .b .count)
+    (c .before .before .before .before .before .before .before .args .words .now) (ok (c .before .before .before) .inside) in
+    omega (arith, ok (c .before .before .before))
 
 returns-3 : tie.Need-returns-3
-returns-3 c = ap Number.Is (region-counted _ _ _ _ _ _ ((passed _ _ (sym (c .before .before .before .before .enum-told .given .1) ∙ c .before .before .before .before .before .before .check .ensures)) .inside) (c .before .before .before .if1 .left) (ap (λ (x : ℕ). c .before .before .before .before .before .before .before .before .args .i + x) (c .before .before .min .ensures)) (c .count-between .ensures)) ∙ sym (reading-ok _ _ _ _ (passed _ _ (sym (c .before .before .before .before .enum-told .given .1) ∙ c .before .before .before .before .before .before .check .ensures)))
+returns-3 c =
+    ap Number.Is (region-counted _ _ _ _ _ _ (ok (c .before .before .before .before) .inside) (c .before .before .before .if1 .left)
+    (ap (λ (x : ℕ). c .before .before .before .before .before .before .before .before .args .i + x) (c .before .before .min .ensures))
+    (c .count-between .ensures)) ∙ sym (reading-ok _ _ _ _ (ok (c .before .before .before .before)))
 
 pub count-region-spec : {M : Type 1} → statement M
 count-region-spec =

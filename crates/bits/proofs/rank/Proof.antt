@@ -3,11 +3,16 @@ use Prim.Native.Nat.{min}
 use native.Mathlib.Omega.{arith}
 use borrow.Author.Needs.{needs}
 use lib.Seq.{length-take-le}
+use Rattle.storage.specs.Guards.{Passed}
 use Rattle.storage.proofs.Checks.{passed, reading-ok, reading-stopped}
 use Rattle.storage.specs.declared.Number.{Number}
 use Rattle.bits.proofs.Counts.{rank-counted}
 use Rattle.bits.proofs.rank.Statement.{statement}
 use Rattle.bits.proofs.rank.Tie as tie
+
+-- the guard has let the store pass
+ok : (c : tie.After-enum-told) → Passed (c .before .before .before .before .args .words .now) (c .before .before .before .before .args .b)
+ok c = passed _ _ (sym (c .enum-told .given .1) ∙ c .before .before .check .ensures)
 
 check-requires : tie.Need-check-requires
 check-requires c κs = search needs
@@ -22,19 +27,22 @@ enum-told : tie.Need-enum-told
 enum-told c = search needs
 
 slice-aggregate-count-between : tie.Need-slice-aggregate-count-between
-slice-aggregate-count-between c = sym (length-take-le _ _ ((passed _ _ (sym (c .before .enum-told .given .1) ∙ c .before .before .before .check .ensures)) .inside))
+slice-aggregate-count-between c = sym (length-take-le _ _ (ok (c .before) .inside))
 
 mul-min : tie.Need-mul-min
-mul-min c = omega (arith, (passed _ _ (sym (c .before .enum-told .given .1) ∙ c .before .before .before .check .ensures)) .short, (passed _ _ (sym (c .before .enum-told .given .1) ∙ c .before .before .before .check .ensures)) .inside)
+mul-min c = omega (arith, ok (c .before))
 
 min-requires : tie.Need-min-requires
 min-requires c κs = search needs
 
 count-between-requires : tie.Need-count-between-requires
-count-between-requires c κs = let e = length-take-le (c .before .before .before .before .before .before .args .b .count) (c .before .before .before .before .before .before .args .words .now) ((passed _ _ (sym (c .before .before .enum-told .given .1) ∙ c .before .before .before .before .check .ensures)) .inside) in omega (arith, (passed _ _ (sym (c .before .before .enum-told .given .1) ∙ c .before .before .before .before .check .ensures)) .short, (passed _ _ (sym (c .before .before .enum-told .given .1) ∙ c .before .before .before .before .check .ensures)) .inside)
+count-between-requires c κs =
+    let e = length-take-le (c .before .before .before .before .before .before .args .b .count) (c .before .before .before .before .before .before .args .words .now) (ok (c .before .before) .inside) in
+    omega (arith, ok (c .before .before))
 
 returns-2 : tie.Need-returns-2
-returns-2 c = ap Number.Is (rank-counted _ _ _ _ _ ((passed _ _ (sym (c .before .before .before .enum-told .given .1) ∙ c .before .before .before .before .before .check .ensures)) .inside) (c .before .min .ensures) (c .count-between .ensures)) ∙ sym (reading-ok _ _ _ _ (passed _ _ (sym (c .before .before .before .enum-told .given .1) ∙ c .before .before .before .before .before .check .ensures)))
+returns-2 c =
+    ap Number.Is (rank-counted _ _ _ _ _ (ok (c .before .before .before) .inside) (c .before .min .ensures) (c .count-between .ensures)) ∙ sym (reading-ok _ _ _ _ (ok (c .before .before .before)))
 
 pub rank-spec : {M : Type 1} → statement M
 rank-spec =

@@ -49,7 +49,13 @@ mul-words-2 : tie.Need-mul-words-2 Inv-loop μ-loop
 mul-words-2 c = omega (arith, c .before .before .before .before .before .loop .inv .1 .long)
 
 slice-write-words-2 : tie.Need-slice-write-words-2 Inv-loop μ-loop
-slice-write-words-2 c = omega (arith, c .before .before .before .before .before .loop .inv .1 .long, length-set (c .before .before .before .before .before .loop .words) (c .before .before .before .before .before .loop .lo) (c .reverse-bits2 .result))
+slice-write-words-2 c =
+    omega (
+      arith,
+      c .before .before .before .before .before .loop .inv .1 .long,
+      length-set
+          (c .before .before .before .before .before .loop .words) (c .before .before .before .before .before .loop .lo) (c .reverse-bits2 .result),
+    )
 
 add-lo : tie.Need-add-lo Inv-loop μ-loop
 add-lo c = omega (arith, c .before .before .before .before .before .loop .inv .1 .long)

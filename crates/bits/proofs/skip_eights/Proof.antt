@@ -44,7 +44,9 @@ loop-less : tie.Need-loop-less Inv-loop μ-loop
 loop-less c = omega arith
 
 loop-again : tie.Need-loop-again Inv-loop μ-loop
-loop-again c = pass-words _ _ _ _ _ _ (c .before .before .before .before .loop .inv) (omega arith) (omega (arith, c .before .before .before .before .loop .inv .inside)) (omega arith) (c .before .count-set-bits .ensures) (c .if1 .left)
+loop-again c =
+    pass-words _ _ _ _ _ _ (c .before .before .before .before .loop .inv) (omega arith)
+    (omega (arith, c .before .before .before .before .loop .inv .inside)) (omega arith) (c .before .count-set-bits .ensures) (c .if1 .left)
 
 returns-2 : tie.Need-returns-2 Inv-loop μ-loop
 returns-2 c = c .before .loop .inv

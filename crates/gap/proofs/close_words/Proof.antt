@@ -1,11 +1,16 @@
 use native.Mathlib.Omega.{arith}
+use Rattle.word.proofs.Lists.{Fit}
 use borrow.Author.Needs.{needs}
 use Rattle.gap.proofs.Tails.{close-out, close-tail}
 use Rattle.gap.proofs.close_words.Statement.{statement}
 use Rattle.gap.proofs.close_words.Tie as tie
 
+-- each word is below 2 ^ 64
+fit : (c : tie.After-slice-known) → Fit (c .before .args .words .now)
+fit c k = omega (arith, c .slice-known .given k)
+
 returns : tie.Need-returns
-returns c = close-out _ _ _ (λ k. omega (arith, c .before .slice-known .given k)) (c .if1 .taken)
+returns c = close-out _ _ _ (fit (c .before)) (c .if1 .taken)
 
 low-mask-requires : tie.Need-low-mask-requires
 low-mask-requires c κs = search needs
@@ -47,7 +52,10 @@ same-length : tie.Need-same-length
 same-length c = search needs
 
 returns-2 : tie.Need-returns-2
-returns-2 c = close-tail _ _ _ (λ k. omega (arith, c .before .before .before .before .before .before .before .before .slice-known .given k)) _ _ (c .before .before .before .before .before .before .before .if1 .left) (c .before .before .before .before .before .before .low-mask .ensures) (c .before .before .before .right-words .ensures)
+returns-2 c =
+    close-tail _ _ _ (fit (c .before .before .before .before .before .before .before .before)) _ _
+    (c .before .before .before .before .before .before .before .if1 .left) (c .before .before .before .before .before .before .low-mask .ensures)
+    (c .before .before .before .right-words .ensures)
 
 pub close-words-spec : {M : Type 1} → statement M
 close-words-spec =

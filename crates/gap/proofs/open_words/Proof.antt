@@ -1,5 +1,6 @@
 use mathlib.Core.Path.{ap, _∙_}
 use native.Mathlib.Omega.{arith}
+use Rattle.word.proofs.Lists.{Fit}
 use borrow.Author.Needs.{needs}
 use Prim.Native.Nat.{_/_}
 use lib.ListN.{length, length-set}
@@ -10,8 +11,12 @@ use Rattle.gap.proofs.Tails.{open-out, after-set-long, open-tail}
 use Rattle.gap.proofs.open_words.Statement.{statement}
 use Rattle.gap.proofs.open_words.Tie as tie
 
+-- each word is below 2 ^ 64
+fit : (c : tie.After-slice-known) → Fit (c .before .args .words .now)
+fit c k = omega (arith, c .slice-known .given k)
+
 returns : tie.Need-returns
-returns c = open-out _ _ _ (λ k. omega (arith, c .before .slice-known .given k)) (c .if1 .taken)
+returns c = open-out _ _ _ (fit (c .before)) (c .if1 .taken)
 
 low-mask-requires : tie.Need-low-mask-requires
 low-mask-requires c κs = search needs
@@ -47,19 +52,38 @@ mul-words-2 : tie.Need-mul-words-2
 mul-words-2 c = search needs
 
 slice-read-words : tie.Need-slice-read-words
-slice-read-words c = omega (arith, after-set-long (c .before .before .before .before .before .before .before .before .before .args .words .now) _ (c .before .before .before .before .before .before .before .before .before .args .p / 64) _ _ (c .before .before .before .before .before .before .before .if1 .left) (c .before .before .before .left-words .ensures))
+slice-read-words c =
+    omega (
+      arith,
+      after-set-long (c .before .before .before .before .before .before .before .before .before .args .words .now) _
+          (c .before .before .before .before .before .before .before .before .before .args .p / 64) _ _
+          (c .before .before .before .before .before .before .before .if1 .left) (c .before .before .before .left-words .ensures),
+    )
 
 mul-words-3 : tie.Need-mul-words-3
 mul-words-3 c = search needs
 
 slice-write-words-2 : tie.Need-slice-write-words-2
-slice-write-words-2 c = omega (arith, after-set-long (c .before .before .before .before .before .before .before .before .before .args .words .now) _ (c .before .before .before .before .before .before .before .before .before .args .p / 64) _ _ (c .before .before .before .before .before .before .before .if1 .left) (c .before .before .before .left-words .ensures))
+slice-write-words-2 c =
+    omega (
+      arith,
+      after-set-long (c .before .before .before .before .before .before .before .before .before .args .words .now) _
+          (c .before .before .before .before .before .before .before .before .before .args .p / 64) _ _
+          (c .before .before .before .before .before .before .before .if1 .left) (c .before .before .before .left-words .ensures),
+    )
 
 returns-2 : tie.Need-returns-2
-returns-2 c = open-tail _ _ _ (λ k. omega (arith, c .before .before .before .before .before .before .before .before .slice-known .given k)) _ _ (c .before .before .before .before .before .before .before .if1 .left) (c .before .before .before .before .before .before .low-mask .ensures) (c .before .before .before .left-words .ensures)
+returns-2 c =
+    open-tail _ _ _ (fit (c .before .before .before .before .before .before .before .before)) _ _
+    (c .before .before .before .before .before .before .before .if1 .left) (c .before .before .before .before .before .before .low-mask .ensures)
+    (c .before .before .before .left-words .ensures)
 
 same-length : tie.Need-same-length
-same-length c = ap length (returns-2 c) ∙ length-words (opened (c .before .before .before .before .before .before .before .before .before .args .p) (c .before .before .before .before .before .before .before .before .before .args .k) (member (c .before .before .before .before .before .before .before .before .before .args .words .now))) (length (c .before .before .before .before .before .before .before .before .before .args .words .now))
+same-length c =
+    ap length (returns-2 c) ∙ length-words (opened (c .before .before .before .before .before .before .before .before .before .args .p)
+    (c .before .before .before .before .before .before .before .before .before .args .k)
+    (member (c .before .before .before .before .before .before .before .before .before .args .words .now)))
+    (length (c .before .before .before .before .before .before .before .before .before .args .words .now))
 
 pub open-words-spec : {M : Type 1} → statement M
 open-words-spec =

@@ -49,16 +49,24 @@ array-share-prefix-piece : tie.Need-array-share-prefix-piece
 array-share-prefix-piece c = held-long _ _ _ _ _ _ (c .before .before .copy-words .ensures) refl (c .before .before .before .before .before .before .before .pre .0)
 
 slice-aggregate-copy-words-2 : tie.Need-slice-aggregate-copy-words-2
-slice-aggregate-copy-words-2 c = sym (length-take-le _ _ (held-long _ _ _ _ _ _ (c .before .before .before .copy-words .ensures) refl (c .before .before .before .before .before .before .before .before .pre .0)))
+slice-aggregate-copy-words-2 c =
+    sym (length-take-le _ _ (held-long _ _ _ _ _ _ (c .before .before .before .copy-words .ensures) refl (c .before .before .before .before .before .before .before .before .pre .0)))
 
 copy-words-requires-2 : tie.Need-copy-words-requires-2
-copy-words-requires-2 c κs = sym (take-part _ _ _ _ _ refl (held-long _ _ _ _ _ _ (c .before .before .before .copy-words .ensures) refl (c .before .before .before .before .before .before .before .before .pre .0)) (c .before .before .before .before .before .before .before .before .pre .1))
+copy-words-requires-2 c κs =
+    sym (take-part _ _ _ _ _ refl
+    (held-long _ _ _ _ _ _ (c .before .before .before .copy-words .ensures) refl
+    (c .before .before .before .before .before .before .before .before .pre .0))
+    (c .before .before .before .before .before .before .before .before .pre .1))
 
 same-length : tie.Need-same-length
 same-length c = search needs
 
 returns : tie.Need-returns
-returns c = piece-moved _ _ _ _ _ _ _ (c .before .before .before .before .before .before .before .before .before .before .before .pre .0) (c .before .before .before .before .before .before .before .before .before .before .before .pre .1) (c .before .before .before .before .before .before .copy-words .ensures) (c .before .before .copy-words2 .ensures)
+returns c =
+    piece-moved _ _ _ _ _ _ _ (c .before .before .before .before .before .before .before .before .before .before .before .pre .0)
+    (c .before .before .before .before .before .before .before .before .before .before .before .pre .1)
+    (c .before .before .before .before .before .before .copy-words .ensures) (c .before .before .copy-words2 .ensures)
 
 pub move-piece-spec : {M : Type 1} → statement M
 move-piece-spec =

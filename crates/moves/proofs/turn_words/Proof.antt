@@ -37,7 +37,13 @@ loop-less : tie.Need-loop-less Inv-loop μ-loop
 loop-less c = omega arith
 
 loop-again : tie.Need-loop-again Inv-loop μ-loop
-loop-again c = (omega arith, c .before .before .swap-words .ensures .long ∙ c .before .before .before .before .before .before .before .loop .inv .1, c .before .before .before .before .before .before .before .loop .inv .2, turning-low _ _ _ _ _ (c .before .before .before .before .before .before .before .loop .inv .3) (omega arith) (c .before .before .swap-words .ensures))
+loop-again c = (
+  omega arith,
+  c .before .before .swap-words .ensures .long ∙ c .before .before .before .before .before .before .before .loop .inv .1,
+  c .before .before .before .before .before .before .before .loop .inv .2,
+  turning-low _ _ _ _ _
+      (c .before .before .before .before .before .before .before .loop .inv .3) (omega arith) (c .before .before .swap-words .ensures),
+)
 
 sub-high : tie.Need-sub-high Inv-loop μ-loop
 sub-high c = omega arith
@@ -52,7 +58,13 @@ loop-less-2 : tie.Need-loop-less-2 Inv-loop μ-loop
 loop-less-2 c = omega arith
 
 loop-again-2 : tie.Need-loop-again-2 Inv-loop μ-loop
-loop-again-2 c = (omega arith, c .before .before .swap-words2 .ensures .long ∙ c .before .before .before .before .before .before .before .loop .inv .1, c .before .before .before .before .before .before .before .loop .inv .2, turning-high _ _ _ _ _ (c .before .before .before .before .before .before .before .loop .inv .3) (omega arith) (c .before .before .swap-words2 .ensures))
+loop-again-2 c = (
+  omega arith,
+  c .before .before .swap-words2 .ensures .long ∙ c .before .before .before .before .before .before .before .loop .inv .1,
+  c .before .before .before .before .before .before .before .loop .inv .2,
+  turning-high _ _ _ _ _
+      (c .before .before .before .before .before .before .before .loop .inv .3) (omega arith) (c .before .before .swap-words2 .ensures),
+)
 
 add-end : tie.Need-add-end Inv-loop μ-loop
 add-end c = omega arith
@@ -64,13 +76,20 @@ slice-aggregate-turn-held : tie.Need-slice-aggregate-turn-held Inv-loop μ-loop
 slice-aggregate-turn-held c = sym (length-take-le _ _ (omega (arith, c .before .before .before .loop .inv .1)))
 
 turn-held-requires : tie.Need-turn-held-requires Inv-loop μ-loop
-turn-held-requires c κs = let e = length-take-le (c .before .before .before .loop .low + c .before .before .before .loop .high) (c .before .before .before .loop .words) (omega (arith, c .before .before .before .loop .inv .1)) in (omega (arith, e), omega (arith, e, c .before .before .min .ensures))
+turn-held-requires c κs =
+    let e = length-take-le (c .before .before .before .loop .low + c .before .before .before .loop .high)
+    (c .before .before .before .loop .words) (omega (arith, c .before .before .before .loop .inv .1)) in
+    (omega (arith, e), omega (arith, e, c .before .before .min .ensures))
 
 same-length : tie.Need-same-length Inv-loop μ-loop
 same-length c = search needs
 
 returns-2 : tie.Need-returns-2 Inv-loop μ-loop
-returns-2 c = turning-all (c .before .before .before .before .before .before .before .before .before .args .words .now) _ _ _ _ _ (c .before .before .before .before .before .before .loop .inv .2) (c .before .before .before .before .before .before .loop .inv .1) (omega (arith, c .before .before .before .before .before .before .loop .inv .1)) (c .before .before .before .before .before .before .loop .inv .3) (c .before .before .turn-held .ensures)
+returns-2 c =
+    turning-all (c .before .before .before .before .before .before .before .before .before .args .words .now) _ _ _ _ _
+    (c .before .before .before .before .before .before .loop .inv .2) (c .before .before .before .before .before .before .loop .inv .1)
+    (omega (arith, c .before .before .before .before .before .before .loop .inv .1))
+    (c .before .before .before .before .before .before .loop .inv .3) (c .before .before .turn-held .ensures)
 
 pub turn-words-spec : {M : Type 1} → statement M
 turn-words-spec =

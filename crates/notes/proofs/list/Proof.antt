@@ -25,10 +25,23 @@ put-requires : tie.Need-put-requires
 put-requires c κs = search needs
 
 array-share-prefix-out : tie.Need-array-share-prefix-out
-array-share-prefix-out c = omega (arith, fits _ _ (c .before .before .before .before .before .before .before .before .before .large-buffer .result) (c .before .before .before .before .n .given .0 .0) _ _ (c .before .before .before .before .n .given .1) (c .before .before .before .before .before .before .before .write-list .ensures))
+array-share-prefix-out c =
+    omega (
+      arith,
+      fits _ _ (c .before .before .before .before .before .before .before .before .before .large-buffer .result)
+          (c .before .before .before .before .n .given .0 .0) _ _ (c .before .before .before .before .n .given .1)
+          (c .before .before .before .before .before .before .before .write-list .ensures),
+    )
 
 slice-aggregate-put-2 : tie.Need-slice-aggregate-put-2
-slice-aggregate-put-2 c = sym (length-take-le _ _ (omega (arith, fits _ _ (c .before .before .before .before .before .before .before .before .before .before .large-buffer .result) (c .before .before .before .before .before .n .given .0 .0) _ _ (c .before .before .before .before .before .n .given .1) (c .before .before .before .before .before .before .before .before .write-list .ensures))))
+slice-aggregate-put-2 c =
+    sym (length-take-le _ _
+    (omega (
+      arith,
+      fits _ _ (c .before .before .before .before .before .before .before .before .before .before .large-buffer .result)
+          (c .before .before .before .before .before .n .given .0 .0) _ _ (c .before .before .before .before .before .n .given .1)
+          (c .before .before .before .before .before .before .before .before .write-list .ensures),
+    )))
 
 put-requires-2 : tie.Need-put-requires-2
 put-requires-2 c κs = search needs

@@ -23,7 +23,16 @@ zero-eights-down-requires : tie.Need-zero-eights-down-requires Inv-loop μ-loop
 zero-eights-down-requires c κs = search needs
 
 loop-holds : tie.Need-loop-holds Inv-loop μ-loop
-loop-holds c = (omega (arith, end-within (c .before .before .before .before .args .op) (c .before .before .before .before .args .a .now) (c .before .before .before .before .args .b .now) _ (c .before .end-of .ensures), c .zero-eights-down .ensures .0), alike-join (c .zero-eights-down .ensures .1) (past-end _ _ _ _ (c .before .end-of .ensures) _) (omega arith))
+loop-holds c = (
+  omega (
+    arith,
+    end-within (c .before .before .before .before .args .op) (c .before .before .before .before .args .a .now)
+        (c .before .before .before .before .args .b .now) _ (c .before .end-of .ensures),
+    c .zero-eights-down .ensures .0,
+  ),
+  alike-join
+      (c .zero-eights-down .ensures .1) (past-end _ _ _ _ (c .before .end-of .ensures) _) (omega arith),
+)
 
 sub-word-at : tie.Need-sub-word-at Inv-loop μ-loop
 sub-word-at c = omega arith

@@ -14,7 +14,13 @@ enum-known-f : tie.Need-enum-known-f
 enum-known-f c = search needs
 
 add-next : tie.Need-add-next
-add-next c = omega (arith, c .before .before .before .before .before .before .pre, start-below (c .before .before .before .before .before .before .args .words .now) _ (c .before .before .before .before .before .before .args .i) (record { short = c .before .before .before .before .before .before .pre .0; inside = c .before .before .before .before .before .before .pre .1 }) _ (c .before .before .before .next-set .ensures) _ (c .before .f .given .1))
+add-next c =
+    omega (
+      arith,
+      c .before .before .before .before .before .before .pre,
+      start-below _ _ _ (c .before .before .before .before .before .before .pre .0) _
+          (c .before .before .before .next-set .ensures) _ (c .before .f .given .1),
+    )
 
 mul-if2 : tie.Need-mul-if2
 mul-if2 c = search needs
@@ -26,7 +32,10 @@ shr-if2 : tie.Need-shr-if2
 shr-if2 c = search needs
 
 returns : tie.Need-returns
-returns c = run-single (c .before .before .before .before .before .before .before .before .before .before .args .words .now) _ (c .before .before .before .before .before .before .before .before .before .before .args .i) (record { short = c .before .before .before .before .before .before .before .before .before .before .pre .0; inside = c .before .before .before .before .before .before .before .before .before .before .pre .1 }) _ (c .before .before .before .before .before .before .before .next-set .ensures) _ (c .before .before .before .before .before .f .given .1) (clear-bit _ _ _ (c .before .before .if1 .taken) (c .if2 .taken))
+returns c =
+    run-single _ _ _ (c .before .before .before .before .before .before .before .before .before .before .pre .0) _
+    (c .before .before .before .before .before .before .before .next-set .ensures) _ (c .before .before .before .before .before .f .given .1)
+    (clear-bit _ _ _ (c .before .before .if1 .taken) (c .if2 .taken))
 
 next-clear-requires : tie.Need-next-clear-requires
 next-clear-requires c κs = search needs
@@ -44,16 +53,22 @@ enum-told-3 : tie.Need-enum-told-3
 enum-told-3 c = search needs
 
 returns-2 : tie.Need-returns-2
-returns-2 c = run-found (c .before .before .before .before .before .before .before .before .before .before .before .before .args .words .now) _ (c .before .before .before .before .before .before .before .before .before .before .before .before .args .i) (record { short = c .before .before .before .before .before .before .before .before .before .before .before .before .pre .0; inside = c .before .before .before .before .before .before .before .before .before .before .before .before .pre .1 }) _ (c .before .before .before .before .before .before .before .before .before .next-set .ensures) _ (c .before .before .before .before .before .before .before .f .given .1) _ (c .before .before .before .next-clear .ensures) _ (c .before .c .given .1)
+returns-2 c =
+    run-found _ _ _ (c .before .before .before .before .before .before .before .before .before .before .before .before .pre .0) _
+    (c .before .before .before .before .before .before .before .before .before .next-set .ensures) _ (c .before .before .before .before .before .before .before .f .given .1) _
+    (c .before .before .before .next-clear .ensures) _ (c .before .c .given .1)
 
 returns-3 : tie.Need-returns-3
-returns-3 c = absurd (clear-never (c .before .before .before .before .before .before .before .before .before .before .before .args .words .now) _ (c .before .before .before .before .before .before .before .before .before .before .before .args .i) (record { short = c .before .before .before .before .before .before .before .before .before .before .before .pre .0; inside = c .before .before .before .before .before .before .before .before .before .before .before .pre .1 }) _ (c .before .before .before .before .before .before .before .before .next-set .ensures) _ (c .before .before .before .before .before .before .f .given .1) _ (c .before .before .next-clear .ensures) _ (c .enum-told .given .1))
+returns-3 c =
+    absurd (clear-never _ _ _ (c .before .before .before .before .before .before .before .before .before .before .before .pre .0) _
+    (c .before .before .before .before .before .before .before .before .next-set .ensures) _ (c .before .before .before .before .before .before .f .given .1) _
+    (c .before .before .next-clear .ensures) _ (c .enum-told .given .1))
 
 returns-4 : tie.Need-returns-4
-returns-4 c = run-none (c .before .before .before .before .before .args .words .now) _ (c .before .before .before .before .before .args .i) (record { short = c .before .before .before .before .before .pre .0; inside = c .before .before .before .before .before .pre .1 }) _ (c .before .before .next-set .ensures) (c .before .before .before .before .before .pre .2) (c .enum-told2 .given .1)
+returns-4 c = run-none _ _ _ (c .before .before .before .before .before .pre .0) _ (c .before .before .next-set .ensures) (c .before .before .before .before .before .pre .1) (c .enum-told2 .given .1)
 
 returns-5 : tie.Need-returns-5
-returns-5 c = absurd (found-never (c .before .before .before .before .before .args .words .now) _ (c .before .before .before .before .before .args .i) (record { short = c .before .before .before .before .before .pre .0; inside = c .before .before .before .before .before .pre .1 }) _ (c .before .before .next-set .ensures) _ (c .enum-told3 .given .1))
+returns-5 c = absurd (found-never _ _ _ (c .before .before .before .before .before .pre .0) _ (c .before .before .next-set .ensures) _ (c .enum-told3 .given .1))
 
 pub next-run-spec : {M : Type 1} → statement M
 next-run-spec =

@@ -35,7 +35,15 @@ sub-out : tie.Need-sub-out Inv-loop μ-loop
 sub-out c = omega (arith, c .loop-test .taken)
 
 slice-write-out : tie.Need-slice-write-out Inv-loop μ-loop
-slice-write-out c = omega (arith, c .loop-test .taken, putting-place _ _ _ (c .before .before .before .before .pre .1) _ _ _ _ (c .before .loop .inv .1), putting-long _ _ _ (c .before .before .before .before .pre .1) _ _ _ _ (c .before .loop .inv .1), c .before .before .before .before .pre .1)
+slice-write-out c =
+    omega (
+      arith,
+      c .loop-test .taken,
+      putting-place _ _ _ (c .before .before .before .before .pre .1) _ _ _ _ (c .before .loop .inv .1),
+      putting-long _ _ _
+          (c .before .before .before .before .pre .1) _ _ _ _ (c .before .loop .inv .1),
+      c .before .before .before .before .pre .1,
+    )
 
 cast-out-2 : tie.Need-cast-out-2 Inv-loop μ-loop
 cast-out-2 c = omega arith
@@ -47,7 +55,17 @@ sub-out-2 : tie.Need-sub-out-2 Inv-loop μ-loop
 sub-out-2 c = omega (arith, c .loop-test .taken)
 
 slice-write-out-2 : tie.Need-slice-write-out-2 Inv-loop μ-loop
-slice-write-out-2 c = omega (arith, c .loop-test .taken, putting-place _ _ _ (c .before .before .before .before .pre .1) _ _ _ _ (c .before .loop .inv .1), putting-long _ _ _ (c .before .before .before .before .pre .1) _ _ _ _ (c .before .loop .inv .1), c .before .before .before .before .pre .1, length-set (c .before .loop .out) (c .before .loop .p - 1) (48 + c .before .loop .y % 100 % 10))
+slice-write-out-2 c =
+    omega (
+      arith,
+      c .loop-test .taken,
+      putting-place _ _ _ (c .before .before .before .before .pre .1) _ _ _ _ (c .before .loop .inv .1),
+      putting-long _ _ _
+          (c .before .before .before .before .pre .1) _ _ _ _ (c .before .loop .inv .1),
+      c .before .before .before .before .pre .1,
+      length-set (c .before .loop .out)
+          (c .before .loop .p - 1) (48 + c .before .loop .y % 100 % 10),
+    )
 
 sub-p : tie.Need-sub-p Inv-loop μ-loop
 sub-p c = omega (arith, c .loop-test .taken)
@@ -65,13 +83,25 @@ add-out-3 : tie.Need-add-out-3 Inv-loop μ-loop
 add-out-3 c = omega arith
 
 slice-write-out-3 : tie.Need-slice-write-out-3 Inv-loop μ-loop
-slice-write-out-3 c = omega (arith, c .if1 .taken, putting-place _ _ _ (c .before .before .before .before .before .pre .1) _ _ _ _ (c .before .before .loop .inv .1), putting-long _ _ _ (c .before .before .before .before .before .pre .1) _ _ _ _ (c .before .before .loop .inv .1), c .before .before .before .before .before .pre .1)
+slice-write-out-3 c =
+    omega (
+      arith,
+      c .if1 .taken,
+      putting-place _ _ _ (c .before .before .before .before .before .pre .1) _ _ _ _ (c .before .before .loop .inv .1),
+      putting-long _ _ _
+          (c .before .before .before .before .before .pre .1) _ _ _ _ (c .before .before .loop .inv .1),
+      c .before .before .before .before .before .pre .1,
+    )
 
 same-length : tie.Need-same-length Inv-loop μ-loop
-same-length c = length-set (c .before .before .loop .out) (c .before .before .before .before .before .args .at) (48 + c .before .before .loop .y % 10) ∙ putting-long _ _ _ (c .before .before .before .before .before .pre .1) _ _ _ _ (c .before .before .loop .inv .1)
+same-length c =
+    length-set (c .before .before .loop .out) (c .before .before .before .before .before .args .at) (48 + c .before .before .loop .y % 10)
+    ∙ putting-long _ _ _ (c .before .before .before .before .before .pre .1) _ _ _ _ (c .before .before .loop .inv .1)
 
 returns : tie.Need-returns Inv-loop μ-loop
-returns c = putting-last _ _ _ (c .before .before .before .before .before .pre .1) _ _ _ _ (c .before .before .loop .inv .1) (c .if1 .taken) (omega (arith, c .before .loop-test .left)) _ (c .before .before .before .digits .ensures)
+returns c =
+    putting-last _ _ _ (c .before .before .before .before .before .pre .1) _ _ _ _ (c .before .before .loop .inv .1) (c .if1 .taken) (omega (arith, c .before .loop-test .left)) _
+    (c .before .before .before .digits .ensures)
 
 same-length-2 : tie.Need-same-length-2 Inv-loop μ-loop
 same-length-2 c = putting-long _ _ _ (c .before .before .before .before .before .pre .1) _ _ _ _ (c .before .before .loop .inv .1)

@@ -1,10 +1,15 @@
 use mathlib.Core.Path.{sym, _∙_}
 use native.Mathlib.Omega.{arith}
 use borrow.Author.Needs.{needs}
+use Rattle.storage.specs.Guards.{Passed}
 use Rattle.storage.proofs.Checks.{passed}
 use Rattle.print.proofs.Printing.{prints-stopped, prints-short, prints-done}
 use Rattle.print.proofs.write_list.Statement.{statement}
 use Rattle.print.proofs.write_list.Tie as tie
+
+-- the guard has let the store pass
+ok : (c : tie.After-enum-told) → Passed (c .before .before .before .before .before .args .words .now) (c .before .before .before .before .before .args .b)
+ok c = passed _ _ (sym (c .enum-told .given .1) ∙ c .before .before .check .ensures)
 
 check-requires : tie.Need-check-requires
 check-requires c κs = search needs
@@ -19,19 +24,21 @@ enum-told : tie.Need-enum-told
 enum-told c = search needs
 
 text-len-requires : tie.Need-text-len-requires
-text-len-requires c κs = ((passed _ _ (sym (c .enum-told .given .1) ∙ c .before .before .check .ensures)) .short, (passed _ _ (sym (c .enum-told .given .1) ∙ c .before .before .check .ensures)) .inside)
+text-len-requires c κs = ok c
 
 returns-2 : tie.Need-returns-2
-returns-2 c = prints-short _ _ _ (passed _ _ (sym (c .before .before .enum-told .given .1) ∙ c .before .before .before .before .check .ensures)) _ (c .before .text-len .ensures) (c .if1 .taken)
+returns-2 c = prints-short _ _ _ (ok (c .before .before)) _ (c .before .text-len .ensures) (c .if1 .taken)
 
 print-requires : tie.Need-print-requires
-print-requires c κs = ((passed _ _ (sym (c .before .before .before .enum-told .given .1) ∙ c .before .before .before .before .before .check .ensures)) .short, (passed _ _ (sym (c .before .before .before .enum-told .given .1) ∙ c .before .before .before .before .before .check .ensures)) .inside, omega (arith, c .before .if1 .left, c .before .before .text-len .ensures))
+print-requires c κs = (ok (c .before .before .before), omega (arith, c .before .if1 .left, c .before .before .text-len .ensures))
 
 same-length : tie.Need-same-length
 same-length c = search needs
 
 returns-3 : tie.Need-returns-3
-returns-3 c = prints-done _ _ _ (passed _ _ (sym (c .before .before .before .before .before .before .enum-told .given .1) ∙ c .before .before .before .before .before .before .before .before .check .ensures)) _ (c .before .before .before .before .before .text-len .ensures) _ (c .before .before .before .before .if1 .left) (c .before .before .print .ensures)
+returns-3 c =
+    prints-done _ _ _ (ok (c .before .before .before .before .before .before)) _ (c .before .before .before .before .before .text-len .ensures) _
+    (c .before .before .before .before .if1 .left) (c .before .before .print .ensures)
 
 pub write-list-spec : {M : Type 1} → statement M
 write-list-spec =

@@ -42,7 +42,10 @@ same-length c = search needs
 
 returns : tie.Need-returns
 unfolding step
-returns c = step-of (c .before .before .before .before .before .before .e5 .given .1 ∙ ap (λ (t : Bool). Shift t (c .before .before .before .before .before .before .e5 .given .0 .1 .0)) (c .before .before .before .before .if1 .taken)) (c .before .before .shift-right .ensures)
+returns c =
+    step-of (c .before .before .before .before .before .before .e5 .given .1 ∙ ap
+    (λ (t : Bool). Shift t (c .before .before .before .before .before .before .e5 .given .0 .1 .0))
+    (c .before .before .before .before .if1 .taken)) (c .before .before .shift-right .ensures)
 
 shift-left-requires : tie.Need-shift-left-requires
 shift-left-requires c κs = search needs
@@ -58,7 +61,10 @@ same-length-2 c = search needs
 
 returns-2 : tie.Need-returns-2
 unfolding step
-returns-2 c = step-of (c .before .before .before .before .before .before .e6 .given .1 ∙ ap (λ (t : Bool). Rotate t (c .before .before .before .before .before .before .e6 .given .0 .1 .0)) (c .before .before .before .before .if2 .taken)) (c .before .before .rotate-right .ensures)
+returns-2 c =
+    step-of (c .before .before .before .before .before .before .e6 .given .1 ∙ ap
+    (λ (t : Bool). Rotate t (c .before .before .before .before .before .before .e6 .given .0 .1 .0))
+    (c .before .before .before .before .if2 .taken)) (c .before .before .rotate-right .ensures)
 
 rotate-left-requires : tie.Need-rotate-left-requires
 rotate-left-requires c κs = search needs
@@ -126,14 +132,20 @@ same-length-7 c = search needs
 
 returns-7 : tie.Need-returns-7
 unfolding step
-returns-7 c = step-of (c .before .before .before .before .before .before .e5 .given .1 ∙ ap (λ (t : Bool). Shift t (c .before .before .before .before .before .before .e5 .given .0 .1 .0)) (c .before .before .before .before .if1 .left)) (c .before .before .shift-left .ensures)
+returns-7 c =
+    step-of (c .before .before .before .before .before .before .e5 .given .1 ∙ ap
+    (λ (t : Bool). Shift t (c .before .before .before .before .before .before .e5 .given .0 .1 .0))
+    (c .before .before .before .before .if1 .left)) (c .before .before .shift-left .ensures)
 
 same-length-8 : tie.Need-same-length-8
 same-length-8 c = search needs
 
 returns-8 : tie.Need-returns-8
 unfolding step
-returns-8 c = step-of (c .before .before .before .before .before .before .e6 .given .1 ∙ ap (λ (t : Bool). Rotate t (c .before .before .before .before .before .before .e6 .given .0 .1 .0)) (c .before .before .before .before .if2 .left)) (c .before .before .rotate-left .ensures)
+returns-8 c =
+    step-of (c .before .before .before .before .before .before .e6 .given .1 ∙ ap
+    (λ (t : Bool). Rotate t (c .before .before .before .before .before .before .e6 .given .0 .1 .0))
+    (c .before .before .before .before .if2 .left)) (c .before .before .rotate-left .ensures)
 
 same-length-9 : tie.Need-same-length-9
 same-length-9 c = search needs

@@ -8,16 +8,16 @@ use Rattle.reader.proofs.each_record.Statement.{statement}
 use Rattle.reader.proofs.each_record.Tie as tie
 
 abbrev Inv-loop : tie.InvT-loop
-Inv-loop edition sheet n words₀ count₀ i₀ at₀ words count i at = Going edition sheet n words₀ count₀ words count i at
+Inv-loop edition sheet n words₀ old count₀ i₀ at₀ words count i at = Going edition sheet n words₀ old words count i at
 
 abbrev μ-loop : tie.MeasureT-loop
-μ-loop edition sheet n words₀ count₀ i₀ at₀ words count i at = n - i
+μ-loop edition sheet n words₀ old count₀ i₀ at₀ words count i at = n - i
 
 loop-holds : tie.Need-loop-holds Inv-loop μ-loop
 loop-holds c =
     let a = c .before .before .args in
-    begins (a .edition) (a .sheet .now) (a .n) (a .words .now) (a .b .count) (c .before .before .pre .0) (λ k. omega (arith, c .slice-known .given k))
-    (c .before .before .pre .1)
+    begins (a .edition) (a .sheet .now) (a .n) (a .words .now) (a .old) (c .before .before .pre .0)
+    (λ k. omega (arith, c .slice-known .given k)) (c .before .before .pre .1)
 
 record-end-requires : tie.Need-record-end-requires Inv-loop μ-loop
 record-end-requires c κs = search needs
@@ -33,7 +33,7 @@ returns c =
     let l = c .before .before .before .loop in
     let a = c .before .before .before .before .before .before .args in
     came-refused _ _ _ _ _ (l .inv .long)
-    (cut (a .edition) (a .sheet .now) (a .n) (a .words .now) (a .b .count) (l .words) (l .count) (l .i) (l .at) (l .inv) (omega arith)
+    (cut (a .edition) (a .sheet .now) (a .n) (a .words .now) (a .old) (l .words) (l .count) (l .i) (l .at) (l .inv) (omega arith)
     (told-cut _ _ _ (c .before .record-end .ensures) (omega arith)))
 
 turn-requires : tie.Need-turn-requires Inv-loop μ-loop
@@ -44,8 +44,8 @@ turn-requires c κs =
 enum-known-why : tie.Need-enum-known-why Inv-loop μ-loop
 enum-known-why c = search needs
 
-add-t19 : tie.Need-add-t19 Inv-loop μ-loop
-add-t19 c = omega arith
+add-t20 : tie.Need-add-t20 Inv-loop μ-loop
+add-t20 c = omega arith
 
 same-length-2 : tie.Need-same-length-2 Inv-loop μ-loop
 same-length-2 c = c .before .before .before .before .words .given ∙ c .before .before .before .before .before .before .before .before .before .before .loop .inv .long
@@ -59,7 +59,7 @@ returns-2 c =
     let t = c .before .before .before .before .before .turn in
     let e = c .before .why .given in
     came-refused _ _ _ _ _ (c .before .before .before .before .words .given ∙ l .inv .long)
-    (stops (a .edition) (a .sheet .now) (a .n) (a .words .now) (a .b .count) (l .words) (l .count) (l .i) (l .at) (l .inv) (omega arith)
+    (stops (a .edition) (a .sheet .now) (a .n) (a .words .now) (a .old) (l .words) (l .count) (l .i) (l .at) (l .inv) (omega arith)
     (s .record-end .result) (w .0) (w .1) (t .result) (t .last .1 .1 .1 .1 .0) (e .0 .0) (e .0 .1 .0) (e .1) (t .ensures))
 
 enum-known-after : tie.Need-enum-known-after Inv-loop μ-loop
@@ -79,7 +79,7 @@ loop-again c =
     let w = told-whole _ _ _ (s .record-end .ensures) (omega arith) in
     let t = c .before .before .before .before .before .turn in
     let e = c .before .after .given in
-    goes-on (a .edition) (a .sheet .now) (a .n) (a .words .now) (a .b .count) (l .words) (l .count) (l .i) (l .at) (l .inv) (omega arith)
+    goes-on (a .edition) (a .sheet .now) (a .n) (a .words .now) (a .old) (l .words) (l .count) (l .i) (l .at) (l .inv) (omega arith)
     (s .record-end .result) (w .0) (w .1) (t .result) (t .last .1 .1 .1 .1 .0) (e .0 .0) (e .1) (t .ensures)
 
 same-length-3 : tie.Need-same-length-3 Inv-loop μ-loop
@@ -87,20 +87,20 @@ same-length-3 c = c .before .before .loop .inv .long
 
 returns-3 : tie.Need-returns-3 Inv-loop μ-loop
 returns-3 c =
-    let l = c .before .before .loop in
-    let a = c .before .before .before .before .before .args in
+    let l = c .before .before .loop in let a = c .before .before .before .before .before .args in
     came-refused _ _ _ _ _ (l .inv .long)
-    (remain (a .edition) (a .sheet .now) (a .n) (a .words .now) (a .b .count) (l .words) (l .count) (l .i) (l .at) (l .inv) (omega arith) (omega arith))
+    (remain (a .edition) (a .sheet .now) (a .n) (a .words .now) (a .old) (l .words) (l .count) (l .i) (l .at) (l .inv) (omega arith)
+    (omega arith))
 
 same-length-4 : tie.Need-same-length-4 Inv-loop μ-loop
 same-length-4 c = c .before .before .loop .inv .long
 
 returns-4 : tie.Need-returns-4 Inv-loop μ-loop
 returns-4 c =
-    let l = c .before .before .loop in
-    let a = c .before .before .before .before .before .args in
+    let l = c .before .before .loop in let a = c .before .before .before .before .before .args in
     came-done _ _ _ _ _ (l .inv .long) (l .inv .fit) (l .inv .padded)
-    (finished (a .edition) (a .sheet .now) (a .n) (a .words .now) (a .b .count) (l .words) (l .count) (l .i) (l .at) (l .inv) (omega arith) (omega arith))
+    (finished (a .edition) (a .sheet .now) (a .n) (a .words .now) (a .old) (l .words) (l .count) (l .i) (l .at) (l .inv) (omega arith)
+    (omega arith))
 
 pub each-record-spec : {M : Type 1} → statement M
 each-record-spec =
@@ -115,7 +115,7 @@ each-record-spec =
     returns
     turn-requires
     enum-known-why
-    add-t19
+    add-t20
     same-length-2
     returns-2
     enum-known-after

@@ -45,7 +45,11 @@ same-length : tie.Need-same-length Inv-loop μ-loop
 same-length c = c .before .result .given ∙ c .before .before .before .before .before .loop .inv .1 .long
 
 returns : tie.Need-returns Inv-loop μ-loop
-returns c = let l = c .before .before .before .before .before .loop in loaded _ _ _ _ _ _ (l .inv .1) (omega arith) (λ k. omega (arith, c .before .before .before .before .before .before .shared-slice-known .given k)) (omega arith) (c .before .before .grow .ensures)
+returns c =
+    let l = c .before .before .before .before .before .loop in
+    loaded _ _ _ _ _ _ (l .inv .1) (omega arith)
+    (λ k. omega (arith, c .before .before .before .before .before .before .shared-slice-known .given k)) (omega arith)
+    (c .before .before .grow .ensures)
 
 pub load-spec : {M : Type 1} → statement M
 load-spec =

@@ -14,14 +14,14 @@ returns : tie.Need-returns
 returns c =
     let a = c .before .before .before .before .before .args in
     came-refused _ _ _ _ _ refl
-    (no-head (a .edition) (a .sheet .now) (a .words .now) (a .n) (a .result .now)
+    (no-head (a .edition) (a .sheet .now) (a .words .now) (a .b .count) (a .result .now)
     (told-no (a .sheet .now) (c .before .has-head .result) (c .before .has-head .ensures) (c .if1 .taken)))
 
 returns-2 : tie.Need-returns-2
 returns-2 c =
     let a = c .before .before .before .before .before .before .args in
     let h = told-yes (a .sheet .now) (c .before .before .has-head .result) (c .before .before .has-head .ensures) (c .before .if1 .left) in
-    came-refused _ _ _ _ _ refl (no-room (a .edition) (a .sheet .now) (a .words .now) (a .n) (a .result .now) h (omega arith))
+    came-refused _ _ _ _ _ refl (no-room (a .edition) (a .sheet .now) (a .words .now) (a .b .count) (a .result .now) h (omega arith))
 
 load-requires : tie.Need-load-requires
 load-requires c κs = search needs
@@ -35,7 +35,7 @@ each-record-requires c κs =
     let a = s .before .before .before .before .before .args in
     let h = told-yes (a .sheet .now) (s .before .has-head .result) (s .before .has-head .ensures) (s .if1 .left) in
     let load = c .before .before .before .before .load in
-    (head-long (a .sheet .now) h, copy-padded (a .edition) (a .sheet .now) (a .words .now) (a .n) (a .result .now) (load .last .0) h (omega arith) (load .ensures) (omega arith))
+    (head-long (a .sheet .now) h, copy-padded (a .edition) (a .sheet .now) (a .words .now) (a .b .count) (a .result .now) (load .last .0) h (omega arith) (load .ensures) (omega arith))
 
 same-length : tie.Need-same-length
 same-length c = search needs
@@ -46,7 +46,7 @@ returns-3 c =
     let a = s .before .before .before .before .before .args in
     let h = told-yes (a .sheet .now) (s .before .has-head .result) (s .before .has-head .ensures) (s .if1 .left) in
     let load = c .before .before .before .before .before .before .before .load in
-    came-copied (a .edition) (a .sheet .now) (a .words .now) (a .n) (a .result .now) (load .last .0) h (omega arith) (load .ensures) _ _ _
+    came-copied (a .edition) (a .sheet .now) (a .words .now) (a .b .count) (a .result .now) (load .last .0) h (omega arith) (load .ensures) _ _ _
     (c .before .before .before .before .record-count .ensures) (c .before .before .each-record .ensures)
 
 pub read-into-spec : {M : Type 1} → statement M

@@ -1,69 +1,80 @@
 use Rattle.shape.proofs.Sizes.{append-refused, append-changes}
-use Rattle.storage.proofs.Stores.{changes-stopped, second-stopped}
-use Rattle.storage.proofs.Checks.{passed}
+use Rattle.storage.proofs.Stores.{two-stopped}
+use Rattle.storage.specs.Guards.{PassedTwo}
+use Rattle.storage.proofs.Checks.{passed-two}
 use native.Mathlib.Omega.{arith}
+use Rattle.word.proofs.Lists.{Fit}
 use mathlib.Core.Path.{refl, sym, _∙_}
 use borrow.Author.Needs.{needs}
 use Rattle.shape.proofs.append.Statement.{statement}
 use Rattle.shape.proofs.append.Tie as tie
 
-check-requires : tie.Need-check-requires
-check-requires c κs = search needs
+-- each word is below 2 ^ 64
+fit : (c : tie.After-slice-known) → Fit (c .before .args .words .now)
+fit c k = omega (arith, c .slice-known .given k)
+
+-- the guard has let both stores pass
+ok : (c : tie.After-enum-told)
+    → PassedTwo (c .before .before .before .before .before .before .args .words .now) (c .before .before .before .before .before .before .args .b)
+    (c .before .before .before .before .before .before .args .other .now) (c .before .before .before .before .before .before .args .o)
+ok c = passed-two _ _ _ _ (sym (c .enum-told .given .1) ∙ c .before .before .check-two .ensures)
+
+check-two-requires : tie.Need-check-two-requires
+check-two-requires c κs = search needs
 
 enum-known-e : tie.Need-enum-known-e
 enum-known-e c = search needs
 
+same-length : tie.Need-same-length
+same-length c = search needs
+
 returns : tie.Need-returns
-returns c = changes-stopped _ _ _ _ (sym (c .before .e .given .1) ∙ c .before .before .before .check .ensures)
+returns c = two-stopped _ _ _ _ _ _ (sym (c .before .e .given .1) ∙ c .before .before .before .check-two .ensures)
 
 enum-told : tie.Need-enum-told
 enum-told c = search needs
 
-check-requires-2 : tie.Need-check-requires-2
-check-requires-2 c κs = search needs
+add-if1 : tie.Need-add-if1
+add-if1 c = omega (arith, ok c .own, ok c .other)
 
-enum-known-e-2 : tie.Need-enum-known-e-2
-enum-known-e-2 c = search needs
+same-length-2 : tie.Need-same-length-2
+same-length-2 c = search needs
 
 returns-2 : tie.Need-returns-2
-returns-2 c = second-stopped _ _ _ _ _ _ (passed _ _ (sym (c .before .before .before .before .enum-told .given .1) ∙ c .before .before .before .before .before .before .check .ensures)) (sym (c .before .e2 .given .1) ∙ c .before .before .before .check2 .ensures)
-
-enum-told-2 : tie.Need-enum-told-2
-enum-told-2 c = search needs
-
-add-if1 : tie.Need-add-if1
-add-if1 c = omega (arith, (passed _ _ (sym (c .before .before .before .enum-told .given .1) ∙ c .before .before .before .before .before .check .ensures)) .inside, (passed _ _ (sym (c .before .before .before .enum-told .given .1) ∙ c .before .before .before .before .before .check .ensures)) .short, (passed _ _ (sym (c .enum-told2 .given .1) ∙ c .before .before .check2 .ensures)) .inside, (passed _ _ (sym (c .enum-told2 .given .1) ∙ c .before .before .check2 .ensures)) .short)
-
-returns-3 : tie.Need-returns-3
-returns-3 c = append-refused _ _ _ _ (λ k. omega (arith, c .before .before .before .before .before .before .before .before .slice-known .given k)) (λ k. omega (arith, c .before .before .before .before .before .before .before .shared-slice-known .given k)) (passed _ _ (sym (c .before .before .before .before .enum-told .given .1) ∙ c .before .before .before .before .before .before .check .ensures)) (passed _ _ (sym (c .before .enum-told2 .given .1) ∙ c .before .before .before .check2 .ensures)) (c .if1 .taken)
+returns-2 c =
+    append-refused _ _ _ _ (fit (c .before .before .before .before .before .before))
+    (λ k. omega (arith, c .before .before .before .before .before .shared-slice-known .given k)) (ok (c .before) .own) (ok (c .before) .other)
+    (c .if1 .taken)
 
 copy-words-requires : tie.Need-copy-words-requires
-copy-words-requires c κs = omega (arith, (passed _ _ (sym (c .before .before .enum-told2 .given .1) ∙ c .before .before .before .before .check2 .ensures)) .inside)
+copy-words-requires c κs = omega (arith, ok (c .before .before) .other .inside)
 
-add-t10 : tie.Need-add-t10
-add-t10 c = search needs
+add-t11 : tie.Need-add-t11
+add-t11 c = search needs
 
-same-length : tie.Need-same-length
-same-length c = search needs
+same-length-3 : tie.Need-same-length-3
+same-length-3 c = search needs
 
-returns-4 : tie.Need-returns-4
-returns-4 c = append-changes _ _ _ _ (λ k. omega (arith, c .before .before .before .before .before .before .before .before .before .before .before .before .slice-known .given k)) (λ k. omega (arith, c .before .before .before .before .before .before .before .before .before .before .before .shared-slice-known .given k)) (passed _ _ (sym (c .before .before .before .before .before .before .before .before .enum-told .given .1) ∙ c .before .before .before .before .before .before .before .before .before .before .check .ensures)) (passed _ _ (sym (c .before .before .before .before .before .enum-told2 .given .1) ∙ c .before .before .before .before .before .before .before .check2 .ensures)) _ _ (c .before .before .before .before .if1 .left) (c .before .before .copy-words .ensures) refl
+returns-3 : tie.Need-returns-3
+returns-3 c =
+    append-changes _ _ _ _ (fit (c .before .before .before .before .before .before .before .before .before .before))
+    (λ k. omega (arith, c .before .before .before .before .before .before .before .before .before .shared-slice-known .given k))
+    (ok (c .before .before .before .before .before) .own) (ok (c .before .before .before .before .before) .other) _ _
+    (c .before .before .before .before .if1 .left) (c .before .before .copy-words .ensures) refl
 
 pub append-spec : {M : Type 1} → statement M
 append-spec =
     tie.close
     (tie.spec
-    check-requires
+    check-two-requires
     enum-known-e
+    same-length
     returns
     enum-told
-    check-requires-2
-    enum-known-e-2
-    returns-2
-    enum-told-2
     add-if1
-    returns-3
+    same-length-2
+    returns-2
     copy-words-requires
-    add-t10
-    same-length
-    returns-4)
+    add-t11
+    same-length-3
+    returns-3)

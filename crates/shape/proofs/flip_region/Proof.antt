@@ -57,10 +57,20 @@ invert-words-requires : tie.Need-invert-words-requires
 invert-words-requires c κs = search needs
 
 same-length : tie.Need-same-length
-same-length c = flips-region (c .before .before .before .before .before .before .before .before .before .args .words .now) (c .before .before .invert-words .last .0) (c .before .before .before .before .before .before .before .before .before .args .i) (c .before .before .before .before .before .before .before .before .before .args .last) (c .before .before .before .before .before .before .low-mask .result) (c .before .before .before .before .low-mask2 .result) (λ k. omega (arith, c .before .before .before .before .before .before .before .before .slice-known .given k)) (omega arith) (omega arith) (c .before .before .before .before .before .before .low-mask .ensures) (c .before .before .before .before .low-mask2 .ensures) (c .before .before .invert-words .ensures) .long
+same-length c =
+    flips-region (c .before .before .before .before .before .before .before .before .before .args .words .now) (c .before .before .invert-words .last .0)
+    (c .before .before .before .before .before .before .before .before .before .args .i)
+    (c .before .before .before .before .before .before .before .before .before .args .last)
+    (c .before .before .before .before .before .before .low-mask .result) (c .before .before .before .before .low-mask2 .result)
+    (λ k. omega (arith, c .before .before .before .before .before .before .before .before .slice-known .given k)) (omega arith) (omega arith)
+    (c .before .before .before .before .before .before .low-mask .ensures) (c .before .before .before .before .low-mask2 .ensures)
+    (c .before .before .invert-words .ensures) .long
 
 returns : tie.Need-returns
-returns c = flips-region _ _ _ _ _ _ (λ k. omega (arith, c .before .before .before .before .before .before .before .before .slice-known .given k)) (omega arith) (omega arith) (c .before .before .before .before .before .before .low-mask .ensures) (c .before .before .before .before .low-mask2 .ensures) (c .before .before .invert-words .ensures)
+returns c =
+    flips-region _ _ _ _ _ _ (λ k. omega (arith, c .before .before .before .before .before .before .before .before .slice-known .given k)) (omega arith)
+    (omega arith) (c .before .before .before .before .before .before .low-mask .ensures) (c .before .before .before .before .low-mask2 .ensures)
+    (c .before .before .invert-words .ensures)
 
 pub flip-region-spec : {M : Type 1} → statement M
 flip-region-spec =

@@ -55,7 +55,15 @@ loop-less : tie.Need-loop-less Inv-loop μ-loop
 loop-less c = omega arith
 
 loop-again : tie.Need-loop-again Inv-loop μ-loop
-loop-again c = (omega arith, lowered-next _ _ _ _ _ _ (λ k. omega (arith, c .before .before .before .before .before .before .shared-slice-known .given k)) (c .before .before .before .before .loop .inv .1) (omega arith) (c .funnel .ensures ∙ ap (λ (x : ℕ). funneled 64 (getD (c .before .before .before .before .before .before .before .args .words .now) (c .before .before .before .before .loop .j + c .before .before .before .before .before .before .before .args .at / 64) 0) x (c .before .before .before .before .before .before .before .args .at % 64) (64 - c .before .before .before .before .before .before .before .args .at % 64)) (c .before .word-at .ensures)))
+loop-again c = (
+  omega arith,
+  lowered-next _ _ _ _ _ _ (λ k. omega (arith, c .before .before .before .before .before .before .shared-slice-known .given k))
+      (c .before .before .before .before .loop .inv .1) (omega arith) (c .funnel .ensures ∙ ap (λ (x : ℕ). funneled 64 (getD
+      (c .before .before .before .before .before .before .before .args .words .now)
+      (c .before .before .before .before .loop .j + c .before .before .before .before .before .before .before .args .at / 64) 0) x
+      (c .before .before .before .before .before .before .before .args .at % 64)
+      (64 - c .before .before .before .before .before .before .before .args .at % 64)) (c .before .word-at .ensures)),
+)
 
 same-length : tie.Need-same-length Inv-loop μ-loop
 same-length c = c .before .loop .inv .1 .long

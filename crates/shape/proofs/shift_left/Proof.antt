@@ -3,10 +3,26 @@ use Rattle.slice.proofs.Lasts.{last-refused, last-nothing, last-at}
 use Rattle.storage.proofs.Stores.{changes-stopped}
 use lib.Seq.{length-take-le}
 use native.Mathlib.Omega.{arith}
-use mathlib.Core.Path.{sym, _∙_}
+use Rattle.word.proofs.Lists.{Fit}
+use Prim.Native.Nat.{suc}
+use Rattle.storage.specs.Stores.{held}
+use Rattle.storage.specs.Guards.{Passed}
+use Rattle.shape.specs.Shapes.{topOf}
+use mathlib.Core.Path.{_≡_, sym, _∙_}
 use borrow.Author.Needs.{needs}
 use Rattle.shape.proofs.shift_left.Statement.{statement}
 use Rattle.shape.proofs.shift_left.Tie as tie
+
+-- each word is below 2 ^ 64
+fit : (c : tie.After-slice-known) → Fit (c .before .args .words .now)
+fit c k = omega (arith, c .slice-known .given k)
+
+-- the store passes, and p is its greatest member
+ok : (c : tie.After-p) → Passed (c .before .before .before .before .before .args .words .now) (c .before .before .before .before .before .args .b)
+ok c = last-at _ _ _ (sym (c .p .given .1) ∙ c .before .before .last-set .ensures) .0
+
+top : (c : tie.After-p) → topOf (held (c .before .before .before .before .before .args .words .now) (c .before .before .before .before .before .args .b)) ≡ suc (c .p .given .0 .0)
+top c = last-at _ _ _ (sym (c .p .given .1) ∙ c .before .before .last-set .ensures) .1
 
 last-set-requires : tie.Need-last-set-requires
 last-set-requires c κs = search needs
@@ -27,7 +43,7 @@ same-length-2 : tie.Need-same-length-2
 same-length-2 c = search needs
 
 returns-2 : tie.Need-returns-2
-returns-2 c = let q = last-nothing _ _ (sym (c .enum-told .given .1) ∙ c .before .before .last-set .ensures) in left-nothing _ _ _ (λ k. omega (arith, c .before .before .before .before .slice-known .given k)) (q .0) (q .1)
+returns-2 c = let q = last-nothing _ _ (sym (c .enum-told .given .1) ∙ c .before .before .last-set .ensures) in left-nothing _ _ _ (fit (c .before .before .before .before)) (q .0) (q .1)
 
 enum-known-p : tie.Need-enum-known-p
 enum-known-p c = search needs
@@ -39,7 +55,7 @@ same-length-3 : tie.Need-same-length-3
 same-length-3 c = search needs
 
 returns-3 : tie.Need-returns-3
-returns-3 c = let q = last-at _ _ _ (sym (c .before .before .p .given .1) ∙ c .before .before .before .before .last-set .ensures) in left-over _ _ _ (λ k. omega (arith, c .before .before .before .before .before .before .slice-known .given k)) (q .0) _ (q .1) (omega arith)
+returns-3 c = left-over _ _ _ (fit (c .before .before .before .before .before .before)) (ok (c .before .before)) _ (top (c .before .before)) (omega arith)
 
 add-w : tie.Need-add-w
 add-w c = search needs
@@ -48,7 +64,7 @@ same-length-4 : tie.Need-same-length-4
 same-length-4 c = search needs
 
 returns-4 : tie.Need-returns-4
-returns-4 c = let q = last-at _ _ _ (sym (c .before .before .before .p .given .1) ∙ c .before .before .before .before .before .last-set .ensures) in left-no-space _ _ _ (λ k. omega (arith, c .before .before .before .before .before .before .before .slice-known .given k)) (q .0) _ (q .1) (omega arith) (c .if2 .taken)
+returns-4 c = left-no-space _ _ _ (fit (c .before .before .before .before .before .before .before)) (ok (c .before .before .before)) _ (top (c .before .before .before)) (omega arith) (c .if2 .taken)
 
 add-grow : tie.Need-add-grow
 add-grow c = search needs
@@ -63,10 +79,10 @@ max-requires : tie.Need-max-requires
 max-requires c κs = search needs
 
 slice-relend-prefix-left-words : tie.Need-slice-relend-prefix-left-words
-slice-relend-prefix-left-words c = omega (arith, (last-at _ _ _ (sym (c .before .before .before .before .before .before .before .before .p .given .1) ∙ c .before .before .before .before .before .before .before .before .before .before .last-set .ensures)) .0 .inside)
+slice-relend-prefix-left-words c = omega (arith, ok (c .before .before .before .before .before .before .before .before) .inside)
 
 slice-aggregate-left-words : tie.Need-slice-aggregate-left-words
-slice-aggregate-left-words c = sym (length-take-le _ _ (omega (arith, (last-at _ _ _ (sym (c .before .before .before .before .before .before .before .before .before .p .given .1) ∙ c .before .before .before .before .before .before .before .before .before .before .before .last-set .ensures)) .0 .inside)))
+slice-aggregate-left-words c = sym (length-take-le _ _ (omega (arith, ok (c .before .before .before .before .before .before .before .before .before) .inside)))
 
 left-words-requires : tie.Need-left-words-requires
 left-words-requires c κs = search needs
@@ -75,7 +91,14 @@ same-length-5 : tie.Need-same-length-5
 same-length-5 c = search needs
 
 returns-5 : tie.Need-returns-5
-returns-5 c = let q = last-at _ _ _ (sym (c .before .before .before .before .before .before .before .before .before .before .before .before .p .given .1) ∙ c .before .before .before .before .before .before .before .before .before .before .before .before .before .before .last-set .ensures) in left-changes _ _ _ (λ k. omega (arith, c .before .before .before .before .before .before .before .before .before .before .before .before .before .before .before .before .slice-known .given k)) (q .0) _ (q .1) _ _ _ (omega arith) (c .before .before .before .before .before .before .before .before .before .if2 .left) (c .before .before .before .before .before .before .before .grow .ensures) (c .before .before .before .before .max .ensures) (c .before .before .left-words .ensures)
+returns-5 c =
+    left-changes _ _ _
+    (fit (c .before .before .before .before .before .before .before .before .before .before .before .before .before .before .before .before))
+    (ok (c .before .before .before .before .before .before .before .before .before .before .before .before)) _
+    (top (c .before .before .before .before .before .before .before .before .before .before .before .before)) _ _ _ (omega arith)
+    (c .before .before .before .before .before .before .before .before .before .if2 .left)
+    (c .before .before .before .before .before .before .before .grow .ensures) (c .before .before .before .before .max .ensures)
+    (c .before .before .left-words .ensures)
 
 pub shift-left-spec : {M : Type 1} → statement M
 shift-left-spec =

@@ -1,18 +1,31 @@
 use Rattle.shape.proofs.Moves.{right-changes}
 use Rattle.storage.proofs.Stores.{changes-stopped}
+use Rattle.storage.specs.Guards.{Passed}
 use Rattle.storage.proofs.Checks.{passed}
 use lib.Seq.{length-take-le}
 use native.Mathlib.Omega.{arith}
+use Rattle.word.proofs.Lists.{Fit}
 use mathlib.Core.Path.{sym, _∙_}
 use borrow.Author.Needs.{needs}
 use Rattle.shape.proofs.shift_right.Statement.{statement}
 use Rattle.shape.proofs.shift_right.Tie as tie
+
+-- each word is below 2 ^ 64
+fit : (c : tie.After-slice-known) → Fit (c .before .args .words .now)
+fit c k = omega (arith, c .slice-known .given k)
+
+-- the guard has let the store pass
+ok : (c : tie.After-enum-told) → Passed (c .before .before .before .before .before .args .words .now) (c .before .before .before .before .before .args .b)
+ok c = passed _ _ (sym (c .enum-told .given .1) ∙ c .before .before .check .ensures)
 
 check-requires : tie.Need-check-requires
 check-requires c κs = search needs
 
 enum-known-e : tie.Need-enum-known-e
 enum-known-e c = search needs
+
+same-length : tie.Need-same-length
+same-length c = search needs
 
 returns : tie.Need-returns
 returns c = changes-stopped _ _ _ _ (sym (c .before .e .given .1) ∙ c .before .before .before .check .ensures)
@@ -21,28 +34,30 @@ enum-told : tie.Need-enum-told
 enum-told c = search needs
 
 slice-relend-prefix-right-words : tie.Need-slice-relend-prefix-right-words
-slice-relend-prefix-right-words c = (passed _ _ (sym (c .enum-told .given .1) ∙ c .before .before .check .ensures)) .inside
+slice-relend-prefix-right-words c = ok c .inside
 
 slice-aggregate-right-words : tie.Need-slice-aggregate-right-words
-slice-aggregate-right-words c = sym (length-take-le _ _ ((passed _ _ (sym (c .before .enum-told .given .1) ∙ c .before .before .before .check .ensures)) .inside))
+slice-aggregate-right-words c = sym (length-take-le _ _ (ok (c .before) .inside))
 
 right-words-requires : tie.Need-right-words-requires
 right-words-requires c κs = search needs
 
 slice-reshare-prefix-nonzero-len : tie.Need-slice-reshare-prefix-nonzero-len
-slice-reshare-prefix-nonzero-len c = omega (arith, (passed _ _ (sym (c .before .before .before .before .enum-told .given .1) ∙ c .before .before .before .before .before .before .check .ensures)) .inside)
+slice-reshare-prefix-nonzero-len c = omega (arith, ok (c .before .before .before .before))
 
 slice-aggregate-nonzero-len : tie.Need-slice-aggregate-nonzero-len
-slice-aggregate-nonzero-len c = sym (length-take-le _ _ (omega (arith, (passed _ _ (sym (c .before .before .before .before .before .enum-told .given .1) ∙ c .before .before .before .before .before .before .before .check .ensures)) .inside)))
+slice-aggregate-nonzero-len c = sym (length-take-le _ _ (omega (arith, ok (c .before .before .before .before .before))))
 
 nonzero-len-requires : tie.Need-nonzero-len-requires
 nonzero-len-requires c κs = search needs
 
-same-length : tie.Need-same-length
-same-length c = search needs
+same-length-2 : tie.Need-same-length-2
+same-length-2 c = search needs
 
 returns-2 : tie.Need-returns-2
-returns-2 c = right-changes _ _ _ (λ k. omega (arith, c .before .before .before .before .before .before .before .before .before .slice-known .given k)) (passed _ _ (sym (c .before .before .before .before .before .before .enum-told .given .1) ∙ c .before .before .before .before .before .before .before .before .check .ensures)) _ _ (c .before .before .before .before .right-words .ensures) (c .nonzero-len .ensures)
+returns-2 c =
+    right-changes _ _ _ (fit (c .before .before .before .before .before .before .before .before .before .before))
+    (ok (c .before .before .before .before .before .before)) _ _ (c .before .before .before .before .right-words .ensures) (c .nonzero-len .ensures)
 
 pub shift-right-spec : {M : Type 1} → statement M
 shift-right-spec =
@@ -50,6 +65,7 @@ shift-right-spec =
     (tie.spec
     check-requires
     enum-known-e
+    same-length
     returns
     enum-told
     slice-relend-prefix-right-words
@@ -58,5 +74,5 @@ shift-right-spec =
     slice-reshare-prefix-nonzero-len
     slice-aggregate-nonzero-len
     nonzero-len-requires
-    same-length
+    same-length-2
     returns-2)

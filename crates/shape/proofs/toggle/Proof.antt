@@ -1,12 +1,22 @@
 use mathlib.Core.Path.{sym, _∙_}
 use Prim.Native.Nat.{max}
 use native.Mathlib.Omega.{arith}
+use Rattle.word.proofs.Lists.{Fit}
 use borrow.Author.Needs.{needs}
+use Rattle.storage.specs.Guards.{Passed}
 use Rattle.storage.proofs.Checks.{passed}
 use Rattle.storage.proofs.Stores.{changes-stopped}
 use Rattle.shape.proofs.Toggles.{toggle-refused, toggle-changes}
 use Rattle.shape.proofs.toggle.Statement.{statement}
 use Rattle.shape.proofs.toggle.Tie as tie
+
+-- each word is below 2 ^ 64
+fit : (c : tie.After-slice-known) → Fit (c .before .args .words .now)
+fit c k = omega (arith, c .slice-known .given k)
+
+-- the guard has let the store pass
+ok : (c : tie.After-enum-told) → Passed (c .before .before .before .before .before .args .words .now) (c .before .before .before .before .before .args .b)
+ok c = passed _ _ (sym (c .enum-told .given .1) ∙ c .before .before .check .ensures)
 
 check-requires : tie.Need-check-requires
 check-requires c κs = search needs
@@ -14,14 +24,20 @@ check-requires c κs = search needs
 enum-known-e : tie.Need-enum-known-e
 enum-known-e c = search needs
 
+same-length : tie.Need-same-length
+same-length c = search needs
+
 returns : tie.Need-returns
 returns c = changes-stopped _ _ _ _ (sym (c .before .e .given .1) ∙ c .before .before .before .check .ensures)
 
 enum-told : tie.Need-enum-told
 enum-told c = search needs
 
+same-length-2 : tie.Need-same-length-2
+same-length-2 c = search needs
+
 returns-2 : tie.Need-returns-2
-returns-2 c = toggle-refused _ _ _ (λ k. omega (arith, c .before .before .before .before .slice-known .given k)) (passed _ _ (sym (c .before .enum-told .given .1) ∙ c .before .before .before .check .ensures)) (c .if1 .taken)
+returns-2 c = toggle-refused _ _ _ (fit (c .before .before .before .before .before)) (ok (c .before)) (c .if1 .taken)
 
 add-grow : tie.Need-add-grow
 add-grow c = search needs
@@ -50,11 +66,14 @@ add-max c = search needs
 max-requires : tie.Need-max-requires
 max-requires c κs = search needs
 
-same-length : tie.Need-same-length
-same-length c = search needs
+same-length-3 : tie.Need-same-length-3
+same-length-3 c = search needs
 
 returns-3 : tie.Need-returns-3
-returns-3 c = toggle-changes _ _ _ (λ k. omega (arith, c .before .before .before .before .before .before .before .before .before .before .before .slice-known .given k)) (passed _ _ (sym (c .before .before .before .before .before .before .before .before .enum-told .given .1) ∙ c .before .before .before .before .before .before .before .before .before .before .check .ensures)) _ _ _ (c .before .before .before .before .before .before .before .if1 .left) (c .before .before .before .before .before .grow .ensures) (c .before .bit .ensures) (c .max .ensures)
+returns-3 c =
+    toggle-changes _ _ _ (fit (c .before .before .before .before .before .before .before .before .before .before .before .before))
+    (ok (c .before .before .before .before .before .before .before .before)) _ _ _ (c .before .before .before .before .before .before .before .if1 .left)
+    (c .before .before .before .before .before .grow .ensures) (c .before .bit .ensures) (c .max .ensures)
 
 pub toggle-spec : {M : Type 1} → statement M
 toggle-spec =
@@ -62,8 +81,10 @@ toggle-spec =
     (tie.spec
     check-requires
     enum-known-e
+    same-length
     returns
     enum-told
+    same-length-2
     returns-2
     add-grow
     grow-requires
@@ -74,5 +95,5 @@ toggle-spec =
     slice-write-words
     add-max
     max-requires
-    same-length
+    same-length-3
     returns-3)

@@ -40,7 +40,12 @@ same-length-2 : tie.Need-same-length-2 Inv-loop μ-loop
 same-length-2 c = ap length (c .before .before .fill-words2 .ensures) ∙ length-filled-words _ _ _ _ ∙ gone-up _ _ _ (c .before .before .before .before .before .before .move-up .ensures) .long
 
 returns-2 : tie.Need-returns-2 Inv-loop μ-loop
-returns-2 c = left-moved (c .before .before .before .before .before .before .before .before .before .before .before .args .words .now) (λ m. omega (arith, c .before .before .before .before .before .before .before .before .before .before .slice-known .given m)) _ (c .before .before .before .before .before .before .move-up .last .0) _ (gone-up _ _ _ (c .before .before .before .before .before .before .move-up .ensures)) (omega arith) (omega arith) (c .before .before .fill-words2 .ensures)
+returns-2 c =
+    left-moved (c .before .before .before .before .before .before .before .before .before .before .before .args .words .now)
+    (λ m. omega (arith, c .before .before .before .before .before .before .before .before .before .before .slice-known .given m)) _
+    (c .before .before .before .before .before .before .move-up .last .0) _
+    (gone-up _ _ _ (c .before .before .before .before .before .before .move-up .ensures)) (omega arith) (omega arith)
+    (c .before .before .fill-words2 .ensures)
 
 sub-i : tie.Need-sub-i Inv-loop μ-loop
 sub-i c = omega arith
@@ -85,7 +90,12 @@ loop-less : tie.Need-loop-less Inv-loop μ-loop
 loop-less c = omega arith
 
 loop-again : tie.Need-loop-again Inv-loop μ-loop
-loop-again c = (omega arith, omega arith, left-step _ (λ m. omega (arith, c .before .before .before .before .before .before .before .slice-known .given m)) _ _ _ _ (c .before .before .before .before .loop .inv .2) (omega arith) (omega arith) (c .funnel .ensures))
+loop-again c = (
+  omega arith,
+  omega arith,
+  left-step _ (λ m. omega (arith, c .before .before .before .before .before .before .before .slice-known .given m)) _ _ _ _
+      (c .before .before .before .before .loop .inv .2) (omega arith) (omega arith) (c .funnel .ensures),
+)
 
 slice-read-funnel-3 : tie.Need-slice-read-funnel-3 Inv-loop μ-loop
 slice-read-funnel-3 c = omega arith
@@ -103,10 +113,16 @@ fill-words-requires-3 : tie.Need-fill-words-requires-3 Inv-loop μ-loop
 fill-words-requires-3 c κs = search needs
 
 same-length-3 : tie.Need-same-length-3 Inv-loop μ-loop
-same-length-3 c = length-after (c .before .before .before .before .before .before .before .before .before .before .before .args .words .now) (c .before .before .before .before .before .before .before .loop .words) _ _ (c .before .before .before .before .funnel2 .result) _ _ (c .before .before .before .before .before .before .before .loop .inv .2 .long) (c .before .before .fill-words3 .ensures)
+same-length-3 c =
+    length-after (c .before .before .before .before .before .before .before .before .before .before .before .args .words .now)
+    (c .before .before .before .before .before .before .before .loop .words) _ _ (c .before .before .before .before .funnel2 .result) _ _
+    (c .before .before .before .before .before .before .before .loop .inv .2 .long) (c .before .before .fill-words3 .ensures)
 
 returns-3 : tie.Need-returns-3 Inv-loop μ-loop
-returns-3 c = left-last _ (λ m. omega (arith, c .before .before .before .before .before .before .before .before .before .before .slice-known .given m)) _ _ _ _ _ (c .before .before .before .before .before .before .before .loop .inv .2) (omega arith) (omega arith) (c .before .before .before .before .funnel2 .ensures) (c .before .before .fill-words3 .ensures)
+returns-3 c =
+    left-last _ (λ m. omega (arith, c .before .before .before .before .before .before .before .before .before .before .slice-known .given m)) _ _ _ _ _
+    (c .before .before .before .before .before .before .before .loop .inv .2) (omega arith) (omega arith)
+    (c .before .before .before .before .funnel2 .ensures) (c .before .before .fill-words3 .ensures)
 
 pub left-words-spec : {M : Type 1} → statement M
 left-words-spec =

@@ -43,7 +43,12 @@ same-length-2 : tie.Need-same-length-2 Inv-loop μ-loop
 same-length-2 c = ap length (c .before .before .fill-words2 .ensures) ∙ length-filled-words _ _ _ _ ∙ gone-down _ _ _ (c .before .before .before .before .before .before .move-down .ensures) .long
 
 returns-2 : tie.Need-returns-2 Inv-loop μ-loop
-returns-2 c = right-moved (c .before .before .before .before .before .before .before .before .before .before .before .args .words .now) (λ m. omega (arith, c .before .before .before .before .before .before .before .before .before .before .slice-known .given m)) _ (c .before .before .before .before .before .before .move-down .last .0) _ (gone-down _ _ _ (c .before .before .before .before .before .before .move-down .ensures)) (omega arith) (omega arith) (c .before .before .fill-words2 .ensures)
+returns-2 c =
+    right-moved (c .before .before .before .before .before .before .before .before .before .before .before .args .words .now)
+    (λ m. omega (arith, c .before .before .before .before .before .before .before .before .before .before .slice-known .given m)) _
+    (c .before .before .before .before .before .before .move-down .last .0) _
+    (gone-down _ _ _ (c .before .before .before .before .before .before .move-down .ensures)) (omega arith) (omega arith)
+    (c .before .before .fill-words2 .ensures)
 
 sub-last : tie.Need-sub-last Inv-loop μ-loop
 sub-last c = omega arith
@@ -91,7 +96,11 @@ loop-less : tie.Need-loop-less Inv-loop μ-loop
 loop-less c = omega arith
 
 loop-again : tie.Need-loop-again Inv-loop μ-loop
-loop-again c = (omega arith, right-step _ (λ m. omega (arith, c .before .before .before .before .before .before .before .slice-known .given m)) _ _ _ _ (c .before .before .before .before .loop .inv .1) (omega arith) (c .funnel .ensures))
+loop-again c = (
+  omega arith,
+  right-step _ (λ m. omega (arith, c .before .before .before .before .before .before .before .slice-known .given m)) _ _ _ _
+      (c .before .before .before .before .loop .inv .1) (omega arith) (c .funnel .ensures),
+)
 
 sub-funnel : tie.Need-sub-funnel Inv-loop μ-loop
 sub-funnel c = omega arith
@@ -118,10 +127,16 @@ fill-words-requires-3 : tie.Need-fill-words-requires-3 Inv-loop μ-loop
 fill-words-requires-3 c κs = search needs
 
 same-length-3 : tie.Need-same-length-3 Inv-loop μ-loop
-same-length-3 c = length-after (c .before .before .before .before .before .before .before .before .before .before .before .args .words .now) (c .before .before .before .before .before .before .before .loop .words) _ _ (c .before .before .before .before .funnel2 .result) _ _ (c .before .before .before .before .before .before .before .loop .inv .1 .long) (c .before .before .fill-words3 .ensures)
+same-length-3 c =
+    length-after (c .before .before .before .before .before .before .before .before .before .before .before .args .words .now)
+    (c .before .before .before .before .before .before .before .loop .words) _ _ (c .before .before .before .before .funnel2 .result) _ _
+    (c .before .before .before .before .before .before .before .loop .inv .1 .long) (c .before .before .fill-words3 .ensures)
 
 returns-3 : tie.Need-returns-3 Inv-loop μ-loop
-returns-3 c = right-last _ (λ m. omega (arith, c .before .before .before .before .before .before .before .before .before .before .slice-known .given m)) _ _ _ _ _ _ (c .before .before .before .before .before .before .before .loop .inv .1) (omega arith) (omega arith) (c .before .before .before .before .funnel2 .ensures) (c .before .before .fill-words3 .ensures)
+returns-3 c =
+    right-last _ (λ m. omega (arith, c .before .before .before .before .before .before .before .before .before .before .slice-known .given m)) _ _ _ _ _ _
+    (c .before .before .before .before .before .before .before .loop .inv .1) (omega arith) (omega arith)
+    (c .before .before .before .before .funnel2 .ensures) (c .before .before .fill-words3 .ensures)
 
 pub right-words-spec : {M : Type 1} → statement M
 right-words-spec =

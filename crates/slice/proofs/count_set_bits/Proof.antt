@@ -1,12 +1,17 @@
 use mathlib.Core.Path.{sym, ap, _∙_}
 use borrow.Author.Needs.{needs}
 use lib.Seq.{length-take-le}
+use Rattle.storage.specs.Guards.{Passed}
 use Rattle.storage.proofs.Checks.{passed, reading-stopped}
 use Rattle.slice.proofs.Answers.{reading-is}
 use Rattle.slice.proofs.Scans.{count-is}
 use Rattle.storage.specs.declared.Number.{Number}
 use Rattle.slice.proofs.count_set_bits.Statement.{statement}
 use Rattle.slice.proofs.count_set_bits.Tie as tie
+
+-- the guard has let the store pass
+ok : (c : tie.After-enum-told) → Passed (c .before .before .before .before .args .words .now) (c .before .before .before .before .args .b)
+ok c = passed _ _ (sym (c .enum-told .given .1) ∙ c .before .before .check .ensures)
 
 check-requires : tie.Need-check-requires
 check-requires c κs = search needs
@@ -21,13 +26,13 @@ enum-told : tie.Need-enum-told
 enum-told c = search needs
 
 slice-aggregate-count-set-bits : tie.Need-slice-aggregate-count-set-bits
-slice-aggregate-count-set-bits c = sym (length-take-le _ _ (passed _ _ (sym (c .before .enum-told .given .1) ∙ c .before .before .before .check .ensures) .inside))
+slice-aggregate-count-set-bits c = sym (length-take-le _ _ (ok (c .before) .inside))
 
 count-set-bits-requires : tie.Need-count-set-bits-requires
 count-set-bits-requires c κs = search needs
 
 returns-2 : tie.Need-returns-2
-returns-2 c = reading-is _ _ _ _ _ (passed _ _ (sym (c .before .before .enum-told .given .1) ∙ c .before .before .before .before .check .ensures)) (ap Number.Is (count-is _ _ _ (passed _ _ (sym (c .before .before .enum-told .given .1) ∙ c .before .before .before .before .check .ensures)) (c .count-set-bits .ensures)))
+returns-2 c = reading-is _ _ _ _ _ (ok (c .before .before)) (ap Number.Is (count-is _ _ _ (ok (c .before .before)) (c .count-set-bits .ensures)))
 
 pub count-set-bits-spec : {M : Type 1} → statement M
 count-set-bits-spec =

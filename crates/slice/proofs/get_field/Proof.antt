@@ -2,11 +2,16 @@ use mathlib.Core.Path.{sym, _∙_}
 use native.Mathlib.Omega.{arith}
 use borrow.Author.Needs.{needs}
 use lib.Seq.{length-take-le}
+use Rattle.storage.specs.Guards.{Passed}
 use Rattle.storage.proofs.Checks.{passed, reading-stopped}
 use Rattle.slice.proofs.Answers.{reading-is}
 use Rattle.slice.proofs.Fields.{field-wide, field-is}
 use Rattle.slice.proofs.get_field.Statement.{statement}
 use Rattle.slice.proofs.get_field.Tie as tie
+
+-- the guard has let the store pass
+ok : (c : tie.After-enum-told) → Passed (c .before .before .before .before .args .words .now) (c .before .before .before .before .args .b)
+ok c = passed _ _ (sym (c .enum-told .given .1) ∙ c .before .before .check .ensures)
 
 check-requires : tie.Need-check-requires
 check-requires c κs = search needs
@@ -21,16 +26,16 @@ enum-told : tie.Need-enum-told
 enum-told c = search needs
 
 returns-2 : tie.Need-returns-2
-returns-2 c = reading-is _ _ _ _ _ (passed _ _ (sym (c .before .enum-told .given .1) ∙ c .before .before .before .check .ensures)) (field-wide _ _ _ (c .if1 .taken))
+returns-2 c = reading-is _ _ _ _ _ (ok (c .before)) (field-wide _ _ _ (c .if1 .taken))
 
 slice-aggregate-word-at : tie.Need-slice-aggregate-word-at
-slice-aggregate-word-at c = sym (length-take-le _ _ (passed _ _ (sym (c .before .before .enum-told .given .1) ∙ c .before .before .before .before .check .ensures) .inside))
+slice-aggregate-word-at c = sym (length-take-le _ _ (ok (c .before .before) .inside))
 
 word-at-requires : tie.Need-word-at-requires
 word-at-requires c κs = search needs
 
 slice-aggregate-word-at-2 : tie.Need-slice-aggregate-word-at-2
-slice-aggregate-word-at-2 c = sym (length-take-le _ _ (passed _ _ (sym (c .before .before .before .before .enum-told .given .1) ∙ c .before .before .before .before .before .before .check .ensures) .inside))
+slice-aggregate-word-at-2 c = sym (length-take-le _ _ (ok (c .before .before .before .before) .inside))
 
 add-word-at : tie.Need-add-word-at
 add-word-at c = search needs
@@ -48,7 +53,12 @@ low-mask-requires : tie.Need-low-mask-requires
 low-mask-requires c κs = search needs
 
 returns-3 : tie.Need-returns-3
-returns-3 c = reading-is _ _ _ _ _ (passed _ _ (sym (c .before .before .before .before .before .before .before .enum-told .given .1) ∙ c .before .before .before .before .before .before .before .before .before .check .ensures)) (field-is _ _ _ _ _ _ _ _ (λ k. omega (arith, c .before .before .before .before .before .before .before .before .before .before .shared-slice-known .given k)) (passed _ _ (sym (c .before .before .before .before .before .before .before .enum-told .given .1) ∙ c .before .before .before .before .before .before .before .before .before .check .ensures) .inside) (omega arith) (c .before .before .before .before .word-at .ensures) (c .before .before .word-at2 .ensures) (c .before .funnel .ensures) (c .low-mask .ensures))
+returns-3 c =
+    reading-is _ _ _ _ _ (ok (c .before .before .before .before .before .before .before))
+    (field-is _ _ _ _ _ _ _ _
+    (λ k. omega (arith, c .before .before .before .before .before .before .before .before .before .before .shared-slice-known .given k))
+    (ok (c .before .before .before .before .before .before .before) .inside) (omega arith) (c .before .before .before .before .word-at .ensures)
+    (c .before .before .word-at2 .ensures) (c .before .funnel .ensures) (c .low-mask .ensures))
 
 pub get-field-spec : {M : Type 1} → statement M
 get-field-spec =

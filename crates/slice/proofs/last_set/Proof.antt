@@ -2,11 +2,16 @@ use mathlib.Core.Path.{sym, _∙_}
 use native.Mathlib.Omega.{arith}
 use borrow.Author.Needs.{needs}
 use lib.Seq.{length-take-le}
+use Rattle.storage.specs.Guards.{Passed}
 use Rattle.storage.proofs.Checks.{passed, reading-stopped}
 use Rattle.slice.proofs.Answers.{reading-is}
 use Rattle.slice.proofs.Scans.{nonzero-le, last-none, last-at, zeros-less}
 use Rattle.slice.proofs.last_set.Statement.{statement}
 use Rattle.slice.proofs.last_set.Tie as tie
+
+-- the guard has let the store pass
+ok : (c : tie.After-enum-told) → Passed (c .before .before .before .before .args .words .now) (c .before .before .before .before .args .b)
+ok c = passed _ _ (sym (c .enum-told .given .1) ∙ c .before .before .check .ensures)
 
 check-requires : tie.Need-check-requires
 check-requires c κs = search needs
@@ -21,16 +26,27 @@ enum-told : tie.Need-enum-told
 enum-told c = search needs
 
 slice-aggregate-nonzero-len : tie.Need-slice-aggregate-nonzero-len
-slice-aggregate-nonzero-len c = sym (length-take-le _ _ (passed _ _ (sym (c .before .enum-told .given .1) ∙ c .before .before .before .check .ensures) .inside))
+slice-aggregate-nonzero-len c = sym (length-take-le _ _ (ok (c .before) .inside))
 
 nonzero-len-requires : tie.Need-nonzero-len-requires
 nonzero-len-requires c κs = search needs
 
 returns-2 : tie.Need-returns-2
-returns-2 c = reading-is _ _ _ _ _ (passed _ _ (sym (c .before .before .before .enum-told .given .1) ∙ c .before .before .before .before .before .check .ensures)) (last-none _ _ _ (passed _ _ (sym (c .before .before .before .enum-told .given .1) ∙ c .before .before .before .before .before .check .ensures) .inside) (λ k. omega (arith, c .before .before .before .before .before .before .shared-slice-known .given k)) (c .before .nonzero-len .ensures) (c .if1 .taken))
+returns-2 c =
+    reading-is _ _ _ _ _ (ok (c .before .before .before))
+    (last-none _ _ _ (ok (c .before .before .before) .inside)
+    (λ k. omega (arith, c .before .before .before .before .before .before .shared-slice-known .given k)) (c .before .nonzero-len .ensures)
+    (c .if1 .taken))
 
-mul-t7 : tie.Need-mul-t7
-mul-t7 c = omega (arith, nonzero-le _ _ _ (passed _ _ (sym (c .before .before .before .enum-told .given .1) ∙ c .before .before .before .before .before .check .ensures) .inside) (λ k. omega (arith, c .before .before .before .before .before .before .shared-slice-known .given k)) (c .before .nonzero-len .ensures), passed _ _ (sym (c .before .before .before .enum-told .given .1) ∙ c .before .before .before .before .before .check .ensures))
+mul-t10 : tie.Need-mul-t10
+mul-t10 c =
+    omega (
+      arith,
+      nonzero-le _ _ _ (ok (c .before .before .before) .inside)
+          (λ k. omega (arith, c .before .before .before .before .before .before .shared-slice-known .given k)) (c .before .nonzero-len .ensures),
+      ok
+          (c .before .before .before),
+    )
 
 sub-t11 : tie.Need-sub-t11
 sub-t11 c = search needs
@@ -39,19 +55,40 @@ sub-leading-zeros : tie.Need-sub-leading-zeros
 sub-leading-zeros c = search needs
 
 mul-leading-zeros : tie.Need-mul-leading-zeros
-mul-leading-zeros c = omega (arith, nonzero-le _ _ _ (passed _ _ (sym (c .before .before .before .enum-told .given .1) ∙ c .before .before .before .before .before .check .ensures) .inside) (λ k. omega (arith, c .before .before .before .before .before .before .shared-slice-known .given k)) (c .before .nonzero-len .ensures), passed _ _ (sym (c .before .before .before .enum-told .given .1) ∙ c .before .before .before .before .before .check .ensures))
+mul-leading-zeros c =
+    omega (
+      arith,
+      nonzero-le _ _ _ (ok (c .before .before .before) .inside)
+          (λ k. omega (arith, c .before .before .before .before .before .before .shared-slice-known .given k)) (c .before .nonzero-len .ensures),
+      ok
+          (c .before .before .before),
+    )
 
 shared-slice-read-leading-zeros : tie.Need-shared-slice-read-leading-zeros
-shared-slice-read-leading-zeros c = omega (arith, nonzero-le _ _ _ (passed _ _ (sym (c .before .before .before .before .enum-told .given .1) ∙ c .before .before .before .before .before .before .check .ensures) .inside) (λ k. omega (arith, c .before .before .before .before .before .before .before .shared-slice-known .given k)) (c .before .before .nonzero-len .ensures), passed _ _ (sym (c .before .before .before .before .enum-told .given .1) ∙ c .before .before .before .before .before .before .check .ensures))
+shared-slice-read-leading-zeros c =
+    omega (
+      arith,
+      nonzero-le _ _ _ (ok (c .before .before .before .before) .inside)
+          (λ k. omega (arith, c .before .before .before .before .before .before .before .shared-slice-known .given k))
+          (c .before .before .nonzero-len .ensures),
+      ok (c .before .before .before .before),
+    )
 
 leading-zeros-requires : tie.Need-leading-zeros-requires
 leading-zeros-requires c κs = search needs
 
 sub-t17 : tie.Need-sub-t17
-sub-t17 c = zeros-less _ _ _ (passed _ _ (sym (c .before .before .before .before .before .enum-told .given .1) ∙ c .before .before .before .before .before .before .before .check .ensures) .inside) (λ k. omega (arith, c .before .before .before .before .before .before .before .before .shared-slice-known .given k)) (c .before .before .before .nonzero-len .ensures) _ (omega (arith, c .before .before .if1 .left)) (c .leading-zeros .ensures)
+sub-t17 c =
+    zeros-less _ _ _ (ok (c .before .before .before .before .before) .inside)
+    (λ k. omega (arith, c .before .before .before .before .before .before .before .before .shared-slice-known .given k))
+    (c .before .before .before .nonzero-len .ensures) _ (omega (arith, c .before .before .if1 .left)) (c .leading-zeros .ensures)
 
 returns-3 : tie.Need-returns-3
-returns-3 c = reading-is _ _ _ _ _ (passed _ _ (sym (c .before .before .before .before .before .enum-told .given .1) ∙ c .before .before .before .before .before .before .before .check .ensures)) (last-at _ _ _ (passed _ _ (sym (c .before .before .before .before .before .enum-told .given .1) ∙ c .before .before .before .before .before .before .before .check .ensures) .inside) (λ k. omega (arith, c .before .before .before .before .before .before .before .before .shared-slice-known .given k)) (c .before .before .before .nonzero-len .ensures) _ (omega (arith, c .before .before .if1 .left)) (c .leading-zeros .ensures))
+returns-3 c =
+    reading-is _ _ _ _ _ (ok (c .before .before .before .before .before))
+    (last-at _ _ _ (ok (c .before .before .before .before .before) .inside)
+    (λ k. omega (arith, c .before .before .before .before .before .before .before .before .shared-slice-known .given k))
+    (c .before .before .before .nonzero-len .ensures) _ (omega (arith, c .before .before .if1 .left)) (c .leading-zeros .ensures))
 
 pub last-set-spec : {M : Type 1} → statement M
 last-set-spec =
@@ -64,7 +101,7 @@ last-set-spec =
     slice-aggregate-nonzero-len
     nonzero-len-requires
     returns-2
-    mul-t7
+    mul-t10
     sub-t11
     sub-leading-zeros
     mul-leading-zeros

@@ -1,12 +1,17 @@
 use mathlib.Core.Path.{sym, ap, _∙_}
 use native.Mathlib.Omega.{arith}
 use borrow.Author.Needs.{needs}
+use Rattle.storage.specs.Guards.{Passed}
 use Rattle.storage.proofs.Checks.{passed, reading-stopped}
 use Rattle.slice.proofs.Answers.{reading-is}
 use Rattle.slice.proofs.Scans.{zeros-le, other-found, none-found, clear-here, clear-after, clear-none, clear-past}
 use Rattle.storage.specs.declared.Number.{Number}
 use Rattle.slice.proofs.next_clear.Statement.{statement}
 use Rattle.slice.proofs.next_clear.Tie as tie
+
+-- the guard has let the store pass
+ok : (c : tie.After-enum-told) → Passed (c .before .before .before .before .args .words .now) (c .before .before .before .before .args .b)
+ok c = passed _ _ (sym (c .enum-told .given .1) ∙ c .before .before .check .ensures)
 
 check-requires : tie.Need-check-requires
 check-requires c κs = search needs
@@ -21,13 +26,13 @@ enum-told : tie.Need-enum-told
 enum-told c = search needs
 
 returns-2 : tie.Need-returns-2
-returns-2 c = reading-is _ _ _ _ _ (passed _ _ (sym (c .before .enum-told .given .1) ∙ c .before .before .before .check .ensures)) (ap Number.Is (clear-past _ _ _ (omega arith)))
+returns-2 c = reading-is _ _ _ _ _ (ok (c .before)) (ap Number.Is (clear-past _ _ _ (omega arith)))
 
 mul-t : tie.Need-mul-t
 mul-t c = search needs
 
 shared-slice-read-t : tie.Need-shared-slice-read-t
-shared-slice-read-t c = omega (arith, passed _ _ (sym (c .before .before .enum-told .given .1) ∙ c .before .before .before .before .check .ensures))
+shared-slice-read-t c = omega (arith, ok (c .before .before))
 
 shr-t : tie.Need-shr-t
 shr-t c = search needs
@@ -42,10 +47,13 @@ trailing-zeros-requires : tie.Need-trailing-zeros-requires
 trailing-zeros-requires c κs = search needs
 
 add-t24 : tie.Need-add-t24
-add-t24 c = omega (arith, zeros-le _ _ (c .trailing-zeros .ensures), passed _ _ (sym (c .before .before .before .before .enum-told .given .1) ∙ c .before .before .before .before .before .before .check .ensures))
+add-t24 c = omega (arith, zeros-le _ _ (c .trailing-zeros .ensures), ok (c .before .before .before .before))
 
 returns-3 : tie.Need-returns-3
-returns-3 c = reading-is _ _ _ _ _ (passed _ _ (sym (c .before .before .before .before .enum-told .given .1) ∙ c .before .before .before .before .before .before .check .ensures)) (ap Number.Is (clear-here _ _ _ (λ k. omega (arith, c .before .before .before .before .before .before .before .shared-slice-known .given k)) (omega arith) _ (c .before .if2 .taken) (c .trailing-zeros .ensures)))
+returns-3 c =
+    reading-is _ _ _ _ _ (ok (c .before .before .before .before))
+    (ap Number.Is (clear-here _ _ _ (λ k. omega (arith, c .before .before .before .before .before .before .before .shared-slice-known .given k))
+    (omega arith) _ (c .before .if2 .taken) (c .trailing-zeros .ensures)))
 
 add-next : tie.Need-add-next
 add-next c = search needs
@@ -60,7 +68,7 @@ part-first-not-ones-start : tie.Need-part-first-not-ones-start
 part-first-not-ones-start c = search needs
 
 part-first-not-ones-end : tie.Need-part-first-not-ones-end
-part-first-not-ones-end c = omega (arith, passed _ _ (sym (c .before .before .before .enum-told .given .1) ∙ c .before .before .before .before .before .check .ensures))
+part-first-not-ones-end c = omega (arith, ok (c .before .before .before))
 
 first-not-ones-requires : tie.Need-first-not-ones-requires
 first-not-ones-requires c κs = search needs
@@ -69,28 +77,63 @@ enum-known-p : tie.Need-enum-known-p
 enum-known-p c = search needs
 
 add-t30 : tie.Need-add-t30
-add-t30 c = omega (arith, other-found _ _ _ _ _ _ (passed _ _ (sym (c .before .before .before .before .before .before .before .before .enum-told .given .1) ∙ c .before .before .before .before .before .before .before .before .before .before .check .ensures) .inside) (sym (c .before .p .given .1) ∙ c .before .before .before .first-not-ones .ensures), passed _ _ (sym (c .before .before .before .before .before .before .before .before .enum-told .given .1) ∙ c .before .before .before .before .before .before .before .before .before .before .check .ensures))
+add-t30 c =
+    omega (
+      arith,
+      other-found _ _ _ _ _ _ (ok (c .before .before .before .before .before .before .before .before) .inside)
+          (sym (c .before .p .given .1) ∙ c .before .before .before .first-not-ones .ensures),
+      ok
+          (c .before .before .before .before .before .before .before .before),
+    )
 
 mul-t31 : tie.Need-mul-t31
-mul-t31 c = omega (arith, other-found _ _ _ _ _ _ (passed _ _ (sym (c .before .before .before .before .before .before .before .before .enum-told .given .1) ∙ c .before .before .before .before .before .before .before .before .before .before .check .ensures) .inside) (sym (c .before .p .given .1) ∙ c .before .before .before .first-not-ones .ensures), passed _ _ (sym (c .before .before .before .before .before .before .before .before .enum-told .given .1) ∙ c .before .before .before .before .before .before .before .before .before .before .check .ensures))
+mul-t31 c =
+    omega (
+      arith,
+      other-found _ _ _ _ _ _ (ok (c .before .before .before .before .before .before .before .before) .inside)
+          (sym (c .before .p .given .1) ∙ c .before .before .before .first-not-ones .ensures),
+      ok
+          (c .before .before .before .before .before .before .before .before),
+    )
 
 trailing-zeros-requires-2 : tie.Need-trailing-zeros-requires-2
 trailing-zeros-requires-2 c κs = search needs
 
 add-t34 : tie.Need-add-t34
-add-t34 c = omega (arith, other-found _ _ _ _ _ _ (passed _ _ (sym (c .before .before .before .before .before .before .before .before .before .enum-told .given .1) ∙ c .before .before .before .before .before .before .before .before .before .before .before .check .ensures) .inside) (sym (c .before .before .p .given .1) ∙ c .before .before .before .before .first-not-ones .ensures), zeros-le _ _ (c .trailing-zeros2 .ensures), passed _ _ (sym (c .before .before .before .before .before .before .before .before .before .enum-told .given .1) ∙ c .before .before .before .before .before .before .before .before .before .before .before .check .ensures))
+add-t34 c =
+    omega (
+      arith,
+      other-found _ _ _ _ _ _ (ok (c .before .before .before .before .before .before .before .before .before) .inside)
+          (sym (c .before .before .p .given .1) ∙ c .before .before .before .before .first-not-ones .ensures),
+      zeros-le _ _
+          (c .trailing-zeros2 .ensures),
+      ok (c .before .before .before .before .before .before .before .before .before),
+    )
 
 enum-told-2 : tie.Need-enum-told-2
 enum-told-2 c = search needs
 
 mul-t35 : tie.Need-mul-t35
-mul-t35 c = omega (arith, passed _ _ (sym (c .before .before .before .before .before .before .before .enum-told .given .1) ∙ c .before .before .before .before .before .before .before .before .before .check .ensures))
+mul-t35 c = omega (arith, ok (c .before .before .before .before .before .before .before))
 
 returns-4 : tie.Need-returns-4
-returns-4 c = reading-is _ _ _ _ _ (passed _ _ (sym (c .before .before .before .before .before .before .before .before .before .enum-told .given .1) ∙ c .before .before .before .before .before .before .before .before .before .before .before .check .ensures)) (ap Number.Is (clear-after _ _ _ (λ k. omega (arith, c .before .before .before .before .before .before .before .before .before .before .before .before .shared-slice-known .given k)) (omega arith) (passed _ _ (sym (c .before .before .before .before .before .before .before .before .before .enum-told .given .1) ∙ c .before .before .before .before .before .before .before .before .before .before .before .check .ensures) .inside) _ _ _ (c .before .before .before .before .before .before .if2 .left) (other-found _ _ _ _ _ _ (passed _ _ (sym (c .before .before .before .before .before .before .before .before .before .enum-told .given .1) ∙ c .before .before .before .before .before .before .before .before .before .before .before .check .ensures) .inside) (sym (c .before .before .p .given .1) ∙ c .before .before .before .before .first-not-ones .ensures)) (c .trailing-zeros2 .ensures)))
+returns-4 c =
+    reading-is _ _ _ _ _ (ok (c .before .before .before .before .before .before .before .before .before))
+    (ap Number.Is (clear-after _ _ _
+    (λ k. omega (arith, c .before .before .before .before .before .before .before .before .before .before .before .before .shared-slice-known .given k))
+    (omega arith) (ok (c .before .before .before .before .before .before .before .before .before) .inside) _ _ _
+    (c .before .before .before .before .before .before .if2 .left)
+    (other-found _ _ _ _ _ _ (ok (c .before .before .before .before .before .before .before .before .before) .inside)
+    (sym (c .before .before .p .given .1) ∙ c .before .before .before .before .first-not-ones .ensures)) (c .trailing-zeros2 .ensures)))
 
 returns-5 : tie.Need-returns-5
-returns-5 c = reading-is _ _ _ _ _ (passed _ _ (sym (c .before .before .before .before .before .before .before .enum-told .given .1) ∙ c .before .before .before .before .before .before .before .before .before .check .ensures)) (ap Number.Is (clear-none _ _ _ (λ k. omega (arith, c .before .before .before .before .before .before .before .before .before .before .shared-slice-known .given k)) (omega arith) (passed _ _ (sym (c .before .before .before .before .before .before .before .enum-told .given .1) ∙ c .before .before .before .before .before .before .before .before .before .check .ensures) .inside) (c .before .before .before .before .if2 .left) (none-found _ _ _ _ (passed _ _ (sym (c .before .before .before .before .before .before .before .enum-told .given .1) ∙ c .before .before .before .before .before .before .before .before .before .check .ensures) .inside) (sym (c .enum-told2 .given .1) ∙ c .before .before .first-not-ones .ensures))))
+returns-5 c =
+    reading-is _ _ _ _ _ (ok (c .before .before .before .before .before .before .before))
+    (ap Number.Is (clear-none _ _ _
+    (λ k. omega (arith, c .before .before .before .before .before .before .before .before .before .before .shared-slice-known .given k))
+    (omega arith) (ok (c .before .before .before .before .before .before .before) .inside) (c .before .before .before .before .if2 .left)
+    (none-found _ _ _ _ (ok (c .before .before .before .before .before .before .before) .inside)
+    (sym (c .enum-told2 .given .1) ∙ c .before .before .first-not-ones .ensures))))
 
 pub next-clear-spec : {M : Type 1} → statement M
 next-clear-spec =

@@ -1,18 +1,32 @@
-use mathlib.Core.Path.{sym, _∙_}
+use mathlib.Core.Path.{_≡_, sym, _∙_}
+use mathlib.Core.Bool.{true}
 use borrow.Author.Needs.{needs}
 use borrow.Author.Tests.{not-true, not-false}
 use lib.Seq.{length-take-le}
+use Rattle.storage.specs.Guards.{Passed}
 use Rattle.storage.proofs.Checks.{passed}
 use Rattle.storage.proofs.Stores.{changes-stopped}
+use Rattle.text.specs.Lists.{plain}
 use Rattle.text.proofs.Taken.{list-refused-8, list-refused-7, list-refused-6, list-done}
 use Rattle.text.proofs.from_list.Statement.{statement}
 use Rattle.text.proofs.from_list.Tie as tie
+
+-- the guard has let the store pass
+ok : (c : tie.After-enum-told) → Passed (c .before .before .before .before .before .before .args .words .now) (c .before .before .before .before .before .before .args .b)
+ok c = passed _ _ (sym (c .enum-told .given .1) ∙ c .before .before .check .ensures)
+
+-- the text is plain
+ascii : (c : tie.Else1) → plain (c .before .before .before .before .before .before .before .before .args .text .now) ≡ true
+ascii c = sym (c .before .is-plain .ensures) ∙ not-false _ (c .if1 .left)
 
 check-requires : tie.Need-check-requires
 check-requires c κs = search needs
 
 enum-known-e : tie.Need-enum-known-e
 enum-known-e c = search needs
+
+same-length : tie.Need-same-length
+same-length c = search needs
 
 returns : tie.Need-returns
 returns c = changes-stopped _ _ _ _ (sym (c .before .e .given .1) ∙ c .before .before .before .check .ensures)
@@ -23,8 +37,11 @@ enum-told c = search needs
 is-plain-requires : tie.Need-is-plain-requires
 is-plain-requires c κs = search needs
 
+same-length-2 : tie.Need-same-length-2
+same-length-2 c = search needs
+
 returns-2 : tie.Need-returns-2
-returns-2 c = list-refused-8 (c .before .before .before .before .before .before .before .args .text .now) (c .before .before .before .before .before .before .before .args .words .now) (c .before .before .before .before .before .before .before .args .b) (passed _ _ (sym (c .before .before .enum-told .given .1) ∙ c .before .before .before .before .check .ensures)) (sym (c .before .is-plain .ensures) ∙ not-true _ (c .if1 .taken))
+returns-2 c = list-refused-8 _ _ _ (ok (c .before .before)) (sym (c .before .is-plain .ensures) ∙ not-true _ (c .if1 .taken))
 
 slice-relend-prefix-walk : tie.Need-slice-relend-prefix-walk
 slice-relend-prefix-walk c = search needs
@@ -41,20 +58,25 @@ enum-known-m c = search needs
 enum-told-2 : tie.Need-enum-told-2
 enum-told-2 c = search needs
 
-same-length : tie.Need-same-length
-same-length c = search needs
+same-length-3 : tie.Need-same-length-3
+same-length-3 c = search needs
 
 returns-3 : tie.Need-returns-3
-returns-3 c = list-refused-7 (c .before .before .before .before .before .before .before .before .before .before .before .before .before .args .text .now) (c .before .before .before .before .before .before .before .before .before .before .before .before .before .args .words .now) (c .before .before .before .before .before .before .before .before .before .before .before .before .before .args .b) (passed _ _ (sym (c .before .before .before .before .before .before .before .before .enum-told .given .1) ∙ c .before .before .before .before .before .before .before .before .before .before .check .ensures)) (sym (c .before .before .before .before .before .before .before .is-plain .ensures) ∙ not-false _ (c .before .before .before .before .before .before .if1 .left)) _ _ (c .before .before .before .before .walk .ensures) (c .enum-told2 .given .1)
+returns-3 c =
+    list-refused-7 _ _ _ (ok (c .before .before .before .before .before .before .before .before)) (ascii (c .before .before .before .before .before .before)) _ _
+    (c .before .before .before .before .walk .ensures) (c .enum-told2 .given .1)
 
 add-count : tie.Need-add-count
 add-count c = search needs
 
-same-length-2 : tie.Need-same-length-2
-same-length-2 c = search needs
+same-length-4 : tie.Need-same-length-4
+same-length-4 c = search needs
 
 returns-4 : tie.Need-returns-4
-returns-4 c = list-refused-6 (c .before .before .before .before .before .before .before .before .before .before .before .before .before .before .before .args .text .now) (c .before .before .before .before .before .before .before .before .before .before .before .before .before .before .before .args .words .now) (c .before .before .before .before .before .before .before .before .before .before .before .before .before .before .before .args .b) (passed _ _ (sym (c .before .before .before .before .before .before .before .before .before .before .enum-told .given .1) ∙ c .before .before .before .before .before .before .before .before .before .before .before .before .check .ensures)) (sym (c .before .before .before .before .before .before .before .before .before .is-plain .ensures) ∙ not-false _ (c .before .before .before .before .before .before .before .before .if1 .left)) _ _ (c .before .before .before .before .before .before .walk .ensures) _ (c .before .before .m .given .1) (c .if2 .taken)
+returns-4 c =
+    list-refused-6 _ _ _ (ok (c .before .before .before .before .before .before .before .before .before .before))
+    (ascii (c .before .before .before .before .before .before .before .before)) _ _ (c .before .before .before .before .before .before .walk .ensures) _
+    (c .before .before .m .given .1) (c .if2 .taken)
 
 max-requires : tie.Need-max-requires
 max-requires c κs = search needs
@@ -71,11 +93,17 @@ slice-aggregate-walk-2 c = sym (length-take-le _ _ (slice-relend-prefix-walk-2 (
 walk-requires-2 : tie.Need-walk-requires-2
 walk-requires-2 c κs = search needs
 
-same-length-3 : tie.Need-same-length-3
-same-length-3 c = search needs
+same-length-5 : tie.Need-same-length-5
+same-length-5 c = search needs
 
 returns-5 : tie.Need-returns-5
-returns-5 c = list-done (c .before .before .before .before .before .before .before .before .before .before .before .before .before .before .before .before .before .before .before .before .before .before .before .before .args .text .now) (c .before .before .before .before .before .before .before .before .before .before .before .before .before .before .before .before .before .before .before .before .before .before .before .before .args .words .now) (c .before .before .before .before .before .before .before .before .before .before .before .before .before .before .before .before .before .before .before .before .before .before .before .before .args .b) (passed _ _ (sym (c .before .before .before .before .before .before .before .before .before .before .before .before .before .before .before .before .before .before .before .enum-told .given .1) ∙ c .before .before .before .before .before .before .before .before .before .before .before .before .before .before .before .before .before .before .before .before .before .check .ensures)) (sym (c .before .before .before .before .before .before .before .before .before .before .before .before .before .before .before .before .before .before .is-plain .ensures) ∙ not-false _ (c .before .before .before .before .before .before .before .before .before .before .before .before .before .before .before .before .before .if1 .left)) _ _ (c .before .before .before .before .before .before .before .before .before .before .before .before .before .before .before .walk .ensures) _ (c .before .before .before .before .before .before .before .before .before .before .before .m .given .1) (c .before .before .before .before .before .before .before .before .before .if2 .left) _ (c .before .before .before .before .before .before .before .max .ensures) _ (c .before .before .before .before .before .before .grow .ensures) _ _ (c .before .before .walk2 .ensures)
+returns-5 c =
+    list-done _ _ _ (ok (c .before .before .before .before .before .before .before .before .before .before .before .before .before .before .before .before .before .before .before))
+    (ascii (c .before .before .before .before .before .before .before .before .before .before .before .before .before .before .before .before .before)) _ _
+    (c .before .before .before .before .before .before .before .before .before .before .before .before .before .before .before .walk .ensures) _
+    (c .before .before .before .before .before .before .before .before .before .before .before .m .given .1)
+    (c .before .before .before .before .before .before .before .before .before .if2 .left) _ (c .before .before .before .before .before .before .before .max .ensures) _
+    (c .before .before .before .before .before .before .grow .ensures) _ _ (c .before .before .walk2 .ensures)
 
 pub from-list-spec : {M : Type 1} → statement M
 from-list-spec =
@@ -83,24 +111,26 @@ from-list-spec =
     (tie.spec
     check-requires
     enum-known-e
+    same-length
     returns
     enum-told
     is-plain-requires
+    same-length-2
     returns-2
     slice-relend-prefix-walk
     slice-aggregate-walk
     walk-requires
     enum-known-m
     enum-told-2
-    same-length
+    same-length-3
     returns-3
     add-count
-    same-length-2
+    same-length-4
     returns-4
     max-requires
     grow-requires
     slice-relend-prefix-walk-2
     slice-aggregate-walk-2
     walk-requires-2
-    same-length-3
+    same-length-5
     returns-5)

@@ -22,13 +22,19 @@ returns-2 : tie.Need-returns-2
 returns-2 c = kind-blank _ (sym (c .before .before .before .is-digit .ensures) ∙ c .before .before .if1 .left) (sym (c .before .is-blank .ensures) ∙ c .if2 .taken)
 
 returns-3 : tie.Need-returns-3
-returns-3 c = kind-joiner _ (sym (c .before .before .before .before .is-digit .ensures) ∙ c .before .before .before .if1 .left) (sym (c .before .before .is-blank .ensures) ∙ c .before .if2 .left) (c .if3 .taken)
+returns-3 c =
+    kind-joiner _ (sym (c .before .before .before .before .is-digit .ensures) ∙ c .before .before .before .if1 .left)
+    (sym (c .before .before .is-blank .ensures) ∙ c .before .if2 .left) (c .if3 .taken)
 
 returns-4 : tie.Need-returns-4
-returns-4 c = kind-comma _ (sym (c .before .before .before .before .before .is-digit .ensures) ∙ c .before .before .before .before .if1 .left) (sym (c .before .before .before .is-blank .ensures) ∙ c .before .before .if2 .left) (c .before .if3 .left) (c .if4 .taken)
+returns-4 c =
+    kind-comma _ (sym (c .before .before .before .before .before .is-digit .ensures) ∙ c .before .before .before .before .if1 .left)
+    (sym (c .before .before .before .is-blank .ensures) ∙ c .before .before .if2 .left) (c .before .if3 .left) (c .if4 .taken)
 
 returns-5 : tie.Need-returns-5
-returns-5 c = kind-other _ (sym (c .before .before .before .before .before .is-digit .ensures) ∙ c .before .before .before .before .if1 .left) (sym (c .before .before .before .is-blank .ensures) ∙ c .before .before .if2 .left) (c .before .if3 .left) (c .if4 .left)
+returns-5 c =
+    kind-other _ (sym (c .before .before .before .before .before .is-digit .ensures) ∙ c .before .before .before .before .if1 .left)
+    (sym (c .before .before .before .is-blank .ensures) ∙ c .before .before .if2 .left) (c .before .if3 .left) (c .if4 .left)
 
 pub kind-of-spec : {M : Type 1} → statement M
 kind-of-spec =

@@ -24,16 +24,29 @@ enum-known-v : tie.Need-enum-known-v
 enum-known-v c = search needs
 
 returns-2 : tie.Need-returns-2
-returns-2 c = sym (token-at (partOf (c .before .before .before .before .before .before .before .before .args .p)) (sym (c .before .before .before .before .before .before .before .empty .ensures) ∙ c .before .before .before .before .before .before .if1 .left) (left-none _ _ (c .if2 .taken)) (sym (c .before .before .before .before .before .value-of .ensures) ∙ c .before .before .before .v .given .1))
+returns-2 c =
+    sym (token-at (partOf (c .before .before .before .before .before .before .before .before .args .p))
+    (sym (c .before .before .before .before .before .before .before .empty .ensures) ∙ c .before .before .before .before .before .before .if1 .left) (left-none _ _ (c .if2 .taken))
+    (sym (c .before .before .before .before .before .value-of .ensures) ∙ c .before .before .before .v .given .1))
 
 returns-3 : tie.Need-returns-3
-returns-3 c = sym (token-missing (partOf (c .before .before .before .before .before .args .p)) (sym (c .before .before .before .before .empty .ensures) ∙ c .before .before .before .if1 .left) (sym (c .before .before .value-of .ensures) ∙ c .enum-told .given .1))
+returns-3 c =
+    sym (token-missing (partOf (c .before .before .before .before .before .args .p))
+    (sym (c .before .before .before .before .empty .ensures) ∙ c .before .before .before .if1 .left) (sym (c .before .before .value-of .ensures) ∙ c .enum-told .given .1))
 
 returns-4 : tie.Need-returns-4
-returns-4 c = sym (token-at (partOf (c .before .before .before .before .before .before .before .before .before .args .p)) (sym (c .before .before .before .before .before .before .before .before .empty .ensures) ∙ c .before .before .before .before .before .before .before .if1 .left) (left-some _ _ (c .before .if2 .left)) (sym (c .before .before .before .before .before .before .value-of .ensures) ∙ c .before .before .before .before .v .given .1) ∙ chosen _ _ (le-leb _ _ (c .if3 .taken)))
+returns-4 c =
+    sym (token-at (partOf (c .before .before .before .before .before .before .before .before .before .args .p))
+    (sym (c .before .before .before .before .before .before .before .before .empty .ensures) ∙ c .before .before .before .before .before .before .before .if1 .left)
+    (left-some _ _ (c .before .if2 .left)) (sym (c .before .before .before .before .before .before .value-of .ensures) ∙ c .before .before .before .before .v .given .1)
+    ∙ chosen _ _ (le-leb _ _ (c .if3 .taken)))
 
 returns-5 : tie.Need-returns-5
-returns-5 c = sym (token-at (partOf (c .before .before .before .before .before .before .before .before .before .args .p)) (sym (c .before .before .before .before .before .before .before .before .empty .ensures) ∙ c .before .before .before .before .before .before .before .if1 .left) (left-some _ _ (c .before .if2 .left)) (sym (c .before .before .before .before .before .before .value-of .ensures) ∙ c .before .before .before .before .v .given .1) ∙ other _ _ (lt-leb _ _ (c .if3 .left)))
+returns-5 c =
+    sym (token-at (partOf (c .before .before .before .before .before .before .before .before .before .args .p))
+    (sym (c .before .before .before .before .before .before .before .before .empty .ensures) ∙ c .before .before .before .before .before .before .before .if1 .left)
+    (left-some _ _ (c .before .if2 .left)) (sym (c .before .before .before .before .before .before .value-of .ensures) ∙ c .before .before .before .before .v .given .1)
+    ∙ other _ _ (lt-leb _ _ (c .if3 .left)))
 
 pub token-of-spec : {M : Type 1} → statement M
 token-of-spec =

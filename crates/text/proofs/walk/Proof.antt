@@ -10,7 +10,8 @@ use Prim.Native.Nat.{_-_}
 use lib.ListN.{length}
 use borrow.Author.Needs.{needs}
 use Rattle.text.specs.Lists.{Range}
-use Rattle.text.proofs.Tokens.{Inside, inside-start, inside-go, inside-stop, Ended, ended-left, ended-comma, Going, going-start, stops, none-at, empty-first, empty-inner, empty-last, range-last, range-more, range-less, going-length, more-length}
+use Rattle.text.proofs.Tokens.{Inside, inside-start, inside-go, inside-stop, Ended, ended-left, ended-comma, Going, going-start, stops, none-at, empty-first, empty-inner, empty-last}
+use Rattle.text.proofs.Tokens.{range-last, range-more, range-less, going-length, more-length}
 use Rattle.text.proofs.walk.Statement.{statement}
 use Rattle.text.proofs.walk.Tie as tie
 
@@ -65,7 +66,11 @@ digits-less : tie.Need-digits-less Inv-digits μ-digits Inv-tokens μ-tokens
 digits-less c = omega arith
 
 digits-again : tie.Need-digits-again Inv-digits μ-digits Inv-tokens μ-tokens
-digits-again c = (inside-go _ _ _ _ _ _ (c .before .before .before .before .before .before .before .digits .inv .0) (c .before .before .before .before .before .before .digits-test .taken) (c .before .before .before .before .kind-of .ensures) (c .before .before .before .step-by .ensures) _ (ap stepOf (c .before .s .given .1)), c .before .before .before .before .before .before .before .digits .inv .1)
+digits-again c = (
+  inside-go _ _ _ _ _ _ (c .before .before .before .before .before .before .before .digits .inv .0) (c .before .before .before .before .before .before .digits-test .taken)
+      (c .before .before .before .before .kind-of .ensures) (c .before .before .before .step-by .ensures) _ (ap stepOf (c .before .s .given .1)),
+  c .before .before .before .before .before .before .before .digits .inv .1,
+)
 
 enum-told : tie.Need-enum-told Inv-digits μ-digits Inv-tokens μ-tokens
 enum-told c = search needs
@@ -95,46 +100,75 @@ same-length : tie.Need-same-length Inv-digits μ-digits Inv-tokens μ-tokens
 same-length c = going-length _ _ _ _ _ _ _ (c .before .before .before .before .before .before .before .before .tokens .inv .1)
 
 returns : tie.Need-returns Inv-digits μ-digits Inv-tokens μ-tokens
-returns c = empty-last _ _ _ _ _ _ _ (c .before .before .before .before .before .before .before .before .tokens .inv .1) _ _ _ (ended-is (c .before .before .before .before .before)) _ (c .before .before .before .before .token-of .ensures) (c .before .before .enum-told3 .given .1) (c .before .if1 .taken) (not-true _ (c .if2 .taken))
+returns c =
+    empty-last _ _ _ _ _ _ _ (c .before .before .before .before .before .before .before .before .tokens .inv .1) _ _ _ (ended-is (c .before .before .before .before .before)) _
+    (c .before .before .before .before .token-of .ensures) (c .before .before .enum-told3 .given .1) (c .before .if1 .taken) (not-true _ (c .if2 .taken))
 
 enum-told-4 : tie.Need-enum-told-4 Inv-digits μ-digits Inv-tokens μ-tokens
 enum-told-4 c = search needs
 
 same-length-2 : tie.Need-same-length-2 Inv-digits μ-digits Inv-tokens μ-tokens
-same-length-2 c = more-length _ _ _ _ _ _ _ (c .before .before .before .before .before .before .before .before .before .before .before .before .before .tokens .inv .1) _ _ _ (ended-is (c .before .before .before .before .before .before .before .before .before .before)) _ (c .before .before .before .before .before .before .before .before .before .token-of .ensures) _ _ (c .before .before .before .before .before .before .before .a .given .1) _ (c .before .before .before .before .fill-region .ensures) _ (c .before .max .ensures)
+same-length-2 c =
+    more-length _ _ _ _ _ _ _ (c .before .before .before .before .before .before .before .before .before .before .before .before .before .tokens .inv .1) _ _ _
+    (ended-is (c .before .before .before .before .before .before .before .before .before .before)) _
+    (c .before .before .before .before .before .before .before .before .before .token-of .ensures) _ _ (c .before .before .before .before .before .before .before .a .given .1) _
+    (c .before .before .before .before .fill-region .ensures) _ (c .before .max .ensures)
 
 returns-2 : tie.Need-returns-2 Inv-digits μ-digits Inv-tokens μ-tokens
-returns-2 c = range-last _ _ _ _ _ _ _ (c .before .before .before .before .before .before .before .before .before .before .before .before .before .tokens .inv .1) _ _ _ (ended-is (c .before .before .before .before .before .before .before .before .before .before)) _ (c .before .before .before .before .before .before .before .before .before .token-of .ensures) _ _ (c .before .before .before .before .before .before .before .a .given .1) _ (c .before .before .before .before .fill-region .ensures) _ (c .before .max .ensures) (not-true _ (c .if3 .taken))
+returns-2 c =
+    range-last _ _ _ _ _ _ _ (c .before .before .before .before .before .before .before .before .before .before .before .before .before .tokens .inv .1) _ _ _
+    (ended-is (c .before .before .before .before .before .before .before .before .before .before)) _
+    (c .before .before .before .before .before .before .before .before .before .token-of .ensures) _ _ (c .before .before .before .before .before .before .before .a .given .1) _
+    (c .before .before .before .before .fill-region .ensures) _ (c .before .max .ensures) (not-true _ (c .if3 .taken))
 
 tokens-less : tie.Need-tokens-less Inv-digits μ-digits Inv-tokens μ-tokens
-tokens-less c = range-less _ _ _ _ _ _ _ (c .before .before .before .before .before .before .before .before .before .before .before .before .before .tokens .inv .1) _ _ _ (ended-is (c .before .before .before .before .before .before .before .before .before .before)) _ (c .before .before .before .before .before .before .before .before .before .token-of .ensures) _ _ (c .before .before .before .before .before .before .before .a .given .1) _ (c .before .before .before .before .fill-region .ensures) _ (c .before .max .ensures) (not-false _ (c .if3 .left))
+tokens-less c =
+    range-less _ _ _ _ _ _ _ (c .before .before .before .before .before .before .before .before .before .before .before .before .before .tokens .inv .1) _ _ _
+    (ended-is (c .before .before .before .before .before .before .before .before .before .before)) _
+    (c .before .before .before .before .before .before .before .before .before .token-of .ensures) _ _ (c .before .before .before .before .before .before .before .a .given .1) _
+    (c .before .before .before .before .fill-region .ensures) _ (c .before .max .ensures) (not-false _ (c .if3 .left))
 
 tokens-again : tie.Need-tokens-again Inv-digits μ-digits Inv-tokens μ-tokens
-tokens-again c = (_, range-more _ _ _ _ _ _ _ (c .before .before .before .before .before .before .before .before .before .before .before .before .before .tokens .inv .1) _ _ _ (ended-is (c .before .before .before .before .before .before .before .before .before .before)) _ (c .before .before .before .before .before .before .before .before .before .token-of .ensures) _ _ (c .before .before .before .before .before .before .before .a .given .1) _ (c .before .before .before .before .fill-region .ensures) _ (c .before .max .ensures) (not-false _ (c .if3 .left)))
+tokens-again c = (
+  _,
+  range-more _ _ _ _ _ _ _ (c .before .before .before .before .before .before .before .before .before .before .before .before .before .tokens .inv .1) _ _ _
+      (ended-is (c .before .before .before .before .before .before .before .before .before .before)) _
+      (c .before .before .before .before .before .before .before .before .before .token-of .ensures) _ _ (c .before .before .before .before .before .before .before .a .given .1) _
+      (c .before .before .before .before .fill-region .ensures) _ (c .before .max .ensures) (not-false _ (c .if3 .left)),
+)
 
 same-length-3 : tie.Need-same-length-3 Inv-digits μ-digits Inv-tokens μ-tokens
 same-length-3 c = going-length _ _ _ _ _ _ _ (c .before .before .before .before .before .before .before .before .tokens .inv .1)
 
 returns-3 : tie.Need-returns-3 Inv-digits μ-digits Inv-tokens μ-tokens
-returns-3 c = stops _ _ _ _ _ _ _ (c .before .before .before .before .before .before .before .before .tokens .inv .1) (inside-stop _ _ _ _ _ _ (c .before .before .before .before .before .before .digits .inv .0) (c .before .before .before .before .before .digits-test .taken) (c .before .before .before .kind-of .ensures) (c .before .before .step-by .ensures) (ap stepOf (c .enum-told2 .given .1)) _)
+returns-3 c =
+    stops _ _ _ _ _ _ _ (c .before .before .before .before .before .before .before .before .tokens .inv .1)
+    (inside-stop _ _ _ _ _ _ (c .before .before .before .before .before .before .digits .inv .0) (c .before .before .before .before .before .digits-test .taken)
+    (c .before .before .before .kind-of .ensures) (c .before .before .step-by .ensures) (ap stepOf (c .enum-told2 .given .1)) _)
 
 same-length-4 : tie.Need-same-length-4 Inv-digits μ-digits Inv-tokens μ-tokens
 same-length-4 c = going-length _ _ _ _ _ _ _ (c .before .before .before .before .before .before .before .before .tokens .inv .1)
 
 returns-4 : tie.Need-returns-4 Inv-digits μ-digits Inv-tokens μ-tokens
-returns-4 c = empty-inner _ _ _ _ _ _ _ (c .before .before .before .before .before .before .before .before .tokens .inv .1) _ _ _ (ended-is (c .before .before .before .before .before)) _ (c .before .before .before .before .token-of .ensures) (c .before .before .enum-told3 .given .1) (not-false _ (c .if2 .left))
+returns-4 c =
+    empty-inner _ _ _ _ _ _ _ (c .before .before .before .before .before .before .before .before .tokens .inv .1) _ _ _ (ended-is (c .before .before .before .before .before)) _
+    (c .before .before .before .before .token-of .ensures) (c .before .before .enum-told3 .given .1) (not-false _ (c .if2 .left))
 
 same-length-5 : tie.Need-same-length-5 Inv-digits μ-digits Inv-tokens μ-tokens
 same-length-5 c = going-length _ _ _ _ _ _ _ (c .before .before .before .before .before .before .before .tokens .inv .1)
 
 returns-5 : tie.Need-returns-5 Inv-digits μ-digits Inv-tokens μ-tokens
-returns-5 c = empty-first _ _ _ _ _ _ _ (c .before .before .before .before .before .before .before .tokens .inv .1) _ _ _ (ended-is (c .before .before .before .before)) _ (c .before .before .before .token-of .ensures) (c .before .enum-told3 .given .1) (c .if1 .left)
+returns-5 c =
+    empty-first _ _ _ _ _ _ _ (c .before .before .before .before .before .before .before .tokens .inv .1) _ _ _ (ended-is (c .before .before .before .before)) _
+    (c .before .before .before .token-of .ensures) (c .before .enum-told3 .given .1) (c .if1 .left)
 
 same-length-6 : tie.Need-same-length-6 Inv-digits μ-digits Inv-tokens μ-tokens
 same-length-6 c = going-length _ _ _ _ _ _ _ (c .before .before .before .before .before .before .tokens .inv .1)
 
 returns-6 : tie.Need-returns-6 Inv-digits μ-digits Inv-tokens μ-tokens
-returns-6 c = none-at _ _ _ _ _ _ _ (c .before .before .before .before .before .before .tokens .inv .1) _ _ _ (ended-is (c .before .before .before)) _ (c .before .before .token-of .ensures) (c .enum-told4 .given .1)
+returns-6 c =
+    none-at _ _ _ _ _ _ _ (c .before .before .before .before .before .before .tokens .inv .1) _ _ _ (ended-is (c .before .before .before)) _ (c .before .before .token-of .ensures)
+    (c .enum-told4 .given .1)
 
 pub walk-spec : {M : Type 1} → statement M
 walk-spec =

@@ -23,7 +23,11 @@ same-length : tie.Need-same-length
 same-length c = search needs
 
 returns : tie.Need-returns
-returns c = put-tail (c .before .before .before .before .before .before .before .before .before .before .before .before .before .before .args .left .now) (c .before .before .before .before .before .before .before .before .before .before .before .before .before .before .args .right .now) _ _ _ _ _ _ _ (c .before .before .before .before .before .before .before .before .before .before .min .ensures) (omega arith) (c .before .before .before .before .before .before .before .before .min2 .ensures) (c .before .before .before .min3 .ensures) (c .before .before .before .before .before .before .before .copy-words .ensures) (c .before .before .copy-words2 .ensures)
+returns c =
+    let a = c .before .before .before .before .before .before .before .before .before .before .before .before .before .before .args in
+    put-tail (a .left .now) (a .right .now) _ _ _ _ _ _ _ (c .before .before .before .before .before .before .before .before .before .before .min .ensures) (omega arith)
+    (c .before .before .before .before .before .before .before .before .min2 .ensures) (c .before .before .before .min3 .ensures)
+    (c .before .before .before .before .before .before .before .copy-words .ensures) (c .before .before .copy-words2 .ensures)
 
 pub copy-tail-spec : {M : Type 1} → statement M
 copy-tail-spec =

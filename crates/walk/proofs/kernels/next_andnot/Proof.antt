@@ -32,7 +32,9 @@ trailing-zeros-requires : tie.Need-trailing-zeros-requires Inv-loop μ-loop
 trailing-zeros-requires c κs = search needs
 
 add-t19 : tie.Need-add-t19 Inv-loop μ-loop
-add-t19 c = omega (arith, c .trailing-zeros .ensures, here-below AndNot (c .before .before .before .before .before .args .a .now) (c .before .before .before .before .before .args .b .now) _ _ (c .before .before .andnot-at .ensures) (c .before .if1 .taken))
+add-t19 c =
+    let g = c .before .before .before .before .before .args in
+    omega (arith, c .trailing-zeros .ensures, here-below AndNot (g .a .now) (g .b .now) _ _ (c .before .before .andnot-at .ensures) (c .before .if1 .taken))
 
 returns : tie.Need-returns Inv-loop μ-loop
 returns c = next-here AndNot _ _ _ _ (c .before .before .andnot-at .ensures) (c .before .if1 .taken) (c .trailing-zeros .ensures)
@@ -47,16 +49,23 @@ add-t20 : tie.Need-add-t20 Inv-loop μ-loop
 add-t20 c = omega arith
 
 mul-t21 : tie.Need-mul-t21 Inv-loop μ-loop
-mul-t21 c = omega (arith, word-below AndNot (c .before .before .before .before .before .before .args .a .now) (c .before .before .before .before .before .before .args .b .now) _ _ (c .before .andnot-at2 .ensures) (c .if2 .taken) (omega arith) (omega arith))
+mul-t21 c =
+    let g = c .before .before .before .before .before .before .args in
+    omega (arith, word-below AndNot (g .a .now) (g .b .now) _ _ (c .before .andnot-at2 .ensures) (c .if2 .taken) (omega arith) (omega arith))
 
 trailing-zeros-requires-2 : tie.Need-trailing-zeros-requires-2 Inv-loop μ-loop
 trailing-zeros-requires-2 c κs = search needs
 
 add-t23 : tie.Need-add-t23 Inv-loop μ-loop
-add-t23 c = omega (arith, c .trailing-zeros2 .ensures, least64 (c .before .before .andnot-at2 .result), word-below AndNot (c .before .before .before .before .before .before .before .args .a .now) (c .before .before .before .before .before .before .before .args .b .now) _ _ (c .before .before .andnot-at2 .ensures) (c .before .if2 .taken) (omega arith) (omega arith))
+add-t23 c =
+    let g = c .before .before .before .before .before .before .before .args in
+    let u = c .before .before .andnot-at2 in
+    omega (arith, c .trailing-zeros2 .ensures, least64 (u .result), word-below AndNot (g .a .now) (g .b .now) _ _ (u .ensures) (c .before .if2 .taken) (omega arith) (omega arith))
 
 returns-2 : tie.Need-returns-2 Inv-loop μ-loop
-returns-2 c = next-later AndNot _ _ _ _ (c .before .before .before .before .andnot-at .ensures) (c .before .before .before .if1 .left) _ (omega arith) (alike-none _ _ _ _ (omega arith)) (c .before .before .andnot-at2 .ensures) (c .before .if2 .taken) (c .trailing-zeros2 .ensures)
+returns-2 c =
+    next-later AndNot _ _ _ _ (c .before .before .before .before .andnot-at .ensures) (c .before .before .before .if1 .left) _ (omega arith) (alike-none _ _ _ _ (omega arith))
+    (c .before .before .andnot-at2 .ensures) (c .before .if2 .taken) (c .trailing-zeros2 .ensures)
 
 add-andnot-eights : tie.Need-add-andnot-eights Inv-loop μ-loop
 add-andnot-eights c = omega arith
@@ -80,7 +89,11 @@ add-t27 : tie.Need-add-t27 Inv-loop μ-loop
 add-t27 c = omega (arith, c .trailing-zeros3 .ensures, least64 (c .before .before .andnot-at3 .result))
 
 returns-3 : tie.Need-returns-3 Inv-loop μ-loop
-returns-3 c = next-later AndNot _ _ _ _ (c .before .before .before .before .before .before .before .before .before .andnot-at .ensures) (c .before .before .before .before .before .before .before .before .if1 .left) _ (c .before .before .before .before .loop .inv .0) (c .before .before .before .before .loop .inv .1) (c .before .before .andnot-at3 .ensures) (c .before .if3 .taken) (c .trailing-zeros3 .ensures)
+returns-3 c =
+    let l = c .before .before .before .before in
+    let t = l .before .before .before .before in
+    next-later AndNot _ _ _ _ (t .before .andnot-at .ensures) (t .if1 .left) _ (l .loop .inv .0) (l .loop .inv .1)
+    (c .before .before .andnot-at3 .ensures) (c .before .if3 .taken) (c .trailing-zeros3 .ensures)
 
 add-k : tie.Need-add-k Inv-loop μ-loop
 add-k c = omega arith
@@ -92,7 +105,9 @@ loop-again : tie.Need-loop-again Inv-loop μ-loop
 loop-again c = (omega arith, alike-join (c .before .before .before .loop .inv .1) (alike-one _ _ _ (sym (c .before .andnot-at3 .ensures) ∙ c .if3 .left)) (omega arith))
 
 returns-4 : tie.Need-returns-4 Inv-loop μ-loop
-returns-4 c = next-none AndNot _ _ _ _ (c .before .before .before .before .before .before .andnot-at .ensures) (c .before .before .before .before .before .if1 .left) _ (c .before .loop .inv .0) (c .before .loop .inv .1) _ refl (omega arith)
+returns-4 c =
+    let t = c .before .before .before .before .before in
+    next-none AndNot _ _ _ _ (t .before .andnot-at .ensures) (t .if1 .left) _ (c .before .loop .inv .0) (c .before .loop .inv .1) _ refl (omega arith)
 
 pub next-andnot-spec : {M : Type 1} → statement M
 next-andnot-spec =

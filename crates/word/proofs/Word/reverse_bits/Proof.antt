@@ -25,7 +25,8 @@ swapped-requires-6 c κs = search needs
 returns : tie.Need-returns
 returns c =
     reversed _ _ _ _ _ _ _ (omega arith)
-    (c .before .before .before .before .before .swapped .ensures) (c .before .before .before .before .swapped2 .ensures) (c .before .before .before .swapped3 .ensures) (c .before .before .swapped4 .ensures) (c .before .swapped5 .ensures) (c .swapped6 .ensures)
+    (c .before .before .before .before .before .swapped .ensures) (c .before .before .before .before .swapped2 .ensures)
+    (c .before .before .before .swapped3 .ensures) (c .before .before .swapped4 .ensures) (c .before .swapped5 .ensures) (c .swapped6 .ensures)
 
 pub reverse-bits-spec : {M : Type 1} → statement M
 reverse-bits-spec =
