@@ -9,7 +9,7 @@ pub const NAMES: [&[&str]; 16] = [
         "word::bit", "word::wrapping_mul",
     ],
     &["arch::first_nonzero", "arch::first_not_ones", "arch::nonzero_len", "arch::is_zero", "arch::count_set_bits", "slice::trimmed"],
-    &["arch::fill_region", "arch::fill_words", "arch::select_u64", "storage::grow", "storage::check"],
+    &["arch::fill_region", "arch::fill_words", "arch::select_u64", "storage::zero_words", "storage::check"],
     &["slice::first_set", "slice::last_set", "slice::next_set", "bits::select"],
     &["slice::first_clear", "slice::next_clear", "slice::count_set_bits", "bits::count_clear_bits", "bits::count_region", "bits::rank"],
     &["slice::get", "slice::eq", "algebra::is_subset", "algebra::is_disjoint"],
@@ -126,7 +126,7 @@ fn of_arch(op: Op, c: &Args) -> Out {
         }
         "arch::select_u64" if x < c.z.count_ones() as usize => value(kernels::select_u64(c.z, x) as u64),
         "arch::select_u64" => value(64), // by rule: the Rust asks its caller for a bit of this rank
-        "storage::grow" => filled(kernels::resize_zeroed(&c.a, x, y)),
+        "storage::zero_words" => filled(kernels::resize_zeroed(&c.a, x, y)),
         _ if y > x => refused(2), // by rule: the Rust has no such test
         _ => Out::default(),
     }

@@ -1,5 +1,3 @@
-pub mod Tables
 pub mod Readings
 pub mod Counts
-pub mod Tests
 pub mod Promises

@@ -2,23 +2,20 @@
 //
 // Every call refuses for the first store and then for the second, and changes nothing. Each kernel takes the words in use of the two bitmaps.
 use pairs::SetOp;
+use storage::Amount;
 use storage::Bitmap;
 use storage::Guard;
-use storage::Number;
 use storage::Truth;
 use word::Word;
 ghost use mathlib.Core.Path.{_≡_};
-ghost use mathlib.Core.Bool.{_&&_, _||_};
-ghost use Prim.Native.Nat.{_+_, _≤_};
-ghost use lib.ListN.{length};
-ghost use Rattle.word.specs.Sets.{xorb};
-ghost use Rattle.storage.specs.Stores.{limit, andNot, size};
+ghost use Rattle.arch.specs.Scans.{countSet};
+ghost use Rattle.pairs.specs.Pairs.{wordsBy};
+ghost use Rattle.pairs.specs.declared.SetOp.the-variants.{And, AndNot, Or, Xor};
 ghost use Rattle.algebra.specs.Algebra.{emptyOf, countOf};
-ghost use Rattle.algebra.specs.Kernels.{made, commonSize, sizeFrom};
 
 // Is every member of the first bitmap one of the second? The empty bitmap's are.
 pub fn is_subset(words: &[u64], b: Bitmap, other: &[u64], o: Bitmap) -> Truth
-    ensures { λ r. ⌜ r ≡ emptyOf andNot (now (words .entry)) b (now (other .entry)) o ⌝ }
+    ensures { λ r. ⌜ r ≡ emptyOf AndNot (now (words .entry)) b (now (other .entry)) o ⌝ }
 {
     let n = b.count;
     let m = o.count;
@@ -31,7 +28,7 @@ pub fn is_subset(words: &[u64], b: Bitmap, other: &[u64], o: Bitmap) -> Truth
 
 // Have the two bitmaps no member in common?
 pub fn is_disjoint(words: &[u64], b: Bitmap, other: &[u64], o: Bitmap) -> Truth
-    ensures { λ r. ⌜ r ≡ emptyOf (λ p q. p && q) (now (words .entry)) b (now (other .entry)) o ⌝ }
+    ensures { λ r. ⌜ r ≡ emptyOf And (now (words .entry)) b (now (other .entry)) o ⌝ }
 {
     let n = b.count;
     let m = o.count;
@@ -42,149 +39,65 @@ pub fn is_disjoint(words: &[u64], b: Bitmap, other: &[u64], o: Bitmap) -> Truth
     Truth::Is(pairs::is_zero(SetOp::And, &words[..n], &other[..m]))
 }
 
-// The set bits of a & b in the words that both have.
-fn common_and(a: &[u64], b: &[u64]) -> usize
-    requires { ⌜ length (now a) ≤ limit ⌝ }
-    ensures { λ r. ⌜ r ≡ commonSize (λ p q. p && q) (now (a .entry)) (now (b .entry)) ⌝ }
+// The set bits that the operation makes, of which the low 64 bits are kept: words within the limit have fewer.
+fn set_bits(op: SetOp, a: &[u64], b: &[u64]) -> usize
+    ensures { λ r. ⌜ r ≡ countSet (wordsBy op (now (a .entry)) (now (b .entry))) ⌝ }
 {
-    let n = word::min(a.len(), b.len());
+    let both = word::min(a.len(), b.len());
     let mut sum: usize = 0;
     let mut k = 0;
-    while k < n {
-        sum = std::num::wrapping_add_usize(sum, Word::count_ones(a[k] & b[k]));
+    while k < both {
+        sum = std::num::wrapping_add_usize(sum, Word::count_ones(op.word(a[k], b[k])));
+        k += 1;
+    }
+    while k < a.len() {
+        sum = std::num::wrapping_add_usize(sum, Word::count_ones(op.word(a[k], 0)));
+        k += 1;
+    }
+    while k < b.len() {
+        sum = std::num::wrapping_add_usize(sum, Word::count_ones(op.word(0, b[k])));
         k += 1;
     }
     sum
 }
 
-// The set bits of a | b in the words that both have.
-fn common_or(a: &[u64], b: &[u64]) -> usize
-    requires { ⌜ length (now a) ≤ limit ⌝ }
-    ensures { λ r. ⌜ r ≡ commonSize (λ p q. p || q) (now (a .entry)) (now (b .entry)) ⌝ }
+// How many members does the operation make of the two bitmaps?
+fn count(op: SetOp, words: &[u64], b: Bitmap, other: &[u64], o: Bitmap) -> Amount
+    ensures { λ r. ⌜ r ≡ countOf op (now (words .entry)) b (now (other .entry)) o ⌝ }
 {
-    let n = word::min(a.len(), b.len());
-    let mut sum: usize = 0;
-    let mut k = 0;
-    while k < n {
-        sum = std::num::wrapping_add_usize(sum, Word::count_ones(a[k] | b[k]));
-        k += 1;
+    let n = b.count;
+    let m = o.count;
+    match storage::check_two(words, b, other, o) {
+        Guard::Stop(e) => return Amount::Refused(e),
+        Guard::Pass => {}
     }
-    sum
-}
-
-// The set bits of a ^ b in the words that both have.
-fn common_xor(a: &[u64], b: &[u64]) -> usize
-    requires { ⌜ length (now a) ≤ limit ⌝ }
-    ensures { λ r. ⌜ r ≡ commonSize xorb (now (a .entry)) (now (b .entry)) ⌝ }
-{
-    let n = word::min(a.len(), b.len());
-    let mut sum: usize = 0;
-    let mut k = 0;
-    while k < n {
-        sum = std::num::wrapping_add_usize(sum, Word::count_ones(a[k] ^ b[k]));
-        k += 1;
-    }
-    sum
-}
-
-// The set bits of a & !b in the words that both have.
-fn common_andnot(a: &[u64], b: &[u64]) -> usize
-    requires { ⌜ length (now a) ≤ limit ⌝ }
-    ensures { λ r. ⌜ r ≡ commonSize andNot (now (a .entry)) (now (b .entry)) ⌝ }
-{
-    let n = word::min(a.len(), b.len());
-    let mut sum: usize = 0;
-    let mut k = 0;
-    while k < n {
-        sum = std::num::wrapping_add_usize(sum, Word::count_ones(a[k] & !b[k]));
-        k += 1;
-    }
-    sum
-}
-
-// The set bits of the words from index k on.
-fn count_from(a: &[u64], k: usize) -> usize
-    requires { ⌜ length (now a) ≤ limit ⌝ }
-    ensures { λ r. ⌜ r ≡ sizeFrom (now (a .entry)) k ⌝ }
-{
-    let from = word::min(k, a.len());
-    arch::count_set_bits(&a[from..])
-}
-
-// The set bits of a | b: a word that only one has passes through.
-fn size_or(a: &[u64], b: &[u64]) -> usize
-    requires { ⌜ length (now a) ≤ limit ⌝ }
-    requires { ⌜ length (now b) ≤ limit ⌝ }
-    ensures { λ r. ⌜ r ≡ size (made (λ p q. p || q) (now (a .entry)) (now (b .entry))) ⌝ }
-{
-    common_or(a, b) + count_from(a, b.len()) + count_from(b, a.len())
-}
-
-// The set bits of a ^ b: a word that only one has passes through.
-fn size_xor(a: &[u64], b: &[u64]) -> usize
-    requires { ⌜ length (now a) ≤ limit ⌝ }
-    requires { ⌜ length (now b) ≤ limit ⌝ }
-    ensures { λ r. ⌜ r ≡ size (made xorb (now (a .entry)) (now (b .entry))) ⌝ }
-{
-    common_xor(a, b) + count_from(a, b.len()) + count_from(b, a.len())
-}
-
-// The set bits of a & !b: a word that only a has passes through.
-fn size_andnot(a: &[u64], b: &[u64]) -> usize
-    requires { ⌜ length (now a) ≤ limit ⌝ }
-    ensures { λ r. ⌜ r ≡ size (made andNot (now (a .entry)) (now (b .entry))) ⌝ }
-{
-    common_andnot(a, b) + count_from(a, b.len())
+    Amount::Is(set_bits(op, &words[..n], &other[..m]))
 }
 
 // How many numbers are in both bitmaps.
-pub fn and_count(words: &[u64], b: Bitmap, other: &[u64], o: Bitmap) -> Number
-    ensures { λ r. ⌜ r ≡ countOf (λ p q. p && q) (now (words .entry)) b (now (other .entry)) o ⌝ }
+pub fn and_count(words: &[u64], b: Bitmap, other: &[u64], o: Bitmap) -> Amount
+    ensures { λ r. ⌜ r ≡ countOf And (now (words .entry)) b (now (other .entry)) o ⌝ }
 {
-    let n = b.count;
-    let m = o.count;
-    match storage::check_two(words, b, other, o) {
-        Guard::Stop(e) => return Number::Refused(e),
-        Guard::Pass => {}
-    }
-    Number::Is(common_and(&words[..n], &other[..m]))
+    count(SetOp::And, words, b, other, o)
 }
 
 // How many numbers are in either bitmap.
-pub fn or_count(words: &[u64], b: Bitmap, other: &[u64], o: Bitmap) -> Number
-    ensures { λ r. ⌜ r ≡ countOf (λ p q. p || q) (now (words .entry)) b (now (other .entry)) o ⌝ }
+pub fn or_count(words: &[u64], b: Bitmap, other: &[u64], o: Bitmap) -> Amount
+    ensures { λ r. ⌜ r ≡ countOf Or (now (words .entry)) b (now (other .entry)) o ⌝ }
 {
-    let n = b.count;
-    let m = o.count;
-    match storage::check_two(words, b, other, o) {
-        Guard::Stop(e) => return Number::Refused(e),
-        Guard::Pass => {}
-    }
-    Number::Is(size_or(&words[..n], &other[..m]))
+    count(SetOp::Or, words, b, other, o)
 }
 
 // How many numbers are in one bitmap and not in both.
-pub fn xor_count(words: &[u64], b: Bitmap, other: &[u64], o: Bitmap) -> Number
-    ensures { λ r. ⌜ r ≡ countOf xorb (now (words .entry)) b (now (other .entry)) o ⌝ }
+pub fn xor_count(words: &[u64], b: Bitmap, other: &[u64], o: Bitmap) -> Amount
+    ensures { λ r. ⌜ r ≡ countOf Xor (now (words .entry)) b (now (other .entry)) o ⌝ }
 {
-    let n = b.count;
-    let m = o.count;
-    match storage::check_two(words, b, other, o) {
-        Guard::Stop(e) => return Number::Refused(e),
-        Guard::Pass => {}
-    }
-    Number::Is(size_xor(&words[..n], &other[..m]))
+    count(SetOp::Xor, words, b, other, o)
 }
 
 // How many numbers are in the first bitmap and not in the second.
-pub fn andnot_count(words: &[u64], b: Bitmap, other: &[u64], o: Bitmap) -> Number
-    ensures { λ r. ⌜ r ≡ countOf andNot (now (words .entry)) b (now (other .entry)) o ⌝ }
+pub fn andnot_count(words: &[u64], b: Bitmap, other: &[u64], o: Bitmap) -> Amount
+    ensures { λ r. ⌜ r ≡ countOf AndNot (now (words .entry)) b (now (other .entry)) o ⌝ }
 {
-    let n = b.count;
-    let m = o.count;
-    match storage::check_two(words, b, other, o) {
-        Guard::Stop(e) => return Number::Refused(e),
-        Guard::Pass => {}
-    }
-    Number::Is(size_andnot(&words[..n], &other[..m]))
+    count(SetOp::AndNot, words, b, other, o)
 }

@@ -10,8 +10,8 @@ use Rattle.storage.specs.declared.Change.{Change}
 use Rattle.storage.specs.declared.Change.the-variants.{Done, Refused}
 use Rattle.storage.specs.declared.Found.{Found}
 use Rattle.storage.specs.declared.Found.the-variants.{At, Nothing, Refused}
-use Rattle.storage.specs.declared.Number.{Number}
-use Rattle.storage.specs.declared.Number.the-variants.{Is, Refused}
+use Rattle.storage.specs.declared.Amount.{Amount}
+use Rattle.storage.specs.declared.Amount.the-variants.{Is, Refused}
 use Rattle.storage.specs.declared.Field.{Field}
 use Rattle.storage.specs.declared.Field.the-variants.{Is, Refused}
 use Rattle.storage.specs.declared.Truth.{Truth}
@@ -22,7 +22,7 @@ use Rattle.sheet.specs.declared.Reading.{Reading}
 use Rattle.sheet.specs.declared.Reading.the-variants.{Done, Refused}
 use Rattle.sheet.specs.declared.Added.{Added}
 use Rattle.sheet.specs.declared.Added.the-variants.{Done, Refused}
-use Rattle.answers.specs.Answers.{ChangeOut, SplitOut, FoundOut, NumberOut, FieldOut, TruthOut, ReadingOut, AddedOut}
+use Rattle.answers.specs.Answers.{ChangeOut, SplitOut, FoundOut, AmountOut, FieldOut, TruthOut, ReadingOut, AddedOut}
 
 -- what crosses, case by case: 0 and what was made or found, or the refusal's number and what a refused call hands out
 pub record Crosses : Type 0 where
@@ -33,8 +33,8 @@ pub record Crosses : Type 0 where
   pub found-at : (p r f v : ℕ) → FoundOut (Found.At p) r f v ↔ ((r ≡ 0) × (f ≡ 1) × (v ≡ p))
   pub found-nothing : (r f v : ℕ) → FoundOut Found.Nothing r f v ↔ ((r ≡ 0) × (f ≡ 0) × (v ≡ 0))
   pub found-refused : (e : Refusal) (r f v : ℕ) → FoundOut (Found.Refused e) r f v ↔ ((r ≡ numberOf e) × (f ≡ 0) × (v ≡ 0))
-  pub number-is : (n r v : ℕ) → NumberOut (Number.Is n) r v ↔ ((r ≡ 0) × (v ≡ n))
-  pub number-refused : (e : Refusal) (r v : ℕ) → NumberOut (Number.Refused e) r v ↔ ((r ≡ numberOf e) × (v ≡ 0))
+  pub amount-is : (n r v : ℕ) → AmountOut (Amount.Is n) r v ↔ ((r ≡ 0) × (v ≡ n))
+  pub amount-refused : (e : Refusal) (r v : ℕ) → AmountOut (Amount.Refused e) r v ↔ ((r ≡ numberOf e) × (v ≡ 0))
   pub field-is : (x r v : ℕ) → FieldOut (Field.Is x) r v ↔ ((r ≡ 0) × (v ≡ x))
   pub field-refused : (e : Refusal) (r v : ℕ) → FieldOut (Field.Refused e) r v ↔ ((r ≡ numberOf e) × (v ≡ 0))
   pub truth-true : (r v : ℕ) → TruthOut (Truth.Is true) r v ↔ ((r ≡ 0) × (v ≡ 1))
@@ -50,7 +50,7 @@ pub record AtMostLast : Type 0 where
   pub change : (a : Change) (r n : ℕ) → ChangeOut a r n → r ≤ lastNumber
   pub split : (a : Split) (r n t : ℕ) → SplitOut a r n t → r ≤ lastNumber
   pub found : (a : Found) (r f v : ℕ) → FoundOut a r f v → r ≤ lastNumber
-  pub number : (a : Number) (r v : ℕ) → NumberOut a r v → r ≤ lastNumber
+  pub amount : (a : Amount) (r v : ℕ) → AmountOut a r v → r ≤ lastNumber
   pub field : (a : Field) (r v : ℕ) → FieldOut a r v → r ≤ lastNumber
   pub truth : (a : Truth) (r v : ℕ) → TruthOut a r v → r ≤ lastNumber
   pub reading : (a : Reading) (r k n : ℕ) → ReadingOut a r k n → r ≤ lastNumber
@@ -60,7 +60,7 @@ pub record AtMostLast : Type 0 where
 pub record RefusedHandsOut : Type 0 where
   pub split : (a : Split) (r n t : ℕ) → SplitOut a r n t → 0 < r → t ≡ 0
   pub found : (a : Found) (r f v : ℕ) → FoundOut a r f v → 0 < r → (f ≡ 0) × (v ≡ 0)
-  pub number : (a : Number) (r v : ℕ) → NumberOut a r v → 0 < r → v ≡ 0
+  pub amount : (a : Amount) (r v : ℕ) → AmountOut a r v → 0 < r → v ≡ 0
   pub field : (a : Field) (r v : ℕ) → FieldOut a r v → 0 < r → v ≡ 0
   pub truth : (a : Truth) (r v : ℕ) → TruthOut a r v → 0 < r → v ≡ 0
   pub reading : (a : Reading) (r k n : ℕ) → ReadingOut a r k n → 0 < r → n ≡ 0

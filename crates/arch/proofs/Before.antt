@@ -12,18 +12,18 @@ use lib.Bits.{bitAnd, bitOr, and-high, or-shifted-r}
 use Rattle.word.specs.Sets.{val}
 use Rattle.word.proofs.Sets.{val-le}
 use Rattle.arch.specs.Select.{byteOf}
-use Rattle.arch.specs.Kernels.{num, upTo, atMost, Room}
-use Rattle.arch.proofs.Digits.{Digits, up, num-byte, byte-num, num-ext, num-lt, num-sub, num-same, num-scale, num-and, num-or, product}
+use Rattle.arch.specs.Kernels.{num, sumBelow, atMost, Room}
+use Rattle.arch.proofs.Digits.{DigitsBelow, up, num-byte, byte-num, num-ext, num-lt, num-sub, num-same, num-scale, num-and, num-or, product}
 
 -- ---- sums
 
-pub upTo-le : (m : ℕ) (f : ℕ → ℕ) (b : ℕ) → ((k : ℕ) → f k ≤ b) → upTo f m ≤ b * m
-unfolding upTo
+pub upTo-le : (m : ℕ) (f : ℕ → ℕ) (b : ℕ) → ((k : ℕ) → f k ≤ b) → sumBelow f m ≤ b * m
+unfolding sumBelow
 upTo-le zero f b h = omega arith
 upTo-le (suc m) f b h = omega (arith, upTo-le m (up f) b (λ k. h (suc k)), h 0, mul-suc b m)
 
-pub upTo-ext : (m : ℕ) (f g : ℕ → ℕ) → ((k : ℕ) → k < m → f k ≡ g k) → upTo f m ≡ upTo g m
-unfolding upTo
+pub upTo-ext : (m : ℕ) (f g : ℕ → ℕ) → ((k : ℕ) → k < m → f k ≡ g k) → sumBelow f m ≡ sumBelow g m
+unfolding sumBelow
 upTo-ext zero f g h = refl
 upTo-ext (suc m) f g h = ap₂ (λ (p q : ℕ). p + q) (h 0 (omega arith)) (upTo-ext m (up f) (up g) (λ k l. h (suc k) (omega arith)))
 
@@ -71,11 +71,11 @@ module _ (c n : ℕ) (hc : c < 2 ^ 64) (room : Room c n) where
       ∙ num-scale 8 128 (atMost c n))
       ∙ shl-shr (num 8 (atMost c n)) 7
 
-  pub before : (bitAnd (raised n - c) 0x8080_8080_8080_8080 / 2 ^ 7 * 0x0101_0101_0101_0101) % 2 ^ 64 / 2 ^ 56 ≡ upTo (atMost c n) 8
+  pub before : (bitAnd (raised n - c) 0x8080_8080_8080_8080 / 2 ^ 7 * 0x0101_0101_0101_0101) % 2 ^ 64 / 2 ^ 56 ≡ sumBelow (atMost c n) 8
   unfolding num byteOf
   before =
-      let f : ℕ → ℕ = λ k. upTo (atMost c n) (suc k) in
-      let h : Digits 255 8 f = λ k l. omega (arith, upTo-le (suc k) (atMost c n) 1 (λ j. val-le (leb (byteOf c j) n))) in
+      let f : ℕ → ℕ = λ k. sumBelow (atMost c n) (suc k) in
+      let h : DigitsBelow 255 8 f = λ k l. omega (arith, upTo-le (suc k) (atMost c n) 1 (λ j. val-le (leb (byteOf c j) n))) in
       ap (λ (y : ℕ). (y * 0x0101_0101_0101_0101) % 2 ^ 64 / 2 ^ 56) tops-is
       ∙ ap (λ (y : ℕ). y / 2 ^ 56) (product 8 (atMost c n) h)
       ∙ sym (shr-mod 8 56 (num-lt 8 f h))
@@ -84,29 +84,29 @@ module _ (c n : ℕ) (hc : c < 2 ^ 64) (room : Room c n) where
 -- ---- the sums grow from one at most n to one above it: how many are at most n is where they pass it
 
 -- e passes n from b to b + 1
-pub record Passes (e : ℕ → ℕ) (n m b : ℕ) : Type 0 where
+pub record SumsPass (e : ℕ → ℕ) (n m b : ℕ) : Type 0 where
   pub within : b < m
   pub from : e b ≤ n
   pub to : n < e (suc b)
 
-none-at : (m : ℕ) (e : ℕ → ℕ) (n : ℕ) → ((k : ℕ) → e k ≤ e (suc k)) → n < e 0 → upTo (λ k. val (leb (e k) n)) m ≡ 0
-unfolding upTo
+none-at : (m : ℕ) (e : ℕ → ℕ) (n : ℕ) → ((k : ℕ) → e k ≤ e (suc k)) → n < e 0 → sumBelow (λ k. val (leb (e k) n)) m ≡ 0
+unfolding sumBelow
 none-at zero e n g h = refl
 none-at (suc m) e n g h =
     ap₂ (λ (t : Bool) (y : ℕ). val t + y) (lt-leb (e 0) n h) (none-at m (up e) n (λ k. g (suc k)) (omega (arith, g 0)))
 
-pub passes : (m : ℕ) (e : ℕ → ℕ) (n : ℕ) → ((k : ℕ) → e k ≤ e (suc k)) → e 0 ≤ n → n < e m → Passes e n m (upTo (λ k. val (leb (e (suc k)) n)) m)
-unfolding upTo
+pub passes : (m : ℕ) (e : ℕ → ℕ) (n : ℕ) → ((k : ℕ) → e k ≤ e (suc k)) → e 0 ≤ n → n < e m → SumsPass e n m (sumBelow (λ k. val (leb (e (suc k)) n)) m)
+unfolding sumBelow
 passes zero e n g l h = absurd (omega arith)
 passes (suc m) e n g l h = go (leb (e 1) n) refl (λ a. passes m (up e) n (λ k. g (suc k)) a h)
   where
     b : ℕ
-    b = upTo (λ k. val (leb (e (suc (suc k))) n)) m
+    b = sumBelow (λ k. val (leb (e (suc (suc k))) n)) m
 
-    go : (t : Bool) → leb (e 1) n ≡ t → (e 1 ≤ n → Passes (up e) n m b) → Passes e n (suc m) (val t + b)
+    go : (t : Bool) → leb (e 1) n ≡ t → (e 1 ≤ n → SumsPass (up e) n m b) → SumsPass e n (suc m) (val t + b)
     go true q ih =
-        let r : Passes (up e) n m b = ih (leb-true (e 1) n q) in
-        subst (Passes e n (suc m)) (sym (one-add b)) (record { within = omega (arith, r .within); from = r .from; to = r .to })
+        let r : SumsPass (up e) n m b = ih (leb-true (e 1) n q) in
+        subst (SumsPass e n (suc m)) (sym (one-add b)) (record { within = omega (arith, r .within); from = r .from; to = r .to })
     go false q ih =
-        subst (Passes e n (suc m)) (sym (zero-add b ∙ none-at m (λ k. e (suc (suc k))) n (λ k. g (suc (suc k))) (omega (arith, leb-false (e 1) n q, g 1))))
+        subst (SumsPass e n (suc m)) (sym (zero-add b ∙ none-at m (λ k. e (suc (suc k))) n (λ k. g (suc (suc k))) (omega (arith, leb-false (e 1) n q, g 1))))
         (record { within = omega arith; from = l; to = leb-false (e 1) n q })

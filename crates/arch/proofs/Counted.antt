@@ -6,11 +6,11 @@ use native.Mathlib.Omega.{arith}
 use lib.Dec.{T, leb, eqb, leb→le, eqb→eq}
 use lib.Bits.{bitAnd, and-block, and-le-r, and-mask, and-zero-r}
 use Rattle.word.specs.Sets.{countBelow}
-use Rattle.word.specs.Bits.{bit}
+use Rattle.word.specs.Places.{bit}
 use Rattle.word.proofs.Cases.{every, every-at}
 use Rattle.arch.specs.Select.{byteOf}
 use Rattle.arch.specs.Kernels.{num, setIn}
-use Rattle.arch.proofs.Digits.{Digits, up, rest, num-byte, byte-le, num-add, num-sub, num-and}
+use Rattle.arch.proofs.Digits.{DigitsBelow, up, rest, num-byte, byte-le, num-add, num-sub, num-and}
 
 -- ---- a test at every byte
 
@@ -53,7 +53,7 @@ module _ (j i b : ℕ) (hb : b < 2 ^ i) (small : b ≤ 255)
   and-own : (a r : ℕ) → r < 2 ^ i → bitAnd (a * 2 ^ i + r) b ≡ bitAnd r b
   and-own a r h = ap (bitAnd (a * 2 ^ i + r)) (omega arith) ∙ and-block i a 0 r b h hb ∙ ap (λ (y : ℕ). y * 2 ^ i + bitAnd r b) (and-zero-r a) ∙ omega arith
 
-  shr-and : (m : ℕ) (f : ℕ → ℕ) → Digits 255 m f → bitAnd (num m f / 2 ^ j) (num m (λ k. b)) ≡ num m (λ k. bitAnd (f k / 2 ^ j) b)
+  shr-and : (m : ℕ) (f : ℕ → ℕ) → DigitsBelow 255 m f → bitAnd (num m f / 2 ^ j) (num m (λ k. b)) ≡ num m (λ k. bitAnd (f k / 2 ^ j) b)
   unfolding num
   shr-and zero f h = and-zero-r (0 / 2 ^ j)
   shr-and (suc m) f h =
@@ -63,10 +63,10 @@ module _ (j i b : ℕ) (hb : b < 2 ^ i) (small : b ≤ 255)
       ∙ and-block 8 (n / 2 ^ j) (num m (λ k. b)) (n % 2 ^ j * 2 ^ i + f 0 / 2 ^ j) b (whole n (f 0) l) (omega arith)
       ∙ ap₂ (λ (y z : ℕ). y * 2 ^ 8 + z) (shr-and m (up f) (rest f h)) (and-own (n % 2 ^ j) (f 0 / 2 ^ j) (part (f 0) l))
 
-shr1-and : (m : ℕ) (f : ℕ → ℕ) → Digits 255 m f → bitAnd (num m f / 2 ^ 1) (num m (λ k. 0x55)) ≡ num m (λ k. bitAnd (f k / 2 ^ 1) 0x55)
+shr1-and : (m : ℕ) (f : ℕ → ℕ) → DigitsBelow 255 m f → bitAnd (num m f / 2 ^ 1) (num m (λ k. 0x55)) ≡ num m (λ k. bitAnd (f k / 2 ^ 1) 0x55)
 shr1-and = shr-and 1 7 0x55 (omega arith) (omega arith) (λ n r. omega arith) (λ r h. omega arith) (λ n r h. omega arith)
 
-shr2-and : (m : ℕ) (f : ℕ → ℕ) → Digits 255 m f → bitAnd (num m f / 2 ^ 2) (num m (λ k. 0x33)) ≡ num m (λ k. bitAnd (f k / 2 ^ 2) 0x33)
+shr2-and : (m : ℕ) (f : ℕ → ℕ) → DigitsBelow 255 m f → bitAnd (num m f / 2 ^ 2) (num m (λ k. 0x33)) ≡ num m (λ k. bitAnd (f k / 2 ^ 2) 0x33)
 shr2-and = shr-and 2 6 0x33 (omega arith) (omega arith) (λ n r. omega arith) (λ r h. omega arith) (λ n r h. omega arith)
 
 -- the two halves of each byte added, where each is at most 4
@@ -94,10 +94,10 @@ num-nibbles (suc m) f h l =
 abbrev pub paired : ℕ → ℕ
 paired x = x - bitAnd (x / 2 ^ 1) 0x5555_5555_5555_5555
 
-abbrev pub added : ℕ → ℕ
-added s = bitAnd s 0x3333_3333_3333_3333 + bitAnd (s / 2 ^ 2) 0x3333_3333_3333_3333
+abbrev pub summed : ℕ → ℕ
+summed s = bitAnd s 0x3333_3333_3333_3333 + bitAnd (s / 2 ^ 2) 0x3333_3333_3333_3333
 
-pub added-le : (s : ℕ) → added s ≤ 0x6666_6666_6666_6666
+pub added-le : (s : ℕ) → summed s ≤ 0x6666_6666_6666_6666
 added-le s = omega (arith, and-le-r s 0x3333_3333_3333_3333, and-le-r (s / 2 ^ 2) 0x3333_3333_3333_3333)
 
 module _ (x : ℕ) (hx : x < 2 ^ 64) where
@@ -124,16 +124,16 @@ module _ (x : ℕ) (hx : x < 2 ^ 64) where
   unfolding twos
   twos-le k = omega (arith, byte-le x k)
 
-  added-is : added (paired x) ≡ num 8 (λ k. fours (byteOf x k))
+  added-is : summed (paired x) ≡ num 8 (λ k. fours (byteOf x k))
   unfolding fours num
   added-is =
-      ap added paired-is
+      ap summed paired-is
       ∙ ap₂ (λ (y z : ℕ). y + z)
       (num-and 8 (λ k. twos (byteOf x k)) (λ k. 0x33) (λ k l. twos-le k) (λ k l. omega arith))
       (shr2-and 8 (λ k. twos (byteOf x k)) (λ k l. twos-le k))
       ∙ num-add 8 (λ k. bitAnd (twos (byteOf x k)) 0x33) (λ k. bitAnd (twos (byteOf x k) / 2 ^ 2) 0x33)
 
-  pub counted : bitAnd (added (paired x) + added (paired x) / 2 ^ 4) 0x0f0f_0f0f_0f0f_0f0f ≡ num 8 (setIn x)
+  pub counted : bitAnd (summed (paired x) + summed (paired x) / 2 ^ 4) 0x0f0f_0f0f_0f0f_0f0f ≡ num 8 (setIn x)
   unfolding num
   counted =
       ap (λ (y : ℕ). bitAnd (y + y / 2 ^ 4) 0x0f0f_0f0f_0f0f_0f0f) added-is

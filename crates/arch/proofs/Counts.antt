@@ -6,7 +6,7 @@ use native.Mathlib.Nat.{mod-add-mod}
 use native.Mathlib.Omega.{arith}
 use lib.ListN.{length, getD}
 use Rattle.word.specs.Sets.{countBelow}
-use Rattle.word.specs.Bits.{bit, member}
+use Rattle.word.specs.Places.{bit, member}
 use Rattle.word.proofs.Sets.{count-add, count-ext}
 use Rattle.arch.specs.Scans.{countSet}
 use Rattle.word.proofs.Lists.{member-at}

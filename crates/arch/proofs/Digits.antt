@@ -7,23 +7,23 @@ use lib.Arith.{digits-mod}
 use lib.Pow.{pow-add, high, low, shr-shr, mod-pow-add}
 use lib.Bits.{bitAnd, bitOr, and-block, or-block}
 use Rattle.arch.specs.Select.{byteOf}
-use Rattle.arch.specs.Kernels.{num, upTo}
+use Rattle.arch.specs.Kernels.{num, sumBelow}
 
 -- f's bytes above the lowest
 abbrev pub up : (ℕ → ℕ) → ℕ → ℕ
 up f k = f (suc k)
 
 -- each of the m bytes is at most b
-abbrev pub Digits : ℕ → ℕ → (ℕ → ℕ) → Type 0
-Digits b m f = (k : ℕ) → k < m → f k ≤ b
+abbrev pub DigitsBelow : ℕ → ℕ → (ℕ → ℕ) → Type 0
+DigitsBelow b m f = (k : ℕ) → k < m → f k ≤ b
 
-pub rest : {b m : ℕ} (f : ℕ → ℕ) → Digits b (suc m) f → Digits b m (up f)
+pub rest : {b m : ℕ} (f : ℕ → ℕ) → DigitsBelow b (suc m) f → DigitsBelow b m (up f)
 rest f h k l = h (suc k) (omega arith)
 
 pub pow8 : (m : ℕ) → 2 ^ (8 * suc m) ≡ 2 ^ (8 * m) * 2 ^ 8
 pow8 m = ap (λ (e : ℕ). 2 ^ e) (mul-suc 8 m) ∙ pow-add 2 (8 * m) 8
 
-pub num-lt : (m : ℕ) (f : ℕ → ℕ) → Digits 255 m f → num m f < 2 ^ (8 * m)
+pub num-lt : (m : ℕ) (f : ℕ → ℕ) → DigitsBelow 255 m f → num m f < 2 ^ (8 * m)
 unfolding num
 num-lt zero f h = omega arith
 num-lt (suc m) f h = omega (arith, num-lt m (up f) (rest f h), h 0 (omega arith), pow8 m)
@@ -45,7 +45,7 @@ pub byte-le : (x k : ℕ) → byteOf x k ≤ 255
 unfolding byteOf
 byte-le x k = omega arith
 
-pub byte-num : (m : ℕ) (f : ℕ → ℕ) → Digits 255 m f → (k : ℕ) → k < m → byteOf (num m f) k ≡ f k
+pub byte-num : (m : ℕ) (f : ℕ → ℕ) → DigitsBelow 255 m f → (k : ℕ) → k < m → byteOf (num m f) k ≡ f k
 unfolding num
 byte-num zero f h k l = absurd (not-suc-le-zero l)
 byte-num (suc m) f h zero l = byte-zero _ ∙ low (num m (up f)) 8 (omega (arith, h 0 l))
@@ -86,17 +86,17 @@ num-same m a = ap (λ (y : ℕ). num m (λ k. y)) (sym (one-mul a)) ∙ num-scal
 
 module _ (op : ℕ → ℕ → ℕ) (none : op 0 0 ≡ 0)
     (block : (k a b r s : ℕ) → r < 2 ^ k → s < 2 ^ k → op (a * 2 ^ k + r) (b * 2 ^ k + s) ≡ op a b * 2 ^ k + op r s) where
-  num-op : (m : ℕ) (f g : ℕ → ℕ) → Digits 255 m f → Digits 255 m g → op (num m f) (num m g) ≡ num m (λ k. op (f k) (g k))
+  num-op : (m : ℕ) (f g : ℕ → ℕ) → DigitsBelow 255 m f → DigitsBelow 255 m g → op (num m f) (num m g) ≡ num m (λ k. op (f k) (g k))
   unfolding num
   num-op zero f g h l = none
   num-op (suc m) f g h l =
       block 8 (num m (up f)) (num m (up g)) (f 0) (g 0) (omega (arith, h 0 (omega arith))) (omega (arith, l 0 (omega arith)))
       ∙ ap (λ (y : ℕ). y * 2 ^ 8 + op (f 0) (g 0)) (num-op m (up f) (up g) (rest f h) (rest g l))
 
-pub num-and : (m : ℕ) (f g : ℕ → ℕ) → Digits 255 m f → Digits 255 m g → bitAnd (num m f) (num m g) ≡ num m (λ k. bitAnd (f k) (g k))
+pub num-and : (m : ℕ) (f g : ℕ → ℕ) → DigitsBelow 255 m f → DigitsBelow 255 m g → bitAnd (num m f) (num m g) ≡ num m (λ k. bitAnd (f k) (g k))
 num-and = num-op bitAnd refl and-block
 
-pub num-or : (m : ℕ) (f g : ℕ → ℕ) → Digits 255 m f → Digits 255 m g → bitOr (num m f) (num m g) ≡ num m (λ k. bitOr (f k) (g k))
+pub num-or : (m : ℕ) (f g : ℕ → ℕ) → DigitsBelow 255 m f → DigitsBelow 255 m g → bitOr (num m f) (num m g) ≡ num m (λ k. bitOr (f k) (g k))
 num-or = num-op bitOr refl or-block
 
 -- ---- the product with 0x0101..: the sums of the bytes up to each
@@ -111,15 +111,15 @@ carry : ℕ → (ℕ → ℕ) → ℕ
 carry zero f = 0
 carry (suc m) f = carry m (up f) + num m (up f)
 
-sums : (m : ℕ) (f : ℕ → ℕ) → num m f * num m (λ k. 1) ≡ carry m f * 2 ^ (8 * m) + num m (λ k. upTo f (suc k))
-unfolding num upTo carry
+sums : (m : ℕ) (f : ℕ → ℕ) → num m f * num m (λ k. 1) ≡ carry m f * 2 ^ (8 * m) + num m (λ k. sumBelow f (suc k))
+unfolding num sumBelow carry
 sums zero f = refl
 sums (suc m) f =
     let N : ℕ = num m (up f) in
     let L : ℕ = num m (λ k. 1) in
     let B : ℕ = 2 ^ (8 * m) in
     let q : ℕ = carry m (up f) in
-    let G : ℕ = num m (λ k. upTo (up f) (suc k)) in
+    let G : ℕ = num m (λ k. sumBelow (up f) (suc k)) in
     let K : ℕ = L * 2 ^ 8 + 1 in
     let ih : N * L ≡ q * B + G = sums m (up f) in
     let top : K ≡ L + B = one-top m in
@@ -128,10 +128,10 @@ sums (suc m) f =
     let e₃ : f 0 * K ≡ f 0 * L * 2 ^ 8 + f 0 = mul-add (f 0) (L * 2 ^ 8) 1 ∙ ap₂ (λ (y z : ℕ). y + z) (sym (mul-assoc (f 0) L (2 ^ 8))) (mul-one (f 0)) in
     let e₄ : (q + N) * 2 ^ (8 * suc m) ≡ q * B * 2 ^ 8 + N * B * 2 ^ 8 =
     ap (λ (y : ℕ). (q + N) * y) (pow8 m) ∙ sym (mul-assoc (q + N) B (2 ^ 8)) ∙ ap (λ (y : ℕ). y * 2 ^ 8) (add-mul q N B) ∙ add-mul (q * B) (N * B) (2 ^ 8) in
-    let e₅ : num m (λ k. f 0 + upTo (up f) (suc k)) ≡ f 0 * L + G =
-    sym (num-add m (λ k. f 0) (λ k. upTo (up f) (suc k)))
+    let e₅ : num m (λ k. f 0 + sumBelow (up f) (suc k)) ≡ f 0 * L + G =
+    sym (num-add m (λ k. f 0) (λ k. sumBelow (up f) (suc k)))
     ∙ ap (λ (y : ℕ). y + G) (num-same m (f 0)) in
     omega arith
 
-pub product : (m : ℕ) (f : ℕ → ℕ) → Digits 255 m (λ k. upTo f (suc k)) → num m f * num m (λ k. 1) % 2 ^ (8 * m) ≡ num m (λ k. upTo f (suc k))
-product m f h = ap (λ (y : ℕ). y % 2 ^ (8 * m)) (sums m f) ∙ digits-mod (carry m f) (num-lt m (λ k. upTo f (suc k)) h)
+pub product : (m : ℕ) (f : ℕ → ℕ) → DigitsBelow 255 m (λ k. sumBelow f (suc k)) → num m f * num m (λ k. 1) % 2 ^ (8 * m) ≡ num m (λ k. sumBelow f (suc k))
+product m f h = ap (λ (y : ℕ). y % 2 ^ (8 * m)) (sums m f) ∙ digits-mod (carry m f) (num-lt m (λ k. sumBelow f (suc k)) h)

@@ -10,23 +10,23 @@ use lib.ListN.{length, getD}
 use lib.Dec.{leb, ltb, eqb}
 use borrow.Author.Tests.{lt-ltb, le-ltb, le-leb, lt-leb, eq-eqb, eqb-true, eqb-false, not-true, not-false}
 use Rattle.word.specs.Sets.{choose, countBelow, leastFrom, topBelow, nth, Least, Counts}
-use Rattle.word.specs.Bits.{bit, member, wordsOf}
+use Rattle.word.specs.Places.{bit, member, wordsOf}
 use Rattle.word.specs.Words.{allOnes}
 use Rattle.word.proofs.Cases.{by-lt, and-false}
-use Rattle.word.proofs.Bits.{bit-zero, no-bits, bits-ext}
+use Rattle.word.proofs.Places.{bit-zero, no-bits, bits-ext}
 use Rattle.word.proofs.Sets.{Nth, count-le, count-add, counts-is, least, top, nth-has, nth-none}
 use Rattle.word.proofs.Lists.{at-place, member-at, member-past, member-words, length-words, length-tab}
 use Rattle.arch.specs.Scans.{Alike, firstOther, wordFound, wordFlag, wordIndex, wordThere, nonzeroLen, isZero, countSet, filled}
 use Rattle.arch.specs.Select.{selectIn, selectTable, byteOf}
-use Rattle.arch.specs.Promises.{FirstOther, FirstNonzeroMeans, FirstNotOnesMeans, NonzeroLenMeans, IsZeroMeans, CountSetBitsMeans}
-use Rattle.arch.specs.Promises.{CountIsWhole, FillWordsMeans, FillRegionMeans, TableRule, SelectsRank, SelectMeans, SelectByMeans}
+use Rattle.arch.specs.Promises.{FirstOther, FirstNonzeroMeans, FirstNotOnesMeans, NonzeroLenMeans, IsZeroMeans, CountSetMeans}
+use Rattle.arch.specs.Promises.{CountIsWhole, FillWordsMeans, FillRegionMeans, TableRule, SelectsRank, SelectWordMeans, SelectByMeans}
 use Rattle.arch.specs.Promises.{SelectPortableMeans}
 use Rattle.arch.specs.declared.FoundWord.{FoundWord}
 use Rattle.arch.specs.declared.FoundWord.the-variants.{At, Nothing}
 use Rattle.arch.proofs.Scans.{nonzero-none, nonzero-le, nonzero-past, nonzero-last}
 use Rattle.arch.proofs.Regions.{length-filled-words, filled-in, filled-below, filled-above}
 use Rattle.arch.proofs.Digits.{byte-le}
-use Rattle.arch.proofs.Table.{table-entry, bit-byte, in-byte, placed, select-none, select-placed, select-by-table}
+use Rattle.arch.proofs.Table.{table-entry, bit-byte, in-byte, placedIn, select-none, select-placed, select-by-table}
 
 -- ---- scans
 
@@ -87,9 +87,9 @@ zero-is-empty ws f = record {
         eqb-true (getD ws k 0) 0
         (not-false (eqb (getD ws k 0) 0) (top s (length ws) .over k (omega (arith, eqb-true (topBelow s (length ws)) 0 e)) l))
 
-pub count-set-bits-means : CountSetBitsMeans
+pub count-set-means : CountSetMeans
 unfolding countSet
-count-set-bits-means ws count c = ap (λ (n : ℕ). n % 2 ^ 64) (sym (counts-is (member ws) count c (64 * length ws)))
+count-set-means ws count c = ap (λ (n : ℕ). n % 2 ^ 64) (sym (counts-is (member ws) count c (64 * length ws)))
 
 pub count-is-whole : CountIsWhole
 unfolding countSet
@@ -131,8 +131,8 @@ selects w out x r count c = record {
     all : count w ≡ countBelow (bit x) w
     all = counts-is (bit x) count c w
 
-pub select-means : SelectMeans
-select-means = selects 64 64
+pub select-word-means : SelectWordMeans
+select-word-means = selects 64 64
 
 pub table-rule : TableRule
 unfolding selectTable
@@ -150,7 +150,7 @@ selects-by table x r count c = record {
       let e : nth (bit x) r 64 64 / 8 ≡ b = in-byte x r _ b n (omega (arith, all (8 * b))) (omega (arith, all (8 * b + 8), ap (countBelow (bit x)) (next b))) in
       let byte : byteOf x b ≡ y = bits-ext 8 (byteOf x b) y (omega (arith, byte-le x b)) small (λ j h. bit-byte x b j h ∙ sym (same j h)) in
       select-placed table x r _ n
-      ∙ ap (placed table x r) e
+      ∙ ap (placedIn table x r) e
       ∙ ap₂ (λ (v k : ℕ). 8 * b + getD table (v * 8 + (r - k)) 0) byte (sym (all (8 * b)));
   none = λ h. select-none table x r (omega (arith, counts-is (bit x) count c 64));
 }
@@ -162,4 +162,4 @@ selects-by table x r count c = record {
     next b = omega arith
 
 pub selects-rank : SelectPortableMeans
-selects-rank x r count c = subst (λ (p : ℕ). SelectsRank 64 64 x r p count) (sym (select-by-table x r)) (select-means x r count c)
+selects-rank x r count c = subst (λ (p : ℕ). SelectsRank 64 64 x r p count) (sym (select-by-table x r)) (select-word-means x r count c)

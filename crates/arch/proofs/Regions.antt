@@ -12,15 +12,15 @@ use lib.Bits.{bitAnd, bitOr, and-lt, or-lt}
 use lib.Pow.{ones-sub-lt}
 use borrow.Author.Tests.{lt-ltb, le-ltb, le-leb, lt-leb}
 use Rattle.word.specs.Sets.{choose}
-use Rattle.word.specs.Bits.{bit, wordOf, member, wordsOf}
+use Rattle.word.specs.Places.{bit, wordOf, member, wordsOf}
 use Rattle.word.specs.Words.{allOnes, lowMask}
 use Rattle.word.proofs.Cases.{by-lt, by-eq, and-false}
-use Rattle.word.proofs.Bits.{bit-and, bit-or, bit-not, bit-ones, bit-zero, bit-pack, pack-lt, pack-is}
+use Rattle.word.proofs.Places.{bit-and, bit-or, bit-not, bit-ones, bit-zero, bit-pack, pack-lt, pack-is}
 use Rattle.word.proofs.Words.{bit-low-mask, low-mask-lt}
 use Rattle.word.proofs.Lists.{Fit, past, length-tab, tab-at, tab-is, member-at}
 use Rattle.word.proofs.Sweep.{Swept, getD-set}
 use Rattle.arch.specs.Scans.{filledWords, filled}
-use Rattle.arch.specs.Kernels.{placesIn, overlaid}
+use Rattle.arch.specs.Kernels.{placesIn, filledPlaces}
 
 -- ---- whole words
 
@@ -98,8 +98,8 @@ places-is from end k lo hi el eh =
     both : (j : ℕ) → ltb j (end - 64 * k) && not (ltb j (from - 64 * k)) ≡ leb from (64 * k + j) && ltb (64 * k + j) end
     both j = ap₂ (λ (s t : Bool). s && t) (upper j) (lower j) ∙ comm (ltb (64 * k + j) end) (leb from (64 * k + j))
 
-pub overlaid-set : (x mask : ℕ) → x < 2 ^ 64 → mask < 2 ^ 64 → bitOr x mask ≡ overlaid x mask true
-unfolding overlaid
+pub overlaid-set : (x mask : ℕ) → x < 2 ^ 64 → mask < 2 ^ 64 → bitOr x mask ≡ filledPlaces x mask true
+unfolding filledPlaces
 overlaid-set x mask hx hm =
     pack-is 64 (bitOr x mask) (λ j. choose (bit mask j) true (bit x j)) (or-lt 64 x mask hx hm) (λ j l. bit-or x mask j ∙ pick (bit x j) (bit mask j))
   where
@@ -109,8 +109,8 @@ overlaid-set x mask hx hm =
     pick false true = refl
     pick false false = refl
 
-pub overlaid-clear : (x mask : ℕ) → x < 2 ^ 64 → mask < 2 ^ 64 → bitAnd x ((2 ^ 64 - 1) - mask) ≡ overlaid x mask false
-unfolding overlaid
+pub overlaid-clear : (x mask : ℕ) → x < 2 ^ 64 → mask < 2 ^ 64 → bitAnd x ((2 ^ 64 - 1) - mask) ≡ filledPlaces x mask false
+unfolding filledPlaces
 overlaid-clear x mask hx hm =
     pack-is 64 (bitAnd x ((2 ^ 64 - 1) - mask)) (λ j. choose (bit mask j) false (bit x j))
     (and-lt 64 x ((2 ^ 64 - 1) - mask) hx (ones-sub-lt 64 mask))
@@ -139,25 +139,25 @@ module _ (from end : ℕ) (v : Bool) (ws : List ℕ) (fit : Fit ws) where
       pack-is 64 x (λ j. choose (leb from (64 * k + j) && ltb (64 * k + j) end) v (member ws (64 * k + j))) h
       (λ j l. f j l ∙ ap (choose (leb from (64 * k + j) && ltb (64 * k + j) end) v) (sym (member-at ws k j l)))
 
-  overlaid-bit : (k x j : ℕ) → j < 64 → bit (overlaid x (placesIn from end k) v) j ≡ choose (leb from (64 * k + j) && ltb (64 * k + j) end) v (bit x j)
-  unfolding overlaid placesIn
+  overlaid-bit : (k x j : ℕ) → j < 64 → bit (filledPlaces x (placesIn from end k) v) j ≡ choose (leb from (64 * k + j) && ltb (64 * k + j) end) v (bit x j)
+  unfolding filledPlaces placesIn
   overlaid-bit k x j l =
       bit-pack 64 (λ j. choose (bit (placesIn from end k) j) v (bit x j)) j l
       ∙ ap (λ (t : Bool). choose t v (bit x j)) (bit-pack 64 (λ j. leb from (64 * k + j) && ltb (64 * k + j) end) j l)
 
-  overlaid-lt : (x mask : ℕ) → overlaid x mask v < 2 ^ 64
-  unfolding overlaid
+  overlaid-lt : (x mask : ℕ) → filledPlaces x mask v < 2 ^ 64
+  unfolding filledPlaces
   overlaid-lt x mask = pack-lt 64 (λ j. choose (bit mask j) v (bit x j))
 
-  edge : (k x : ℕ) → x ≡ getD ws k 0 → overlaid x (placesIn from end k) v ≡ word k
+  edge : (k x : ℕ) → x ≡ getD ws k 0 → filledPlaces x (placesIn from end k) v ≡ word k
   edge k x e =
-      word-is k (overlaid x (placesIn from end k) v) (overlaid-lt x (placesIn from end k))
+      word-is k (filledPlaces x (placesIn from end k) v) (overlaid-lt x (placesIn from end k))
       (λ j l. overlaid-bit k x j l ∙ ap (λ (y : ℕ). choose (leb from (64 * k + j) && ltb (64 * k + j) end) v (bit y j)) e)
 
   -- an edge word may be done twice
-  again : (k x : ℕ) → x ≡ overlaid (getD ws k 0) (placesIn from end k) v → overlaid x (placesIn from end k) v ≡ word k
+  again : (k x : ℕ) → x ≡ filledPlaces (getD ws k 0) (placesIn from end k) v → filledPlaces x (placesIn from end k) v ≡ word k
   again k x e =
-      word-is k (overlaid x (placesIn from end k) v) (overlaid-lt x (placesIn from end k))
+      word-is k (filledPlaces x (placesIn from end k) v) (overlaid-lt x (placesIn from end k))
       (λ j l.
       overlaid-bit k x j l
       ∙ ap (choose (leb from (64 * k + j) && ltb (64 * k + j) end) v) (ap (λ (y : ℕ). bit y j) e ∙ overlaid-bit k (getD ws k 0) j l)
@@ -193,9 +193,9 @@ module _ (from end : ℕ) (v : Bool) (ws : List ℕ) (fit : Fit ws) where
       each false j l = bit-zero j
 
   pub region-is : (w1 w2 w3 : List ℕ)
-      → w1 ≡ set ws (from / 64) (overlaid (getD ws (from / 64) 0) (placesIn from end (from / 64)) v)
+      → w1 ≡ set ws (from / 64) (filledPlaces (getD ws (from / 64) 0) (placesIn from end (from / 64)) v)
       → w2 ≡ filledWords (from / 64 + 1) (end / 64) (choose v allOnes 0) w1
-      → w3 ≡ set w2 (end / 64) (overlaid (getD w2 (end / 64) 0) (placesIn from end (end / 64)) v) → w3 ≡ filled from end v ws
+      → w3 ≡ set w2 (end / 64) (filledPlaces (getD w2 (end / 64) 0) (placesIn from end (end / 64)) v) → w3 ≡ filled from end v ws
   unfolding filled wordsOf word after
   region-is w1 w2 w3 e1 e2 e3 = tab-is (length ws) (wordOf after) w3 (long3 ∙ long2 ∙ long1) at
     where
@@ -206,10 +206,10 @@ module _ (from end : ℕ) (v : Bool) (ws : List ℕ) (fit : Fit ws) where
       last = end / 64
 
       v1 : ℕ
-      v1 = overlaid (getD ws first 0) (placesIn from end first) v
+      v1 = filledPlaces (getD ws first 0) (placesIn from end first) v
 
       v3 : ℕ
-      v3 = overlaid (getD w2 last 0) (placesIn from end last) v
+      v3 = filledPlaces (getD w2 last 0) (placesIn from end last) v
 
       long1 : length w1 ≡ length ws
       long1 = ap length e1 ∙ length-set ws first v1
@@ -237,16 +237,16 @@ module _ (from end : ℕ) (v : Bool) (ws : List ℕ) (fit : Fit ws) where
 
       at-last : (k : ℕ) → k < length ws → k ≡ last → v3 ≡ wordOf after k
       at-last k h e =
-          ap (λ (m : ℕ). overlaid (getD w2 m 0) (placesIn from end m) v) (sym e)
+          ap (λ (m : ℕ). filledPlaces (getD w2 m 0) (placesIn from end m) v) (sym e)
           ∙ by-eq k first
-          (λ q. again k (getD w2 k 0) (two-above k (omega arith) ∙ one-here k h q ∙ ap (λ (m : ℕ). overlaid (getD ws m 0) (placesIn from end m) v) (sym q)))
+          (λ q. again k (getD w2 k 0) (two-above k (omega arith) ∙ one-here k h q ∙ ap (λ (m : ℕ). filledPlaces (getD ws m 0) (placesIn from end m) v) (sym q)))
           (λ q. edge k (getD w2 k 0) (two-above k (omega arith) ∙ one-other k q))
 
       before-last : (k : ℕ) → k < length ws → (k ≡ last → ⊥) → getD w2 k 0 ≡ wordOf after k
       before-last k h n =
           by-lt k (first + 1)
           (λ p. two-below k p ∙ by-eq k first
-          (λ q. one-here k h q ∙ ap (λ (m : ℕ). overlaid (getD ws m 0) (placesIn from end m) v) (sym q) ∙ edge k (getD ws k 0) refl)
+          (λ q. one-here k h q ∙ ap (λ (m : ℕ). filledPlaces (getD ws m 0) (placesIn from end m) v) (sym q) ∙ edge k (getD ws k 0) refl)
           (λ q. one-other k q ∙ outside k (inl (omega arith))))
           (λ p. by-lt k last
           (λ q. two-in k h p q ∙ inside k (omega arith) (omega arith))
@@ -261,11 +261,11 @@ module _ (from end : ℕ) (v : Bool) (ws : List ℕ) (fit : Fit ws) where
 
   -- by masks and a fill that were worked out before
   pub region-by : (w1 w2 w3 : List ℕ) (m1 m3 x : ℕ) → m1 ≡ placesIn from end (from / 64) → x ≡ choose v allOnes 0 → m3 ≡ placesIn from end (end / 64)
-      → w1 ≡ set ws (from / 64) (overlaid (getD ws (from / 64) 0) m1 v)
+      → w1 ≡ set ws (from / 64) (filledPlaces (getD ws (from / 64) 0) m1 v)
       → w2 ≡ filledWords (from / 64 + 1) (end / 64) x w1
-      → w3 ≡ set w2 (end / 64) (overlaid (getD w2 (end / 64) 0) m3 v) → w3 ≡ filled from end v ws
+      → w3 ≡ set w2 (end / 64) (filledPlaces (getD w2 (end / 64) 0) m3 v) → w3 ≡ filled from end v ws
   region-by w1 w2 w3 m1 m3 x p q r e1 e2 e3 =
       region-is w1 w2 w3
-      (e1 ∙ ap (λ (m : ℕ). set ws (from / 64) (overlaid (getD ws (from / 64) 0) m v)) p)
+      (e1 ∙ ap (λ (m : ℕ). set ws (from / 64) (filledPlaces (getD ws (from / 64) 0) m v)) p)
       (e2 ∙ ap (λ (y : ℕ). filledWords (from / 64 + 1) (end / 64) y w1) q)
-      (e3 ∙ ap (λ (m : ℕ). set w2 (end / 64) (overlaid (getD w2 (end / 64) 0) m v)) r)
+      (e3 ∙ ap (λ (m : ℕ). set w2 (end / 64) (filledPlaces (getD w2 (end / 64) 0) m v)) r)

@@ -9,9 +9,9 @@ use lib.Dec.{ltb}
 use lib.Arith.{digits-div, digits-mod}
 use lib.ListN.{getD}
 use Rattle.word.specs.Sets.{choose, countBelow, nth}
-use Rattle.word.specs.Bits.{bit}
+use Rattle.word.specs.Places.{bit}
 use Rattle.word.proofs.Cases.{by-lt}
-use Rattle.word.proofs.Bits.{bit-mod, bit-shr}
+use Rattle.word.proofs.Places.{bit-mod, bit-shr}
 use Rattle.word.proofs.Sets.{Nth, count-le, count-ext, count-add, count-more, nth-is, nth-none, nth-has}
 use Rattle.word.proofs.Lists.{tab-at}
 use Rattle.arch.specs.Select.{selectIn, selectTable, byteOf, selectBy}
@@ -49,21 +49,21 @@ in-byte x r p b n from to =
 -- ---- the choice
 
 -- the place that the table gives in byte b
-abbrev pub placed : List ℕ → ℕ → ℕ → ℕ → ℕ
-placed table x r b = 8 * b + getD table (byteOf x b * 8 + (r - countBelow (bit x) (8 * b))) 0
+abbrev pub placedIn : List ℕ → ℕ → ℕ → ℕ → ℕ
+placedIn table x r b = 8 * b + getD table (byteOf x b * 8 + (r - countBelow (bit x) (8 * b))) 0
 
 pub select-none : (table : List ℕ) (x r : ℕ) → countBelow (bit x) 64 ≤ r → selectBy table x r ≡ 64
 unfolding selectBy
-select-none table x r h = ap (λ (p : ℕ). choose (ltb p 64) (placed table x r (p / 8)) 64) (nth-none (bit x) r 64 64 h)
+select-none table x r h = ap (λ (p : ℕ). choose (ltb p 64) (placedIn table x r (p / 8)) 64) (nth-none (bit x) r 64 64 h)
 
-pub select-placed : (table : List ℕ) (x r p : ℕ) → Nth (bit x) r 64 p → selectBy table x r ≡ placed table x r (p / 8)
+pub select-placed : (table : List ℕ) (x r p : ℕ) → Nth (bit x) r 64 p → selectBy table x r ≡ placedIn table x r (p / 8)
 unfolding selectBy
 select-placed table x r p n =
-    ap (λ (q : ℕ). choose (ltb q 64) (placed table x r (q / 8)) 64) (nth-is (bit x) r 64 64 p n)
-    ∙ ap (λ (t : Bool). choose t (placed table x r (p / 8)) 64) (lt-ltb p 64 (n .within))
+    ap (λ (q : ℕ). choose (ltb q 64) (placedIn table x r (q / 8)) 64) (nth-is (bit x) r 64 64 p n)
+    ∙ ap (λ (t : Bool). choose t (placedIn table x r (p / 8)) 64) (lt-ltb p 64 (n .within))
 
 -- by the table of the rule it is the bit's own place
-placed-is : (x r p : ℕ) → Nth (bit x) r 64 p → placed selectTable x r (p / 8) ≡ p
+placed-is : (x r p : ℕ) → Nth (bit x) r 64 p → placedIn selectTable x r (p / 8) ≡ p
 placed-is x r p n =
     let b : ℕ = p / 8 in
     let j : ℕ = p % 8 in

@@ -3,7 +3,7 @@ use Prim.Native.Nat.{ℕ, zero, suc, _+_, _*_, _^_, _≤_, _<_}
 use mathlib.Core.Bool.{Bool, _&&_}
 use lib.Dec.{ltb, leb}
 use Rattle.word.specs.Sets.{choose, val, countBelow}
-use Rattle.word.specs.Bits.{bit, pack}
+use Rattle.word.specs.Places.{bit, pack}
 use Rattle.arch.specs.Select.{byteOf}
 
 -- the places of a word that lie from `from` on, below `end`, where the word is word k
@@ -11,8 +11,8 @@ unfoldable pub placesIn : ℕ → ℕ → ℕ → ℕ
 placesIn from end k = pack 64 (λ j. leb from (64 * k + j) && ltb (64 * k + j) end)
 
 -- the word x with v at the places of the mask
-unfoldable pub overlaid : ℕ → ℕ → Bool → ℕ
-overlaid x mask v = pack 64 (λ j. choose (bit mask j) v (bit x j))
+unfoldable pub filledPlaces : ℕ → ℕ → Bool → ℕ
+filledPlaces x mask v = pack 64 (λ j. choose (bit mask j) v (bit x j))
 
 -- the number of m bytes whose byte k is f k
 unfoldable pub num : ℕ → (ℕ → ℕ) → ℕ
@@ -20,9 +20,9 @@ num zero f = 0
 num (suc m) f = num m (λ k. f (suc k)) * 2 ^ 8 + f 0
 
 -- the sum of f at the numbers below k
-unfoldable pub upTo : (ℕ → ℕ) → ℕ → ℕ
-upTo f zero = 0
-upTo f (suc k) = f 0 + upTo (λ j. f (suc j)) k
+unfoldable pub sumBelow : (ℕ → ℕ) → ℕ → ℕ
+sumBelow f zero = 0
+sumBelow f (suc k) = f 0 + sumBelow (λ j. f (suc j)) k
 
 -- how many bits of byte k are set
 abbrev pub setIn : ℕ → ℕ → ℕ

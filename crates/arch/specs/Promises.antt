@@ -6,7 +6,7 @@ use mathlib.Core.List.{List}
 use mathlib.Core.Logic.{_⊎_}
 use lib.ListN.{length, getD}
 use Rattle.word.specs.Sets.{countBelow, nth, Counts}
-use Rattle.word.specs.Bits.{bit, member}
+use Rattle.word.specs.Places.{bit, member}
 use Rattle.word.specs.Words.{allOnes}
 use Rattle.arch.specs.Scans.{Alike, firstOther, wordFound, wordFlag, wordIndex, wordThere, nonzeroLen, isZero, countSet, filledWords, filled}
 use Rattle.arch.specs.Select.{selectTable, selectBy}
@@ -48,8 +48,8 @@ abbrev pub IsZeroMeans : Type 0
 IsZeroMeans = (ws : List ℕ) → ((k : ℕ) → getD ws k 0 < 2 ^ 64) → ZeroIsEmpty ws
 
 -- `count_set_bits`: the 64 low digits of what any counting of the members comes to
-abbrev pub CountSetBitsMeans : Type 0
-CountSetBitsMeans = (ws : List ℕ) (count : ℕ → ℕ) → Counts (member ws) count → countSet ws ≡ count (64 * length ws) % 2 ^ 64
+abbrev pub CountSetMeans : Type 0
+CountSetMeans = (ws : List ℕ) (count : ℕ → ℕ) → Counts (member ws) count → countSet ws ≡ count (64 * length ws) % 2 ^ 64
 
 -- the members counted, all of them where they fit the answer
 abbrev pub CountIsWhole : Type 0
@@ -83,8 +83,8 @@ pub record SelectsRank (w out x r p : ℕ) (count : ℕ → ℕ) : Type 0 where
   pub none : count w ≤ r → p ≡ out
 
 -- `select_u64`: 64 if there is none
-abbrev pub SelectMeans : Type 0
-SelectMeans = (x r : ℕ) (count : ℕ → ℕ) → Counts (bit x) count → SelectsRank 64 64 x r (nth (bit x) r 64 64) count
+abbrev pub SelectWordMeans : Type 0
+SelectWordMeans = (x r : ℕ) (count : ℕ → ℕ) → Counts (bit x) count → SelectsRank 64 64 x r (nth (bit x) r 64 64) count
 
 -- 01: "the place of the rank-th one in a byte, 0 if none", at each of the 2,048 entries
 pub record TableRule : Type 0 where

@@ -6,7 +6,7 @@ use mathlib.Core.List.{List}
 use lib.ListN.{length, getD}
 use lib.Dec.{eqb, ltb, leb}
 use Rattle.word.specs.Sets.{choose, countBelow, leastFrom, topBelow}
-use Rattle.word.specs.Bits.{member, tabFrom, wordsOf}
+use Rattle.word.specs.Places.{member, tabFrom, wordsOf}
 use Rattle.arch.specs.declared.FoundWord.{FoundWord}
 use Rattle.arch.specs.declared.FoundWord.the-variants.{At, Nothing}
 

@@ -4,7 +4,7 @@ use mathlib.Core.List.{List}
 use lib.ListN.{getD}
 use lib.Dec.{ltb}
 use Rattle.word.specs.Sets.{choose, countBelow, nth}
-use Rattle.word.specs.Bits.{bit, tabFrom}
+use Rattle.word.specs.Places.{bit, tabFrom}
 
 -- 01: "the place of the rank-th one in a byte, 0 if none"
 abbrev pub selectIn : ℕ → ℕ → ℕ

@@ -10,7 +10,7 @@ ghost use lib.ListN.{length, getD, set};
 ghost use Rattle.word.specs.Sets.{choose};
 ghost use Rattle.word.specs.Words.{allOnes};
 ghost use Rattle.arch.specs.Scans.{Alike, firstOther, wordFound, nonzeroLen, isZero, countSet, filledWords, filled};
-ghost use Rattle.arch.specs.Kernels.{placesIn, overlaid};
+ghost use Rattle.arch.specs.Kernels.{placesIn, filledPlaces};
 
 // A word found in a slice, with its index.
 pub enum FoundWord {
@@ -171,7 +171,7 @@ fn places(from: usize, end: usize, k: usize) -> u64
 
 // Word k with `value` at the places of the mask, if the word is there.
 fn overlay(words: &mut [u64], k: usize, mask: u64, value: bool)
-    ensures { λ r. ⌜ now (words .exit) ≡ set (now (words .entry)) k (overlaid (getD (now (words .entry)) k 0) mask value) ⌝ }
+    ensures { λ r. ⌜ now (words .exit) ≡ set (now (words .entry)) k (filledPlaces (getD (now (words .entry)) k 0) mask value) ⌝ }
 {
     if k >= words.len() {
         return;

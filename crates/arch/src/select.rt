@@ -3,9 +3,9 @@ use word::Word;
 ghost use mathlib.Core.Path.{_≡_};
 ghost use Prim.Native.Nat.{_<_};
 ghost use Rattle.word.specs.Sets.{countBelow, nth};
-ghost use Rattle.word.specs.Bits.{bit};
+ghost use Rattle.word.specs.Places.{bit};
 ghost use Rattle.arch.specs.Select.{selectBy};
-ghost use Rattle.arch.specs.Kernels.{num, upTo, setIn, atMost, Room};
+ghost use Rattle.arch.specs.Kernels.{num, sumBelow, setIn, atMost, Room};
 
 // The lowest bit of each byte.
 const L8: u64 = 0x0101_0101_0101_0101;
@@ -92,7 +92,7 @@ fn byte_counts(x: u64) -> u64
 // How many bytes of `cumulative` are at most n.
 fn bytes_before(cumulative: u64, n: usize) -> usize
     requires { ⌜ Room cumulative n ⌝ }
-    ensures { λ r. ⌜ r ≡ upTo (atMost cumulative n) 8 ⌝ }
+    ensures { λ r. ⌜ r ≡ sumBelow (atMost cumulative n) 8 ⌝ }
 {
     let before = (((n as u64 * L8) | H8) - cumulative) & H8;
     (Word::wrapping_mul(before >> 7, L8) >> 56) as usize

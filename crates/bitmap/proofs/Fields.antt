@@ -11,10 +11,10 @@ use lib.Pow.{pow-pos}
 use lib.Dec.{leb, ltb, eqb}
 use borrow.Author.Tests.{lt-ltb, le-ltb, le-leb, lt-leb, eq-eqb, ne-eqb}
 use Rattle.word.specs.Sets.{choose, leastFrom}
-use Rattle.word.specs.Bits.{bit}
+use Rattle.word.specs.Places.{bit}
 use Rattle.word.specs.Words.{lowMask}
 use Rattle.word.proofs.Cases.{by-lt, by-eq}
-use Rattle.word.proofs.Bits.{bit-mod, bit-zero, pack-bit, no-bits}
+use Rattle.word.proofs.Places.{bit-mod, bit-zero, pack-bit, no-bits}
 use Rattle.word.proofs.Sets.{least}
 use Rattle.word.proofs.Words.{least-bit}
 use Rattle.storage.specs.Stores.{Bits, Outcome, refused, done, withCount, view, held, within, inRegion, passes, zeroed, answer, store, outcome, Changes}
@@ -27,7 +27,7 @@ use Rattle.storage.proofs.Checks.{within-ok, within-no}
 use Rattle.storage.proofs.Views.{view-in}
 use Rattle.storage.proofs.Stores.{Stored, written-stored, outcome-ok, changes-done, changes-refused, changes-same}
 use Rattle.storage.proofs.Grown.{passed-grown, grown-long, grown-kept, grown-at}
-use Rattle.slice.specs.Slices.{withField, fieldSetting}
+use Rattle.slice.specs.Slices.{withField, settingFieldInside}
 use Rattle.slice.proofs.Fields.{low-digits}
 use Rattle.slice.proofs.Stricts.{setting-in}
 use Rattle.bitmap.specs.Bitmaps.{settingRegion, settingField}
@@ -112,7 +112,7 @@ module _ (i value width c : ℕ) (b : Bits) where
 
 -- a strict field that was done, by its words
 strict-done : (z ws' : List ℕ) (b : Bitmap) (i value width : ℕ) (r : Change) → Passed z b → 0 < width → width ≤ 64 → i + width ≤ 64 * b .count
-    → Changes (fieldSetting i value width) z b r ws' → (r ≡ Done b) × Stored z (b .count) (withField i value width (held z b)) ws'
+    → Changes (settingFieldInside i value width) z b r ws' → (r ≡ Done b) × Stored z (b .count) (withField i value width (held z b)) ws'
 unfolding answer store withField view
 strict-done z ws' b i value width r p pos wide end l = (
   l .answers ∙ ap (λ (o : Outcome). answer o b) e,
@@ -122,8 +122,8 @@ strict-done z ws' b i value width r p pos wide end l = (
     s : Bits
     s = withField i value width (held z b)
 
-    e : outcome (fieldSetting i value width) z b ≡ done s
-    e = outcome-ok (fieldSetting i value width) z b p ∙ setting-in z b i value width p pos wide end
+    e : outcome (settingFieldInside i value width) z b ≡ done s
+    e = outcome-ok (settingFieldInside i value width) z b p ∙ setting-in z b i value width p pos wide end
 
 module _ (ws : List ℕ) (b : Bitmap) (i value width : ℕ) (p : Passed ws b) where
   pub wide-changes : 64 < width → Changes (settingField i value width) ws b (Refused WidthOver b) ws
@@ -148,7 +148,7 @@ module _ (ws : List ℕ) (b : Bitmap) (i value width : ℕ) (p : Passed ws b) wh
           (field-some i value width (length ws) (view ws (b .count)) d (omega (arith, d .pos)) ∙ within-no (length ws) _ (omega (arith, d .pos)))
 
       pub grown-changes : (z ws' : List ℕ) (m : ℕ) (r : Change) → w < length ws → z ≡ zeroed (b .count) (w + 1) ws → m ≡ max (b .count) (w + 1)
-          → Changes (fieldSetting i value width) z (withCount b m) r ws' → Changes (settingField i value width) ws b r ws'
+          → Changes (settingFieldInside i value width) z (withCount b m) r ws' → Changes (settingField i value width) ws b r ws'
       unfolding withField view
       grown-changes z ws' m r h ez em l =
           subst (λ (x : Change). Changes (settingField i value width) ws b x ws') (sym (t .0))

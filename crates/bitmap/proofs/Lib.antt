@@ -3,6 +3,6 @@ pub mod Many
 pub mod Tidies
 pub mod Regions
 pub mod Fields
-pub mod Sounds
+pub mod Contained
 pub mod Promises
 pub mod Once

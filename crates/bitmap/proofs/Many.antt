@@ -10,10 +10,10 @@ use lib.Seq.{getD-set-other}
 use lib.Dec.{eqb}
 use lib.Bits.{bitOr, or-lt}
 use borrow.Author.Tests.{eq-eqb, ne-eqb}
-use Rattle.word.specs.Bits.{bit}
+use Rattle.word.specs.Places.{bit}
 use Rattle.word.specs.Words.{single}
 use Rattle.word.proofs.Cases.{by-lt, by-eq, eqb-same, or-false, or-true}
-use Rattle.word.proofs.Bits.{bit-or}
+use Rattle.word.proofs.Places.{bit-or}
 use Rattle.word.proofs.Words.{bit-single, single-lt}
 use Rattle.word.proofs.Lists.{Fit}
 use Rattle.word.proofs.Sweep.{getD-set}
@@ -25,8 +25,8 @@ use Rattle.storage.specs.declared.Change.the-variants.{Done, Refused}
 use Rattle.storage.proofs.Checks.{within-ok, within-no}
 use Rattle.storage.proofs.Views.{view-count}
 use Rattle.storage.proofs.Stores.{changes-done, changes-refused, length-zeroed, zeroed-out, zeroed-fit, grown-bit}
-use Rattle.bitmap.specs.Bitmaps.{listed, reachOf, settingMany}
-use Rattle.bitmap.specs.Kernels.{Listed}
+use Rattle.bitmap.specs.Bitmaps.{isListed, reachOf, settingMany}
+use Rattle.bitmap.specs.Kernels.{SetsListed}
 
 -- ---- one more of the list
 
@@ -34,11 +34,11 @@ or-assoc : (x y z : Bool) → x || (y || z) ≡ (x || y) || z
 or-assoc true y z = refl
 or-assoc false y z = refl
 
-listed-more : (is : List ℕ) (t j : ℕ) → t < length is → listed (take (suc t) is) j ≡ listed (take t is) j || eqb j (getD is t 0)
-unfolding listed
+listed-more : (is : List ℕ) (t j : ℕ) → t < length is → isListed (take (suc t) is) j ≡ isListed (take t is) j || eqb j (getD is t 0)
+unfolding isListed
 listed-more [] t j h = absurd (omega arith)
 listed-more (i ∷ is) zero j h = or-false (eqb j i)
-listed-more (i ∷ is) (suc t) j h = ap (λ (x : Bool). eqb j i || x) (listed-more is t j (omega arith)) ∙ or-assoc (eqb j i) (listed (take t is) j) (eqb j (getD is t 0))
+listed-more (i ∷ is) (suc t) j h = ap (λ (x : Bool). eqb j i || x) (listed-more is t j (omega arith)) ∙ or-assoc (eqb j i) (isListed (take t is) j) (eqb j (getD is t 0))
 
 reach-more : (is : List ℕ) (t : ℕ) → t < length is → reachOf (take (suc t) is) ≡ max (reachOf (take t is)) (getD is t 0 / 64 + 1)
 unfolding reachOf
@@ -73,18 +73,18 @@ reach-who (i ∷ is) c h =
 pub reach-under : (is : List ℕ) (n : ℕ) → ((t : ℕ) → t < length is → getD is t 0 / 64 < n) → reachOf is ≤ n
 reach-under is n h = by-lt n (reachOf is) (λ l. let r = reach-who is n l in absurd (omega (arith, h (r .0) (r .1 .0), r .1 .1))) (λ l. l)
 
-pub listed-at : (is : List ℕ) (t : ℕ) → t < length is → listed is (getD is t 0) ≡ true
-unfolding listed
+pub listed-at : (is : List ℕ) (t : ℕ) → t < length is → isListed is (getD is t 0) ≡ true
+unfolding isListed
 listed-at [] t h = absurd (omega arith)
-listed-at (i ∷ is) zero h = ap (λ (x : Bool). x || listed is i) (eq-eqb i i refl)
+listed-at (i ∷ is) zero h = ap (λ (x : Bool). x || isListed is i) (eq-eqb i i refl)
 listed-at (i ∷ is) (suc t) h = ap (λ (x : Bool). eqb (getD is t 0) i || x) (listed-at is t (omega arith)) ∙ or-true (eqb (getD is t 0) i)
 
-pub listed-who : (is : List ℕ) (j : ℕ) → listed is j ≡ true → (t : ℕ) × ((t < length is) × (getD is t 0 ≡ j))
-unfolding listed
+pub listed-who : (is : List ℕ) (j : ℕ) → isListed is j ≡ true → (t : ℕ) × ((t < length is) × (getD is t 0 ≡ j))
+unfolding isListed
 listed-who [] j h = absurd (false≢true h)
 listed-who (i ∷ is) j h =
     by-eq j i (λ e. (zero, (omega arith, sym e)))
-    (λ n. let r = listed-who is j (sym (ap (λ (x : Bool). x || listed is j) (ne-eqb j i n)) ∙ h) in (suc (r .0), (omega (arith, r .1 .0), r .1 .1)))
+    (λ n. let r = listed-who is j (sym (ap (λ (x : Bool). x || isListed is j) (ne-eqb j i n)) ∙ h) in (suc (r .0), (omega (arith, r .1 .0), r .1 .1)))
 
 pub take-all : (is : List ℕ) (t : ℕ) → length is ≤ t → take t is ≡ is
 take-all [] zero h = refl
@@ -92,15 +92,15 @@ take-all [] (suc t) h = refl
 take-all (i ∷ is) zero h = absurd (omega arith)
 take-all (i ∷ is) (suc t) h = ap (λ (l : List ℕ). i ∷ l) (take-all is t (omega arith))
 
-pub listed-none : (ws is : List ℕ) → Listed ws (take 0 is) ws
-unfolding listed
+pub listed-none : (ws is : List ℕ) → SetsListed ws (take 0 is) ws
+unfolding isListed
 listed-none ws is = record { long = refl; fits = λ k h. h; bits = λ k j l. sym (or-false (bit (getD ws k 0) j)); above = λ k h. refl }
 
-pub listed-next : (ws is ws' : List ℕ) (t x : ℕ) → Listed ws (take t is) ws' → t < length is → getD is t 0 / 64 < length ws → x ≡ single 64 (getD is t 0 % 64)
-    → Listed ws (take (t + 1) is) (set ws' (getD is t 0 / 64) (bitOr (getD ws' (getD is t 0 / 64) 0) x))
+pub listed-next : (ws is ws' : List ℕ) (t x : ℕ) → SetsListed ws (take t is) ws' → t < length is → getD is t 0 / 64 < length ws → x ≡ single 64 (getD is t 0 % 64)
+    → SetsListed ws (take (t + 1) is) (set ws' (getD is t 0 / 64) (bitOr (getD ws' (getD is t 0 / 64) 0) x))
 listed-next ws is ws' t x s h room ex =
     let e : suc t ≡ t + 1 = omega arith in
-    subst (λ (m : ℕ). Listed ws (take m is) (set ws' k v)) e
+    subst (λ (m : ℕ). SetsListed ws (take m is) (set ws' k v)) e
     (record {
       long = length-set ws' k v ∙ s .long;
       fits = λ m f. by-eq m k
@@ -127,12 +127,12 @@ listed-next ws is ws' t x s h room ex =
     past : (m : ℕ) → reachOf (take (suc t) is) ≤ m → getD (set ws' k v) m 0 ≡ getD ws m 0
     past m a = getD-set-other ws' k m v 0 (omega (arith, reach-more is t h)) ∙ s .above m (omega (arith, reach-more is t h))
 
-    or-back : (m j : ℕ) → (bit (getD ws m 0) j || listed (take t is) (64 * m + j)) || eqb (64 * m + j) i ≡ bit (getD ws m 0) j || listed (take (suc t) is) (64 * m + j)
+    or-back : (m j : ℕ) → (bit (getD ws m 0) j || isListed (take t is) (64 * m + j)) || eqb (64 * m + j) i ≡ bit (getD ws m 0) j || isListed (take (suc t) is) (64 * m + j)
     or-back m j =
-        sym (or-assoc (bit (getD ws m 0) j) (listed (take t is) (64 * m + j)) (eqb (64 * m + j) i))
+        sym (or-assoc (bit (getD ws m 0) j) (isListed (take t is) (64 * m + j)) (eqb (64 * m + j) i))
         ∙ ap (λ (y : Bool). bit (getD ws m 0) j || y) (sym (listed-more is t (64 * m + j) h))
 
-    place : (m j : ℕ) → j < 64 → bit (getD (set ws' k v) m 0) j ≡ (bit (getD ws m 0) j || listed (take t is) (64 * m + j)) || eqb (64 * m + j) i
+    place : (m j : ℕ) → j < 64 → bit (getD (set ws' k v) m 0) j ≡ (bit (getD ws m 0) j || isListed (take t is) (64 * m + j)) || eqb (64 * m + j) i
     place m j l =
         by-eq m k
         (λ e.
@@ -141,8 +141,8 @@ listed-next ws is ws' t x s h room ex =
         (ap (λ (y : ℕ). bit y j) ex ∙ bit-single 64 (i % 64) j l ∙ eqb-same j (i % 64) (64 * m + j) i (λ q. omega arith) (λ q. omega arith)))
         (λ e.
         ap (λ (y : ℕ). bit y j) (getD-set-other ws' k m v 0 e) ∙ s .bits m j l
-        ∙ sym (ap (λ (y : Bool). (bit (getD ws m 0) j || listed (take t is) (64 * m + j)) || y) (ne-eqb (64 * m + j) i (omega arith)) ∙ or-false
-        (bit (getD ws m 0) j || listed (take t is) (64 * m + j))))
+        ∙ sym (ap (λ (y : Bool). (bit (getD ws m 0) j || isListed (take t is) (64 * m + j)) || y) (ne-eqb (64 * m + j) i (omega arith)) ∙ or-false
+        (bit (getD ws m 0) j || isListed (take t is) (64 * m + j))))
 
 -- ---- the call
 
@@ -151,7 +151,7 @@ module _ (ws is : List ℕ) (b : Bitmap) (f : Fit ws) (p : Passed ws b) where
   unfolding settingMany
   many-refused h = changes-refused (settingMany is) ws b NoSpace p (within-no (length ws) _ (omega arith))
 
-  pub many-changes : (z ws' : List ℕ) (e r : ℕ) → e ≡ reachOf is → e ≤ length ws → z ≡ zeroed (b .count) e ws → Listed z is ws' → r ≡ max (b .count) e
+  pub many-changes : (z ws' : List ℕ) (e r : ℕ) → e ≡ reachOf is → e ≤ length ws → z ≡ zeroed (b .count) e ws → SetsListed z is ws' → r ≡ max (b .count) e
       → Changes (settingMany is) ws b (Done (withCount b r)) ws'
   unfolding settingMany
   many-changes z ws' e r ee h ez t er =
@@ -161,7 +161,7 @@ module _ (ws is : List ℕ) (b : Bitmap) (f : Fit ws) (p : Passed ws b) where
         fits = λ k a. t .fits k (subst Fit (sym ez) (zeroed-fit n e ws f) k);
         used = λ k j a l.
             t .bits k j l
-            ∙ ap (λ (y : Bool). y || listed is (64 * k + j))
+            ∙ ap (λ (y : Bool). y || isListed is (64 * k + j))
             (ap (λ (y : List ℕ). bit (getD y k 0) j) ez
             ∙ by-lt k n (λ q. grown-bit ws n e k j (inl q) l) (λ q. grown-bit ws n e k j (inr (omega (arith, view-count ws n))) l));
         dropped = λ k a q. absurd (omega (arith, view-count ws n));
@@ -175,4 +175,4 @@ module _ (ws is : List ℕ) (b : Bitmap) (f : Fit ws) (p : Passed ws b) where
       n = b .count
 
       s : Bits
-      s = record { members = λ j. view ws n .members j || listed is j; count = max (view ws n .count) (reachOf is) }
+      s = record { members = λ j. view ws n .members j || isListed is j; count = max (view ws n .count) (reachOf is) }

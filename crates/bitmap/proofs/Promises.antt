@@ -8,7 +8,7 @@ use lib.ListN.{getD}
 use lib.Dec.{ltb, leb, eqb}
 use borrow.Author.Tests.{lt-ltb, le-ltb, le-leb, lt-leb, eq-eqb, ne-eqb}
 use Rattle.word.specs.Sets.{choose, xorb}
-use Rattle.word.specs.Bits.{bit, wordOf}
+use Rattle.word.specs.Places.{bit, wordOf}
 use Rattle.word.proofs.Cases.{by-lt, by-eq, by-test, or-false, and-false, and-keep, or-true, xor-true, xor-false}
 use Rattle.word.proofs.Lists.{word-none, word-zero}
 use Rattle.storage.specs.Refusals.{numberOf}
@@ -17,11 +17,11 @@ use Rattle.storage.specs.Promises.{LeastCount}
 use Rattle.storage.proofs.Checks.{within-done}
 use Rattle.storage.proofs.Outcomes.{same, never, which, lacks, meets-nothing}
 use Rattle.storage.proofs.Promises.{least-count}
-use Rattle.bitmap.specs.Bitmaps.{trimming, setting, without, unsetting, listed, reachOf, settingMany, settingRegion, settingField, tidied, alone, keepingBit, droppingBit, flippingBit}
+use Rattle.bitmap.specs.Bitmaps.{trimming, setting, without, unsetting, isListed, reachOf, settingMany, settingRegion, settingField, tidied, alone, keepingBit, droppingBit, flippingBit}
 use Rattle.bitmap.specs.Promises.{WithBit, WithListed, WithoutBit, Fewest, WithRegion, WithField, Tidied, Tidies, FlippedBit, Sets, SetsMany}
-use Rattle.bitmap.specs.Promises.{Unsets, Trims, Regions, RegionUnchanged, FieldsSet, FieldUnchanged, KeepsBit, DropsBit, FlipsBit}
+use Rattle.bitmap.specs.Promises.{Unsets, Trims, Regions, SetsNoRegion, FieldsSet, FieldUnchanged, KeepsBit, DropsBit, FlipsBit}
 use Rattle.bitmap.proofs.Many.{reach-in, reach-who, reach-under, listed-at, listed-who}
-use Rattle.bitmap.proofs.Sounds.{setting-sound, many-sound, unsetting-sound, trimming-sound, region-sound, field-sound, keeping-sound, dropping-sound, flipping-sound}
+use Rattle.bitmap.proofs.Contained.{contained-setting, contained-setting-many, contained-unsetting, contained-trimming, contained-setting-region, contained-setting-field, contained-keeping, contained-dropping, contained-flipping}
 use Rattle.bitmap.proofs.Regions.{region-none, region-over, region-put}
 use Rattle.bitmap.proofs.Fields.{zero-digit, no-digits, some-at, field-wide, field-over, field-put}
 
@@ -35,7 +35,7 @@ sets i = record {
         here = ap (λ (t : Bool). b .members i || t) (eq-eqb i i refl) ∙ or-true (b .members i);
         others = λ j n. ap (λ (t : Bool). b .members j || t) (ne-eqb j i n) ∙ or-false (b .members j);
       });
-  sound = setting-sound i;
+  contained = contained-setting i;
   why = λ c b e q. lacks c _ e q;
 }
 
@@ -46,15 +46,15 @@ sets-many is = record {
       subst (WithListed is b) (within-done c _ s e .0)
       (record {
         all = λ t l. ap (λ (x : Bool). b .members (getD is t 0) || x) (listed-at is t l) ∙ or-true (b .members (getD is t 0));
-        kept = λ j h. ap (λ (x : Bool). x || listed is j) h;
-        only = λ j h. by-test (b .members j) (λ y. inl y) (λ n. inr (listed-who is j (sym (ap (λ (x : Bool). x || listed is j) n) ∙ h)));
+        kept = λ j h. ap (λ (x : Bool). x || isListed is j) h;
+        only = λ j h. by-test (b .members j) (λ y. inl y) (λ n. inr (listed-who is j (sym (ap (λ (x : Bool). x || isListed is j) n) ∙ h)));
         from = omega arith;
         reached = λ t l. omega (arith, reach-in is t l);
         least = λ n h r. omega (arith, reach-under is n r);
       });
-  sound = many-sound is;
+  contained = contained-setting-many is;
   why = λ c b e q.
-      let r = lacks c (record { members = λ j. b .members j || listed is j; count = max (b .count) (reachOf is) }) e q in
+      let r = lacks c (record { members = λ j. b .members j || isListed is j; count = max (b .count) (reachOf is) }) e q in
       (r .0, by-lt c (b .count) (λ l. inl l) (λ l. inr (reach-who is c (omega (arith, r .1)))));
 }
 
@@ -69,7 +69,7 @@ pub unsets : Unsets
 unfolding unsetting
 unsets i = record {
   made = λ c b s e. subst (WithoutBit i b) (same e) (removes i b);
-  sound = unsetting-sound i;
+  contained = contained-unsetting i;
   why = λ c b e q. never q;
 }
 
@@ -77,7 +77,7 @@ pub trims : Trims
 unfolding trimming
 trims = record {
   made = λ c b s e. subst (Fewest b) (same e) (record { same = λ i. refl; count = least-count (b .members) (b .count) });
-  sound = trimming-sound;
+  contained = contained-trimming;
   why = λ c b e q. never q;
 }
 
@@ -104,7 +104,7 @@ regions i v k some = record {
       by-lt (2 ^ 64) (i + k)
       (λ h. absurd (never (sym e ∙ region-over i k c v b some h)))
       (λ h. (h, subst (WithRegion i v k b) (within-done c _ s (sym (region-put i k c v b some h) ∙ e) .0) (region-rule i v k b)));
-  sound = region-sound i v k;
+  contained = contained-setting-region i v k;
   why = λ c b e q.
       by-lt (2 ^ 64) (i + k)
       (λ h. inl (ap numberOf (which (sym q ∙ region-over i k c v b some h)), h))
@@ -118,7 +118,7 @@ regions i v k some = record {
 pub region-nothing : (i : ℕ) (v : Bool) (c : ℕ) (b : Bits) → settingRegion i v 0 c b ≡ done b
 region-nothing i v c b = region-none i 0 c v b refl
 
-pub region-unchanged : RegionUnchanged
+pub region-unchanged : SetsNoRegion
 region-unchanged i v = meets-nothing (settingRegion i v 0) (region-nothing i v)
 
 -- ---- a field of width > 0
@@ -153,7 +153,7 @@ fields i value width n = record {
       (λ h. by-lt (2 ^ 64) (i + width)
       (λ l. absurd (never (sym e ∙ field-over i value width c b h n l)))
       (λ l. (h, l, subst (WithField i value width b) (within-done c _ s (sym (field-put i value width c b h n l) ∙ e) .0) (field-rule i value width b))));
-  sound = field-sound i value width;
+  contained = contained-setting-field i value width;
   why = λ c b e q.
       by-lt 64 width
       (λ h. inl (ap numberOf (which (sym q ∙ field-wide i value width c b h)), h))
@@ -224,7 +224,7 @@ keeps-bit i = record {
     },
     subst (Tidied (i / 64) _) (same e) (tidies (i / 64) _),
   );
-  sound = keeping-sound i;
+  contained = contained-keeping i;
   why = λ c b e q. never q;
 }
 
@@ -232,7 +232,7 @@ pub drops-bit : DropsBit
 unfolding droppingBit
 drops-bit i = record {
   made = λ c b s e. (without i b, removes i b, subst (Tidied (i / 64) _) (same e) (tidies (i / 64) _));
-  sound = dropping-sound i;
+  contained = contained-dropping i;
   why = λ c b e q. never q;
 }
 
@@ -247,6 +247,6 @@ pub flips-bit : FlipsBit
 unfolding flippingBit
 flips-bit i = record {
   made = λ c b s e. (flipped i b, flips i b, subst (Tidied (i / 64) _) (within-done c _ s e .0) (tidies (i / 64) _));
-  sound = flipping-sound i;
+  contained = contained-flipping i;
   why = λ c b e q. let l = lacks c _ e q in (l .0, (tidied (i / 64) (flipped i b), (flipped i b, flips i b, tidies (i / 64) _), l .1));
 }

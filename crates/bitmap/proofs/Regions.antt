@@ -9,9 +9,9 @@ use lib.ListN.{length, getD, take, drop}
 use lib.Dec.{leb, ltb}
 use borrow.Author.Tests.{lt-ltb, le-ltb, le-leb, lt-leb, eq-eqb, ne-eqb}
 use Rattle.word.specs.Sets.{choose}
-use Rattle.word.specs.Bits.{bit, member}
+use Rattle.word.specs.Places.{bit, member}
 use Rattle.word.proofs.Cases.{by-lt}
-use Rattle.word.proofs.Bits.{bits-ext}
+use Rattle.word.proofs.Places.{bits-ext}
 use Rattle.word.proofs.Lists.{Fit, member-at, words-fit}
 use Rattle.arch.specs.Scans.{filled}
 use Rattle.arch.specs.Promises.{Fills}

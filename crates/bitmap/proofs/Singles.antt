@@ -9,10 +9,10 @@ use lib.Dec.{eqb}
 use lib.Bits.{bitAnd, bitOr, and-lt, or-lt}
 use lib.Pow.{ones-sub-lt}
 use borrow.Author.Tests.{ne-eqb}
-use Rattle.word.specs.Bits.{bit}
+use Rattle.word.specs.Places.{bit}
 use Rattle.word.specs.Words.{single}
 use Rattle.word.proofs.Cases.{eqb-same, or-false, and-keep}
-use Rattle.word.proofs.Bits.{bit-and, bit-or, bit-not}
+use Rattle.word.proofs.Places.{bit-and, bit-or, bit-not}
 use Rattle.word.proofs.Words.{bit-single, single-lt}
 use Rattle.word.proofs.Lists.{Fit}
 use Rattle.arch.specs.Scans.{nonzeroLen}

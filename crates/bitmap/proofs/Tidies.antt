@@ -11,10 +11,10 @@ use lib.Bits.{bitAnd, bitXor, and-lt}
 use lib.Pow.{ones-sub-lt}
 use borrow.Author.Tests.{eq-eqb, ne-eqb, eqb-true}
 use Rattle.word.specs.Sets.{choose, xorb}
-use Rattle.word.specs.Bits.{bit, wordOf}
+use Rattle.word.specs.Places.{bit, wordOf}
 use Rattle.word.specs.Words.{single}
 use Rattle.word.proofs.Cases.{by-lt, by-eq, eqb-same, and-true, and-keep, and-false}
-use Rattle.word.proofs.Bits.{bit-zero, bit-and, bit-not, bit-pack, pack-is}
+use Rattle.word.proofs.Places.{bit-zero, bit-and, bit-not, bit-pack, pack-is}
 use Rattle.word.proofs.Words.{bit-single, single-lt}
 use Rattle.word.proofs.Lists.{Fit}
 use Rattle.word.proofs.Sweep.{getD-set}

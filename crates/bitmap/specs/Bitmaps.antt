@@ -4,7 +4,7 @@ use mathlib.Core.Bool.{Bool, false, not, _&&_, _||_}
 use mathlib.Core.List.{List, [], _∷_}
 use lib.Dec.{ltb, eqb}
 use Rattle.word.specs.Sets.{choose}
-use Rattle.word.specs.Bits.{bit, wordOf}
+use Rattle.word.specs.Places.{bit, wordOf}
 use Rattle.storage.specs.Stores.{Bits, refused, done, Op, within, upTo, flipped, inRegion, passes, trimmed}
 use Rattle.storage.specs.declared.Refusal.the-variants.{WidthOver, IndexOver}
 
@@ -22,9 +22,9 @@ unfoldable pub unsetting : ℕ → Op
 unsetting i c b = done (without i b)
 
 -- j is one of the listed numbers
-unfoldable pub listed : List ℕ → ℕ → Bool
-listed [] j = false
-listed (i ∷ is) j = eqb j i || listed is j
+unfoldable pub isListed : List ℕ → ℕ → Bool
+isListed [] j = false
+isListed (i ∷ is) j = eqb j i || isListed is j
 
 -- the words up to those of all listed bits
 unfoldable pub reachOf : List ℕ → ℕ
@@ -32,7 +32,7 @@ reachOf [] = 0
 reachOf (i ∷ is) = max (upTo i) (reachOf is)
 
 unfoldable pub settingMany : List ℕ → Op
-settingMany is c b = within c (record { members = λ j. b .members j || listed is j; count = max (b .count) (reachOf is) })
+settingMany is c b = within c (record { members = λ j. b .members j || isListed is j; count = max (b .count) (reachOf is) })
 
 -- the k numbers from i on become members, or none of them stays one
 unfoldable pub settingRegion : ℕ → Bool → ℕ → Op

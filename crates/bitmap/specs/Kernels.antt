@@ -6,15 +6,15 @@ use mathlib.Core.List.{List}
 use lib.ListN.{length, getD, take}
 use lib.Dec.{eqb}
 use Rattle.word.specs.Sets.{choose}
-use Rattle.word.specs.Bits.{bit}
+use Rattle.word.specs.Places.{bit}
 use Rattle.arch.specs.Scans.{nonzeroLen}
-use Rattle.bitmap.specs.Bitmaps.{listed, reachOf}
+use Rattle.bitmap.specs.Bitmaps.{isListed, reachOf}
 
 -- the listed bits are set, and words that have none are as they were
-pub record Listed (ws is ws' : List ℕ) : Type 0 where
+pub record SetsListed (ws is ws' : List ℕ) : Type 0 where
   pub long : length ws' ≡ length ws
   pub fits : (k : ℕ) → getD ws k 0 < 2 ^ 64 → getD ws' k 0 < 2 ^ 64
-  pub bits : (k j : ℕ) → j < 64 → bit (getD ws' k 0) j ≡ bit (getD ws k 0) j || listed is (64 * k + j)
+  pub bits : (k j : ℕ) → j < 64 → bit (getD ws' k 0) j ≡ bit (getD ws k 0) j || isListed is (64 * k + j)
   pub above : (k : ℕ) → reachOf is ≤ k → getD ws' k 0 ≡ getD ws k 0
 
 -- the trimmed count where word k is the last of n and is 0

@@ -5,7 +5,7 @@ use mathlib.Core.Bool.{Bool, true, false, not}
 use mathlib.Core.List.{List}
 use mathlib.Core.Logic.{_⊎_}
 use lib.ListN.{length, getD}
-use Rattle.word.specs.Bits.{bit}
+use Rattle.word.specs.Places.{bit}
 use Rattle.storage.specs.Stores.{Bits}
 use Rattle.storage.specs.Promises.{LeastCount, Meets, Unchanged, Never, Lacks, LacksResult, MeetsExactly}
 use Rattle.bitmap.specs.Bitmaps.{trimming, setting, unsetting, settingMany, settingRegion, settingField, tidied, keepingBit, droppingBit, flippingBit}
@@ -113,8 +113,8 @@ Regions =
     (i : ℕ) (v : Bool) (k : ℕ) → (k ≡ 0 → ⊥)
     → Meets (settingRegion i v k) (λ c b s. (i + k ≤ 2 ^ 64) × WithRegion i v k b s) (NoRegion i v k)
 
-abbrev pub RegionUnchanged : Type 0
-RegionUnchanged = (i : ℕ) (v : Bool) → Meets (settingRegion i v 0) Unchanged Never
+abbrev pub SetsNoRegion : Type 0
+SetsNoRegion = (i : ℕ) (v : Bool) → Meets (settingRegion i v 0) Unchanged Never
 
 abbrev pub FieldsSet : Type 0
 FieldsSet =

@@ -10,7 +10,7 @@ ghost use lib.ListN.{length};
 ghost use Rattle.storage.specs.Stores.{Changes};
 ghost use Rattle.bitmap.specs.Bitmaps.{trimming, setting, unsetting, settingMany, settingRegion};
 ghost use Rattle.bitmap.specs.Bitmaps.{settingField, keepingBit, droppingBit, flippingBit, reachOf};
-ghost use Rattle.bitmap.specs.Kernels.{Listed, tidyCount};
+ghost use Rattle.bitmap.specs.Kernels.{SetsListed, tidyCount};
 
 // Drops trailing zero words.
 pub fn trim(words: &[u64], b: Bitmap) -> Change
@@ -40,7 +40,7 @@ pub fn set(words: &mut [u64], b: Bitmap, i: usize) -> Change
     if k >= words.len() {
         return Change::Refused(Refusal::NoSpace, b);
     }
-    storage::grow(words, n, k + 1);
+    storage::zero_words(words, n, k + 1);
     words[k] = words[k] | Word::bit(i);
     Change::Done(Bitmap {
         count: word::max(n, k + 1),
@@ -81,7 +81,7 @@ fn reach(bits: &[usize]) -> usize
 // Sets the listed bits, all within the words.
 fn set_listed(words: &mut [u64], bits: &[usize])
     requires { ⌜ reachOf (now bits) ≤ length (now words) ⌝ }
-    ensures { λ r. ⌜ Listed (now (words .entry)) (now (bits .entry)) (now (words .exit)) ⌝ }
+    ensures { λ r. ⌜ SetsListed (now (words .entry)) (now (bits .entry)) (now (words .exit)) ⌝ }
 {
     let mut t = 0;
     while t < bits.len() {
@@ -104,7 +104,7 @@ pub fn set_many(words: &mut [u64], b: Bitmap, bits: &[usize]) -> Change
     if need > words.len() {
         return Change::Refused(Refusal::NoSpace, b);
     }
-    storage::grow(words, n, need);
+    storage::zero_words(words, n, need);
     set_listed(words, bits);
     Change::Done(Bitmap {
         count: word::max(n, need),
@@ -136,7 +136,7 @@ pub fn set_region(words: &mut [u64], b: Bitmap, i: usize, value: bool, k: usize)
     if w >= words.len() {
         return Change::Refused(Refusal::NoSpace, b);
     }
-    storage::grow(words, n, w + 1);
+    storage::zero_words(words, n, w + 1);
     arch::fill_region(words, i, last + 1, true);
     Change::Done(Bitmap {
         count: word::max(n, w + 1),
@@ -168,7 +168,7 @@ pub fn set_field(words: &mut [u64], b: Bitmap, i: usize, value: u64, width: usiz
     if w >= words.len() {
         return Change::Refused(Refusal::NoSpace, b);
     }
-    storage::grow(words, n, w + 1);
+    storage::zero_words(words, n, w + 1);
     let used = word::max(n, w + 1);
     slice::set_field_strict(words, Bitmap { count: used, ..b }, i, value, width)
 }
@@ -240,7 +240,7 @@ pub fn xori(words: &mut [u64], b: Bitmap, i: usize) -> Change
     if k >= words.len() {
         return Change::Refused(Refusal::NoSpace, b);
     }
-    storage::grow(words, n, k + 1);
+    storage::zero_words(words, n, k + 1);
     words[k] = words[k] ^ Word::bit(i);
     Change::Done(Bitmap {
         count: tidy(words, word::max(n, k + 1), k),

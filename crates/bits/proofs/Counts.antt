@@ -10,10 +10,10 @@ use lib.Bits.{bitAnd}
 use lib.Dec.{ltb}
 use borrow.Author.Tests.{lt-ltb, le-ltb}
 use Rattle.word.specs.Sets.{countBelow}
-use Rattle.word.specs.Bits.{bit, member}
+use Rattle.word.specs.Places.{bit, member}
 use Rattle.word.specs.Words.{lowMask}
 use Rattle.word.proofs.Cases.{by-lt, and-keep, and-false}
-use Rattle.word.proofs.Bits.{bit-and, bit-shr}
+use Rattle.word.proofs.Places.{bit-and, bit-shr}
 use Rattle.word.proofs.Words.{bit-low-mask}
 use Rattle.word.proofs.Sets.{count-le, count-ext, count-add, count-none}
 use Rattle.word.proofs.Lists.{member-at}
@@ -24,7 +24,7 @@ use Rattle.storage.specs.Guards.{Passed}
 use Rattle.storage.specs.declared.Bitmap.{Bitmap}
 use Rattle.storage.proofs.Views.{view-count, view-part, view-out}
 use Rattle.storage.proofs.Sizes.{size-counted}
-use Rattle.bits.specs.Bits.{clearSize, countRegion, rankOf}
+use Rattle.bits.specs.Bitwise.{clearSize, countRegion, rankOf}
 
 pub clear-size : (ws : List ℕ) (b : Bitmap) (c : ℕ) → Passed ws b → c ≡ countSet (take (b .count) ws) → 64 * b .count - c ≡ clearSize (held ws b)
 unfolding clearSize

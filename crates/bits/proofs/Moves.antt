@@ -10,11 +10,11 @@ use lib.Dec.{eqb}
 use borrow.Author.Tests.{lt-ltb, le-ltb, ne-eqb}
 use lib.Pow.{ones-sub-lt}
 use lib.Bits.{bitXor, xor-lt}
-use Rattle.word.specs.Bits.{bit, member, wordsOf}
+use Rattle.word.specs.Places.{bit, member, wordsOf}
 use Rattle.word.specs.Sets.{choose, xorb}
 use Rattle.word.specs.Words.{single, mirrored}
 use Rattle.word.proofs.Cases.{eqb-same}
-use Rattle.word.proofs.Bits.{bit-not, bit-xor}
+use Rattle.word.proofs.Places.{bit-not, bit-xor}
 use Rattle.word.proofs.Words.{mirrors, bit-single, single-lt}
 use Rattle.word.proofs.Lists.{Fit, FitTo, member-at}
 use Rattle.storage.specs.Stores.{Bits, refused, done, view, Changes}
@@ -24,7 +24,7 @@ use Rattle.storage.specs.declared.Change.the-variants.{Done, Refused}
 use Rattle.storage.specs.declared.Refusal.the-variants.{PastLength}
 use Rattle.storage.proofs.Views.{view-count, view-in, view-part}
 use Rattle.storage.proofs.Stores.{part-changes, changes-done, changes-refused, word-stored}
-use Rattle.bits.specs.Bits.{toggling, inverting, reversing}
+use Rattle.bits.specs.Bitwise.{togglingInside, inverting, reversing}
 use Rattle.word.proofs.Sweep.{Swept, swept-words}
 
 pub inverted-is : (ws ws' : List ℕ) (e : ℕ) → FitTo ws e → Swept ws (λ k. (2 ^ 64 - 1) - getD ws k 0) 0 e ws' → length ws ≤ e
@@ -80,10 +80,10 @@ reverse-changes ws part b p e =
 -- ---- one bit
 
 pub toggle-changes : (ws : List ℕ) (b : Bitmap) (i x : ℕ) → Fit ws → Passed ws b → i / 64 < b .count → x ≡ single 64 (i % 64)
-    → Changes (toggling i) ws b (Done b) (set ws (i / 64) (bitXor (getD ws (i / 64) 0) x))
-unfolding toggling
+    → Changes (togglingInside i) ws b (Done b) (set ws (i / 64) (bitXor (getD ws (i / 64) 0) x))
+unfolding togglingInside
 toggle-changes ws b i x f p h e =
-    changes-done (toggling i) ws b (set ws k v) s n p
+    changes-done (togglingInside i) ws b (set ws k v) s n p
     (ap (λ (t : Bool). choose t (done s) (refused PastLength)) (lt-ltb i (64 * view ws n .count) (omega (arith, view-count ws n))))
     (word-stored ws n k v s f (p .inside) h (view-count ws n) (xor-lt 64 (getD ws k 0) x (f k) (subst (λ (y : ℕ). y < 2 ^ 64) (sym e) (single-lt 64 (i % 64)))) here there)
     (sym (view-count ws n))
@@ -113,10 +113,10 @@ toggle-changes ws b i x f p h e =
     there : (m j : ℕ) → (m ≡ k → ⊥) → j < 64 → view ws n .members (64 * m + j) ≡ xorb (view ws n .members (64 * m + j)) (eqb (64 * m + j) i)
     there m j q l = keep (view ws n .members (64 * m + j)) ∙ ap (xorb (view ws n .members (64 * m + j))) (sym (ne-eqb (64 * m + j) i (omega arith)))
 
-pub toggling-past : (i c : ℕ) (s : Bits) → 64 * s .count ≤ i → toggling i c s ≡ refused PastLength
-unfolding toggling
+pub toggling-past : (i c : ℕ) (s : Bits) → 64 * s .count ≤ i → togglingInside i c s ≡ refused PastLength
+unfolding togglingInside
 toggling-past i c s h = rw (le-ltb i (64 * s .count) h)
 
-pub toggle-past : (ws : List ℕ) (b : Bitmap) (i : ℕ) → Passed ws b → b .count ≤ i / 64 → Changes (toggling i) ws b (Refused PastLength b) ws
+pub toggle-past : (ws : List ℕ) (b : Bitmap) (i : ℕ) → Passed ws b → b .count ≤ i / 64 → Changes (togglingInside i) ws b (Refused PastLength b) ws
 toggle-past ws b i p h =
-    changes-refused (toggling i) ws b PastLength p (toggling-past i (length ws) (view ws (b .count)) (omega (arith, view-count ws (b .count))))
+    changes-refused (togglingInside i) ws b PastLength p (toggling-past i (length ws) (view ws (b .count)) (omega (arith, view-count ws (b .count))))

@@ -9,9 +9,9 @@ use Rattle.storage.specs.Stores.{Bits}
 use Rattle.storage.specs.Promises.{OneEnd}
 use Rattle.storage.proofs.Once.{same-bits, one-bit, once-never}
 use Rattle.storage.proofs.Promises.{once-exact}
-use Rattle.bits.specs.Bits.{toggling, inverting, reversing}
+use Rattle.bits.specs.Bitwise.{togglingInside, inverting, reversing}
 use Rattle.bits.specs.Promises.{Toggled, Inverted, Reversed, CallsExact}
-use Rattle.bits.proofs.Promises.{toggles, inverts, reverses}
+use Rattle.bits.proofs.Promises.{toggles-inside, inverts, reverses}
 
 one-inverted : (b s t : Bits) → Inverted b s → Inverted b t → s ≡ t
 one-inverted b s t p q =
@@ -39,6 +39,6 @@ toggle-once i c b = record {
 pub calls-exact : CallsExact
 calls-exact = record {
   invert = once-exact inverting _ _ inverts (λ c b h l k. once-never c b (Inverted b) (one-inverted b));
-  toggle = λ i. once-exact (toggling i) _ _ (toggles i) (λ c b h l k. toggle-once i c b);
+  toggle = λ i. once-exact (togglingInside i) _ _ (toggles-inside i) (λ c b h l k. toggle-once i c b);
   reverse = once-exact reversing _ _ reverses (λ c b h l k. once-never c b (Reversed b) (one-reversed b));
 }

@@ -8,23 +8,23 @@ use mathlib.Core.List.{List}
 use lib.ListN.{length}
 use lib.Dec.{ltb, eqb}
 use borrow.Author.Tests.{lt-ltb, le-ltb, eq-eqb, ne-eqb}
-use Rattle.word.specs.Bits.{member, wordsOf}
+use Rattle.word.specs.Places.{member, wordsOf}
 use Rattle.word.specs.Sets.{choose, val, xorb, countBelow, nth, Counted}
 use Rattle.word.proofs.Cases.{by-lt, xor-true, xor-false}
 use Rattle.word.proofs.Lists.{length-words, member-words}
 use Rattle.word.proofs.Sets.{Nth, count-add, count-none, counted, nth-has, nth-none}
 use Rattle.storage.specs.Refusals.{numberOf, foundNumber, foundFlag, foundValue}
 use Rattle.storage.specs.Stores.{Bits, Bounded, refused, done, size, foundBelow}
-use Rattle.storage.specs.Promises.{Hands, NumberCall}
+use Rattle.storage.specs.Promises.{Hands, AmountCall}
 use Rattle.storage.specs.declared.Refusal.the-variants.{PastLength}
 use Rattle.storage.specs.declared.Found.{Found}
 use Rattle.storage.specs.declared.Found.the-variants.{At, Nothing}
-use Rattle.storage.specs.declared.Number.{Number}
-use Rattle.storage.specs.declared.Number.the-variants.{Is}
-use Rattle.storage.proofs.Outcomes.{same, never, which, sound-done}
+use Rattle.storage.specs.declared.Amount.{Amount}
+use Rattle.storage.specs.declared.Amount.the-variants.{Is}
+use Rattle.storage.proofs.Outcomes.{same, never, which, contained-done}
 use Rattle.storage.proofs.Promises.{number-call, found-call}
-use Rattle.bits.specs.Bits.{toggling, inverting, reversing, clearSize, countRegion, rankOf, selected}
-use Rattle.bits.specs.Promises.{Toggled, Toggles, Inverted, Inverts, Reversed, Reverses, InvertWordsMeans, ReverseWordsMeans}
+use Rattle.bits.specs.Bitwise.{togglingInside, inverting, reversing, clearSize, countRegion, rankOf, selected}
+use Rattle.bits.specs.Promises.{Toggled, TogglesInside, Inverted, Inverts, Reversed, Reverses, InvertWordsMeans, ReverseWordsMeans}
 use Rattle.bits.specs.Promises.{CountClearBitsMeans, CountRegionMeans, RankMeans, Selected, SelectMeans}
 use Rattle.bits.proofs.Moves.{toggling-past}
 
@@ -34,11 +34,11 @@ use Rattle.bits.proofs.Moves.{toggling-past}
 abbrev flippedAt : ℕ → Bits → Bits
 flippedAt i b = record { members = λ j. xorb (b .members j) (eqb j i); count = b .count }
 
-toggling-below : (i c : ℕ) (b : Bits) → i < 64 * b .count → toggling i c b ≡ done (flippedAt i b)
-unfolding toggling
+toggling-below : (i c : ℕ) (b : Bits) → i < 64 * b .count → togglingInside i c b ≡ done (flippedAt i b)
+unfolding togglingInside
 toggling-below i c b l = ap (λ (t : Bool). choose t (done (flippedAt i b)) (refused PastLength)) (lt-ltb i (64 * b .count) l)
 
-toggled : (i c : ℕ) (b s : Bits) → toggling i c b ≡ done s → (i < 64 * b .count) × Toggled i b s
+toggled : (i c : ℕ) (b s : Bits) → togglingInside i c b ≡ done s → (i < 64 * b .count) × Toggled i b s
 toggled i c b s q =
     by-lt i (64 * b .count)
     (λ l. (
@@ -52,10 +52,10 @@ toggled i c b s q =
     ))
     (λ l. absurd (never (sym q ∙ toggling-past i c b l)))
 
-pub toggles : Toggles
-toggles i = record {
+pub toggles-inside : TogglesInside
+toggles-inside i = record {
   made = toggled i;
-  sound = record {
+  contained = record {
     space = λ c b s h l q. omega (arith, toggled i c b s q .1 .count);
     bound = λ c b s h l q.
         let (k, t) = toggled i c b s q in
@@ -73,7 +73,7 @@ pub inverts : Inverts
 unfolding inverting
 inverts = record {
   made = λ c b s q. subst (Inverted b) (same q) (inverted b);
-  sound = sound-done inverting _ (λ c b. refl) (λ b. omega arith) (λ b h. record { past = inverted b .past });
+  contained = contained-done inverting _ (λ c b. refl) (λ b. omega arith) (λ b h. record { past = inverted b .past });
   why = λ c b e q. never q;
 }
   where
@@ -88,7 +88,7 @@ pub reverses : Reverses
 unfolding reversing
 reverses = record {
   made = λ c b s q. subst (Reversed b) (same q) (reversed b);
-  sound = sound-done reversing _ (λ c b. refl) (λ b. omega arith) (λ b h. record { past = reversed b .past });
+  contained = contained-done reversing _ (λ c b. refl) (λ b. omega arith) (λ b h. record { past = reversed b .past });
   why = λ c b e q. never q;
 }
   where
@@ -102,8 +102,8 @@ reverses = record {
 
 -- ---- counts
 
-count-call : (f : Bits → ℕ) (rule : Bits → ℕ → Type 0) → ((b : Bits) → Bounded b → rule b (f b)) → NumberCall (λ s. Number.Is (f s)) (λ b. Hands (rule b))
-count-call f rule holds = number-call (λ s. Number.Is (f s)) (λ b. Hands (rule b)) (λ b bounded. (refl, holds b bounded))
+count-call : (f : Bits → ℕ) (rule : Bits → ℕ → Type 0) → ((b : Bits) → Bounded b → rule b (f b)) → AmountCall (λ s. Amount.Is (f s)) (λ b. Hands (rule b))
+count-call f rule holds = number-call (λ s. Amount.Is (f s)) (λ b. Hands (rule b)) (λ b bounded. (refl, holds b bounded))
 
 counting : (s : ℕ → Bool) (k : ℕ) → Counted s k (countBelow s k)
 counting s k = counted s k (countBelow s k) refl

@@ -9,14 +9,14 @@ use lib.Seq.{length-take-le, getD-take}
 use lib.Dec.{ltb}
 use borrow.Author.Tests.{lt-ltb, le-ltb}
 use Rattle.word.specs.Sets.{choose, countBelow, nth}
-use Rattle.word.specs.Bits.{bit, member}
+use Rattle.word.specs.Places.{bit, member}
 use Rattle.word.proofs.Sets.{Nth, count-ext, count-add, nth-is, nth-none, nth-has}
 use Rattle.arch.specs.Scans.{countSet}
 use Rattle.arch.proofs.Counts.{count-word}
 use Rattle.storage.specs.Stores.{view, foundBelow}
 use Rattle.storage.specs.declared.Found.the-variants.{At, Nothing}
 use Rattle.storage.proofs.Views.{view-count, view-part, view-in}
-use Rattle.bits.specs.Bits.{selected}
+use Rattle.bits.specs.Bitwise.{selected}
 use Rattle.bits.specs.Kernels.{Passing}
 use Rattle.bits.proofs.Counts.{whole-words}
 

@@ -4,7 +4,7 @@ use mathlib.Core.Path.{_≡_}
 use mathlib.Core.List.{List}
 use lib.ListN.{length}
 use Rattle.word.specs.Sets.{countBelow}
-use Rattle.word.specs.Bits.{member}
+use Rattle.word.specs.Places.{member}
 
 -- what is passed of a rank r: `left` of it remains after the words before index `at`
 pub record Passing (ws : List ℕ) (r at left : ℕ) : Type 0 where

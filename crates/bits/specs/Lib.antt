@@ -1,3 +1,3 @@
-pub mod Bits
+pub mod Bitwise
 pub mod Kernels
 pub mod Promises

@@ -1,16 +1,14 @@
 -- What the calls of bits.rs promise, for every number. Each is proved in proofs/Promises, `CallsExact` in proofs/Once.
 use Prim.Native.Nat.{ℕ, suc, _+_, _-_, _*_, _≤_, _<_}
 use mathlib.Core.Path.{_≡_}
-use mathlib.Core.Bool.{Bool, true, false, not}
-use mathlib.Core.List.{List}
-use lib.ListN.{length}
+use mathlib.Core.Bool.{true, false, not}
 use Rattle.word.specs.Sets.{Counted}
-use Rattle.word.specs.Bits.{member, wordsOf}
+use Rattle.word.specs.Promises.{MovesWords}
 use Rattle.storage.specs.Stores.{Bits}
-use Rattle.storage.specs.Promises.{Hands, Finds, NumberCall, FoundCall, Meets, Never, MeetsExactly}
-use Rattle.storage.specs.declared.Number.{Number}
-use Rattle.storage.specs.declared.Number.the-variants.{Is}
-use Rattle.bits.specs.Bits.{toggling, inverting, reversing, clearSize, countRegion, rankOf, selected}
+use Rattle.storage.specs.Promises.{Hands, Finds, AmountCall, FoundCall, Meets, Never, MeetsExactly}
+use Rattle.storage.specs.declared.Amount.{Amount}
+use Rattle.storage.specs.declared.Amount.the-variants.{Is}
+use Rattle.bits.specs.Bitwise.{togglingInside, inverting, reversing, clearSize, countRegion, rankOf, selected}
 
 pub record Toggled (i : ℕ) (b s : Bits) : Type 0 where
   pub count : s .count ≡ b .count
@@ -27,8 +25,8 @@ abbrev pub Inverts : Type 0
 Inverts = Meets inverting (λ c. Inverted) Never
 
 -- `toggle`: done below the length, 5 exactly from there on
-abbrev pub Toggles : Type 0
-Toggles = (i : ℕ) → Meets (toggling i) (λ c b s. (i < 64 * b .count) × Toggled i b s) (λ c b k. (k ≡ 5) × (64 * b .count ≤ i))
+abbrev pub TogglesInside : Type 0
+TogglesInside = (i : ℕ) → Meets (togglingInside i) (λ c b s. (i < 64 * b .count) × Toggled i b s) (λ c b k. (k ≡ 5) × (64 * b .count ≤ i))
 
 -- `reverse`: the mirror of each number, over the whole length
 pub record Reversed (b s : Bits) : Type 0 where
@@ -38,12 +36,6 @@ pub record Reversed (b s : Bits) : Type 0 where
 
 abbrev pub Reverses : Type 0
 Reverses = Meets reversing (λ c. Reversed) Never
-
--- of words as they are: their number stays, and the rule holds of the length, the old set and the new one
-abbrev pub MovesWords : (ℕ → (ℕ → Bool) → ℕ → Bool) → (ℕ → (ℕ → Bool) → (ℕ → Bool) → Type 0) → Type 0
-MovesWords f rule =
-    (ws ws' : List ℕ) → ws' ≡ wordsOf (f (64 * length ws) (member ws)) (length ws)
-    → (length ws' ≡ length ws) × rule (64 * length ws) (member ws) (member ws')
 
 -- `invert_words`
 abbrev pub InvertWordsMeans : Type 0
@@ -56,20 +48,20 @@ ReverseWordsMeans = MovesWords (λ len old i. old (len - suc i)) (λ len old new
 -- and each of the three is exact: done where there is a result as said, refused with 5 where its condition holds
 pub record CallsExact : Type 0 where
   pub invert : MeetsExactly inverting (λ c. Inverted) Never
-  pub toggle : (i : ℕ) → MeetsExactly (toggling i) (λ c b s. (i < 64 * b .count) × Toggled i b s) (λ c b k. (k ≡ 5) × (64 * b .count ≤ i))
+  pub toggle : (i : ℕ) → MeetsExactly (togglingInside i) (λ c b s. (i < 64 * b .count) × Toggled i b s) (λ c b k. (k ≡ 5) × (64 * b .count ≤ i))
   pub reverse : MeetsExactly reversing (λ c. Reversed) Never
 
 -- `count_clear_bits`: the numbers below the length that are no members
 abbrev pub CountClearBitsMeans : Type 0
-CountClearBitsMeans = NumberCall (λ s. Number.Is (clearSize s)) (λ b. Hands (Counted (λ i. not (b .members i)) (64 * b .count)))
+CountClearBitsMeans = AmountCall (λ s. Amount.Is (clearSize s)) (λ b. Hands (Counted (λ i. not (b .members i)) (64 * b .count)))
 
 -- `count_region`: the members among the k numbers from i on
 abbrev pub CountRegionMeans : Type 0
-CountRegionMeans = (i k : ℕ) → NumberCall (λ s. Number.Is (countRegion i k s)) (λ b. Hands (Counted (λ j. b .members (i + j)) k))
+CountRegionMeans = (i k : ℕ) → AmountCall (λ s. Amount.Is (countRegion i k s)) (λ b. Hands (Counted (λ j. b .members (i + j)) k))
 
 -- `rank`: the members below i
 abbrev pub RankMeans : Type 0
-RankMeans = (i : ℕ) → NumberCall (λ s. Number.Is (rankOf i s)) (λ b. Hands (Counted (b .members) i))
+RankMeans = (i : ℕ) → AmountCall (λ s. Amount.Is (rankOf i s)) (λ b. Hands (Counted (b .members) i))
 
 -- a member with exactly r members below it; none only where there are at most r members
 abbrev pub Selected : ℕ → Bits → ℕ → ℕ → ℕ → Type 0

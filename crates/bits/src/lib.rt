@@ -1,9 +1,9 @@
 // Single-bit and whole-bitmap updates and counts within the length: toggle, complement, reverse, counts, rank and select.
+use storage::Amount;
 use storage::Bitmap;
 use storage::Change;
 use storage::Found;
 use storage::Guard;
-use storage::Number;
 use storage::Refusal;
 use word::Word;
 ghost use mathlib.Core.Path.{_≡_};
@@ -11,14 +11,14 @@ ghost use mathlib.Core.Bool.{not};
 ghost use Prim.Native.Nat.{suc, _+_, _-_, _*_, _≤_, _<_};
 ghost use lib.ListN.{length, getD};
 ghost use Rattle.word.specs.Sets.{countBelow};
-ghost use Rattle.word.specs.Bits.{bit, member, wordsOf};
-ghost use Rattle.storage.specs.Stores.{limit, reading, Changes};
-ghost use Rattle.bits.specs.Bits.{toggling, inverting, reversing, clearSize, countRegion, rankOf, selected};
+ghost use Rattle.word.specs.Places.{bit, member, wordsOf};
+ghost use Rattle.storage.specs.Stores.{storeLimit, reading, Changes};
+ghost use Rattle.bits.specs.Bitwise.{togglingInside, inverting, reversing, clearSize, countRegion, rankOf, selected};
 ghost use Rattle.bits.specs.Kernels.{Passing};
 
 // Flips bit i; 5 past the length.
 pub fn toggle(words: &mut [u64], b: Bitmap, i: usize) -> Change
-    ensures { λ r. ⌜ Changes (toggling i) (now (words .entry)) b r (now (words .exit)) ⌝ }
+    ensures { λ r. ⌜ Changes (togglingInside i) (now (words .entry)) b r (now (words .exit)) ⌝ }
 {
     let n = b.count;
     match storage::check(words, b) {
@@ -87,15 +87,15 @@ pub fn reverse(words: &mut [u64], b: Bitmap) -> Change
 }
 
 // The number of clear bits below the length.
-pub fn count_clear_bits(words: &[u64], b: Bitmap) -> Number
-    ensures { λ r. ⌜ r ≡ reading (now (words .entry)) b Number.Refused (λ s. Number.Is (clearSize s)) ⌝ }
+pub fn count_clear_bits(words: &[u64], b: Bitmap) -> Amount
+    ensures { λ r. ⌜ r ≡ reading (now (words .entry)) b Amount.Refused (λ s. Amount.Is (clearSize s)) ⌝ }
 {
     let n = b.count;
     match storage::check(words, b) {
-        Guard::Stop(e) => return Number::Refused(e),
+        Guard::Stop(e) => return Amount::Refused(e),
         Guard::Pass => {}
     }
-    Number::Is(64 * n - arch::count_set_bits(&words[..n]))
+    Amount::Is(64 * n - arch::count_set_bits(&words[..n]))
 }
 
 // The set bits of x from place `from` on, below `end`.
@@ -108,7 +108,7 @@ fn count_places(x: u64, from: usize, end: usize) -> usize
 
 // The set bits from i on, below `end`: the two edge words by their places, the words between whole.
 fn count_between(words: &[u64], i: usize, end: usize) -> usize
-    requires { ⌜ (i ≤ end) × (end ≤ 64 * length (now words)) × (length (now words) ≤ limit) ⌝ }
+    requires { ⌜ (i ≤ end) × (end ≤ 64 * length (now words)) × (length (now words) ≤ storeLimit) ⌝ }
     ensures { λ r. ⌜ r ≡ countBelow (λ j. member (now (words .entry)) (i + j)) (end - i) ⌝ }
 {
     if i == end {
@@ -128,31 +128,31 @@ fn count_between(words: &[u64], i: usize, end: usize) -> usize
 }
 
 // The number of set bits among the k bits from i on; it stops at the length.
-pub fn count_region(words: &[u64], b: Bitmap, i: usize, k: usize) -> Number
-    ensures { λ r. ⌜ r ≡ reading (now (words .entry)) b Number.Refused (λ s. Number.Is (countRegion i k s)) ⌝ }
+pub fn count_region(words: &[u64], b: Bitmap, i: usize, k: usize) -> Amount
+    ensures { λ r. ⌜ r ≡ reading (now (words .entry)) b Amount.Refused (λ s. Amount.Is (countRegion i k s)) ⌝ }
 {
     let n = b.count;
     match storage::check(words, b) {
-        Guard::Stop(e) => return Number::Refused(e),
+        Guard::Stop(e) => return Amount::Refused(e),
         Guard::Pass => {}
     }
     if i >= 64 * n {
-        return Number::Is(0);
+        return Amount::Is(0);
     }
     let end = i + word::min(k, 64 * n - i);
-    Number::Is(count_between(&words[..n], i, end))
+    Amount::Is(count_between(&words[..n], i, end))
 }
 
 // The number of set bits below bit i.
-pub fn rank(words: &[u64], b: Bitmap, i: usize) -> Number
-    ensures { λ r. ⌜ r ≡ reading (now (words .entry)) b Number.Refused (λ s. Number.Is (rankOf i s)) ⌝ }
+pub fn rank(words: &[u64], b: Bitmap, i: usize) -> Amount
+    ensures { λ r. ⌜ r ≡ reading (now (words .entry)) b Amount.Refused (λ s. Amount.Is (rankOf i s)) ⌝ }
 {
     let n = b.count;
     match storage::check(words, b) {
-        Guard::Stop(e) => return Number::Refused(e),
+        Guard::Stop(e) => return Amount::Refused(e),
         Guard::Pass => {}
     }
-    Number::Is(count_between(&words[..n], 0, word::min(i, 64 * n)))
+    Amount::Is(count_between(&words[..n], 0, word::min(i, 64 * n)))
 }
 
 // How far a rank is passed: the words before index `at` are counted, and `left` of the rank remains.
@@ -163,7 +163,7 @@ struct Skip {
 
 // Passes eight words a step by their count.
 fn skip_eights(words: &[u64], r: usize) -> Skip
-    requires { ⌜ length (now words) ≤ limit ⌝ }
+    requires { ⌜ length (now words) ≤ storeLimit ⌝ }
     ensures { λ s. ⌜ Passing (now (words .entry)) r (s .at) (s .left) ⌝ }
 {
     let n = words.len();
@@ -183,7 +183,7 @@ fn skip_eights(words: &[u64], r: usize) -> Skip
 
 // Passes words until one has more set bits than are left of the rank.
 fn skip_words(words: &[u64], r: usize) -> Skip
-    requires { ⌜ length (now words) ≤ limit ⌝ }
+    requires { ⌜ length (now words) ≤ storeLimit ⌝ }
     ensures { λ s. ⌜ Passing (now (words .entry)) r (s .at) (s .left) ×
         (s .at < length (now (words .entry)) → s .left < countBelow (bit (getD (now (words .entry)) (s .at) 0)) 64) ⌝ }
 {

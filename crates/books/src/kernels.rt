@@ -79,7 +79,7 @@ fn stores() {
     show::put(b"store of 2 words, 3 in use: number");
     guard(storage::check(&two, Bitmap { count: 3, ..EMPTY }));
     let mut store = [7u64; 4];
-    storage::grow(&mut store, 1, 3);
+    storage::zero_words(&mut store, 1, 3);
     show::put(b"four words of 7, grown from 1 to 3:");
     show::words_of(&store);
     show::end();

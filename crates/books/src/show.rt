@@ -1,10 +1,10 @@
 // How an answer is printed: the number of document 01, then what the answer carries, then every word of the store.
 use libc::STDOUT_FILENO;
+use storage::Amount;
 use storage::Bitmap;
 use storage::Change;
 use storage::Field;
 use storage::Found;
-use storage::Number;
 
 pub(crate) fn put(text: &[u8]) {
     io::write_all(STDOUT_FILENO, text);
@@ -49,13 +49,13 @@ pub(crate) fn change(c: Change, words: &[u64]) {
 }
 
 // Number and value.
-pub(crate) fn counted(n: Number) {
+pub(crate) fn counted(n: Amount) {
     match n {
-        Number::Is(v) => {
+        Amount::Is(v) => {
             number(0);
             number(v);
         }
-        Number::Refused(e) => {
+        Amount::Refused(e) => {
             number(e.number() as usize);
             number(0);
         }

@@ -7,14 +7,14 @@ use mathlib.Core.Logic.{_⊎_, inl, inr}
 use native.Mathlib.Omega.{arith}
 use lib.ListN.{length}
 use borrow.Author.Tests.{ne-eqb}
-use Rattle.storage.specs.Refusals.{foundNumber, foundFlag, foundValue, numberNumber, numberValue, fieldNumber, fieldValue, truthNumber, truthValue}
-use Rattle.storage.specs.Stores.{Bits, Op, view}
+use Rattle.storage.specs.Refusals.{foundNumber, foundFlag, foundValue, amountNumber, amountValue, fieldNumber, fieldValue, truthNumber, truthValue}
+use Rattle.storage.specs.Stores.{Bits, Op, view, bitmapOf}
 use Rattle.storage.specs.Guards.{Stopped, Passed}
 use Rattle.storage.specs.Promises.{Guarded, GuardedBoth, HandsNone, FindsNone, Kept, EndsAs, CallEnds, BesideEnds}
 use Rattle.storage.specs.declared.Found.{Found}
 use Rattle.storage.specs.declared.Found.the-variants.{Refused}
-use Rattle.storage.specs.declared.Number.{Number}
-use Rattle.storage.specs.declared.Number.the-variants.{Refused}
+use Rattle.storage.specs.declared.Amount.{Amount}
+use Rattle.storage.specs.declared.Amount.the-variants.{Refused}
 use Rattle.storage.specs.declared.Field.{Field}
 use Rattle.storage.specs.declared.Field.the-variants.{Refused}
 use Rattle.storage.specs.declared.Truth.{Truth}
@@ -28,15 +28,15 @@ use Rattle.print.specs.Promises.{NotPrinted, TextPut, PrintsText}
 use Rattle.storage.specs.declared.Bitmap.{Bitmap}
 use Rattle.print.proofs.Promises.{prints-text}
 use Rattle.sheet.specs.Writer.{started, added, requested}
-use Rattle.sheet.specs.Promises.{Leaves}
+use Rattle.sheet.specs.Promises.{LeavesRest}
 use Rattle.sheet.specs.declared.Fields.{Fields}
 use Rattle.sheet.specs.declared.Added.{Added}
 use Rattle.sheet.specs.declared.Added.the-variants.{Done, Refused}
 use Rattle.sheet.proofs.Readings.{reading-means}
 use Rattle.sheet.proofs.Writings.{starting-means, adding-means}
 use Rattle.answers.specs.Answers.{AddedOut}
-use Rattle.capi.specs.Calls.{bitmapOf, Changed, Split, Printed, Written}
-use Rattle.capi.specs.Promises.{ChangesMean, ReadingsMean, OthersMean, CountIn, TruthIn, RefusalKeeps}
+use Rattle.capi.specs.Calls.{Changed, SplitOff, Printed, Written}
+use Rattle.capi.specs.Promises.{ChangesMean, ReadingsOut, OthersMean, CountIn, TruthIn, RefusedChangesNothing}
 
 -- ---- what crosses is what the answer is
 
@@ -72,8 +72,8 @@ changes-mean = record {
 abbrev noFound : Found → ℕ → Type 0
 noFound a = FindsNone (foundNumber a) (foundFlag a) (foundValue a)
 
-abbrev noNumber : Number → ℕ → Type 0
-noNumber a = HandsNone (numberNumber a) (numberValue a)
+abbrev noNumber : Amount → ℕ → Type 0
+noNumber a = HandsNone (amountNumber a) (amountValue a)
 
 abbrev noField : Field → ℕ → Type 0
 noField a = HandsNone (fieldNumber a) (fieldValue a)
@@ -81,15 +81,15 @@ noField a = HandsNone (fieldNumber a) (fieldValue a)
 abbrev noTruth : Truth → ℕ → Type 0
 noTruth a = HandsNone (truthNumber a) (truthValue a)
 
-pub readings-mean : ReadingsMean
-readings-mean = record {
+pub readings-out : ReadingsOut
+readings-out = record {
   found = λ rule g holds ws n r f v o.
       carry-three (λ x t y. Guarded ws (bitmapOf n) (FindsNone x t y) (rule (view ws n) x t y)) (o .number) (o .found) (o .place)
       (storage.reading-means Found.Refused g noFound (λ b a. rule b (foundNumber a) (foundFlag a) (foundValue a)) (λ e. (refl, refl, refl)) holds
       ws (bitmapOf n) _ refl);
-  number = λ rule g holds ws n r v o.
+  amount = λ rule g holds ws n r v o.
       carry (λ x y. Guarded ws (bitmapOf n) (HandsNone x y) (rule (view ws n) x y)) (o .number) (o .value)
-      (storage.reading-means Number.Refused g noNumber (λ b a. rule b (numberNumber a) (numberValue a)) (λ e. (refl, refl)) holds ws (bitmapOf n) _ refl);
+      (storage.reading-means Amount.Refused g noNumber (λ b a. rule b (amountNumber a) (amountValue a)) (λ e. (refl, refl)) holds ws (bitmapOf n) _ refl);
   field = λ rule g holds ws n r v o.
       carry (λ x y. Guarded ws (bitmapOf n) (HandsNone x y) (rule (view ws n) x y)) (o .number) (o .value)
       (storage.reading-means Field.Refused g noField (λ b a. rule b (fieldNumber a) (fieldValue a)) (λ e. (refl, refl)) holds ws (bitmapOf n) _ refl);
@@ -100,9 +100,9 @@ readings-mean = record {
       carry-three (λ x t y. GuardedBoth ws (bitmapOf n) os (bitmapOf m) (FindsNone x t y) (rule (view ws n) (view os m) x t y)) (o .number) (o .found) (o .place)
       (storage.both-means Found.Refused g noFound (λ b c a. rule b c (foundNumber a) (foundFlag a) (foundValue a)) (λ e. (refl, refl, refl)) holds
       ws (bitmapOf n) os (bitmapOf m) _ refl);
-  number-both = λ rule g holds ws os n m r v o.
+  amount-both = λ rule g holds ws os n m r v o.
       carry (λ x y. GuardedBoth ws (bitmapOf n) os (bitmapOf m) (HandsNone x y) (rule (view ws n) (view os m) x y)) (o .number) (o .value)
-      (storage.both-means Number.Refused g noNumber (λ b c a. rule b c (numberNumber a) (numberValue a)) (λ e. (refl, refl)) holds
+      (storage.both-means Amount.Refused g noNumber (λ b c a. rule b c (amountNumber a) (amountValue a)) (λ e. (refl, refl)) holds
       ws (bitmapOf n) os (bitmapOf m) _ refl);
   truth-both = λ rule g holds ws os n m r v o.
       carry (λ x y. GuardedBoth ws (bitmapOf n) os (bitmapOf m) (HandsNone x y) (rule (view ws n) (view os m) x y)) (o .number) (o .value)
@@ -138,7 +138,7 @@ change op ws ws' n r n' h p =
     let k = storage.refusal-keeps op ws ws' (bitmapOf n) _ (record { answers = refl; leaves = h .leaves }) (omega (arith, h .out .number)) in
     (h .out .count ∙ ap (λ (b : Bitmap). b .count) (k .0), k .1)
 
-split : (at : ℕ) (ws ts ws' ts' : List ℕ) (n r n' t : ℕ) → Split at ws n ts r ws' n' ts' t → 0 < r → (n' ≡ n) × (ws' ≡ ws) × (ts' ≡ ts)
+split : (at : ℕ) (ws ts ws' ts' : List ℕ) (n r n' t : ℕ) → SplitOff at ws n ts r ws' n' ts' t → 0 < r → (n' ≡ n) × (ws' ≡ ws) × (ts' ≡ ts)
 split at ws ts ws' ts' n r n' t h p =
     let k = halves.split-keeps at ws (bitmapOf n) ts _ ws' ts' (record { answers = refl; head = h .head; tail = h .tail }) (omega (arith, h .out .number)) in
     (h .out .count ∙ ap (λ (b : Bitmap). b .count) (k .0), k .2, k .3)
@@ -158,7 +158,7 @@ print ws bs bs' n r v h p =
     way (inl (x, s)) = q .stop x s .bytes
     way (inr t) = ends (q .rest t .2)
 
-kept : (a : Added) (bs bs' : List ℕ) (n r n' : ℕ) → AddedOut a n r n' → Leaves bs a bs' → 0 < r → (n' ≡ n) × (bs' ≡ bs)
+kept : (a : Added) (bs bs' : List ℕ) (n r n' : ℕ) → AddedOut a n r n' → LeavesRest bs a bs' → 0 < r → (n' ≡ n) × (bs' ≡ bs)
 kept (Done m) bs bs' n r n' o k p = absurd (omega (arith, o .number))
 kept (Refused e) bs bs' n r n' o k p = (o .length, k .kept (omega (arith, o .number)))
 
@@ -172,5 +172,5 @@ add bs bs' payload true f n kind r n' h =
 add bs bs' payload false f n kind r n' h =
     kept _ bs bs' n r n' (h .out) (adding-means .remarks bs n kind f payload _ bs' (record { answers = refl; leaves = h .leaves }) .leaves)
 
-pub refusal-keeps : RefusalKeeps
-refusal-keeps = record { change = change; split = split; print = print; start = start; add = add }
+pub refused-changes-nothing : RefusedChangesNothing
+refused-changes-nothing = record { change = change; split = split; print = print; start = start; add = add }

@@ -5,23 +5,18 @@ use mathlib.Core.Path.{_≡_}
 use mathlib.Core.Bool.{Bool, not}
 use mathlib.Core.List.{List}
 use lib.Dec.{eqb}
-use Rattle.storage.specs.Stores.{Op, withCount, noWords, reading, answer, store, outcome}
-use Rattle.storage.specs.declared.Bitmap.{Bitmap}
-use Rattle.storage.specs.declared.Number.{Number}
-use Rattle.storage.specs.declared.Number.the-variants.{Refused}
+use Rattle.storage.specs.Stores.{Op, reading, answer, store, outcome, bitmapOf}
+use Rattle.storage.specs.declared.Amount.{Amount}
+use Rattle.storage.specs.declared.Amount.the-variants.{Refused}
 use Rattle.shape.specs.Shapes.{headOutcome, tailOutcome, splitAnswer}
 use Rattle.print.specs.Texts.{textOf, fitted, replaced}
 use Rattle.sheet.specs.Reads.{course, readAnswer, readStore}
 use Rattle.sheet.specs.Writer.{Left}
-use Rattle.answers.specs.Answers.{ChangeOut, SplitOut, NumberOut, ReadingOut, AddedOut}
+use Rattle.answers.specs.Answers.{ChangeOut, SplitOut, AmountOut, ReadingOut, AddedOut}
 
 -- a truth value that comes in as a number: 0 is false
 abbrev pub truth : ℕ → Bool
 truth v = not (eqb v 0)
-
--- a record crosses as its count
-abbrev pub bitmapOf : ℕ → Bitmap
-bitmapOf n = withCount noWords n
 
 -- a changing call on the first n words of the store ws: the count goes in and out
 pub record Changed (op : Op) (ws : List ℕ) (n r : ℕ) (ws' : List ℕ) (n' : ℕ) : Type 0 where
@@ -29,14 +24,14 @@ pub record Changed (op : Op) (ws : List ℕ) (n r : ℕ) (ws' : List ℕ) (n' : 
   pub leaves : ws' ≡ store (outcome op ws (bitmapOf n)) ws n
 
 -- `split_off`: the head's count goes in and out, the tail's goes out
-pub record Split (at : ℕ) (ws : List ℕ) (n : ℕ) (ts : List ℕ) (r : ℕ) (ws' : List ℕ) (n' : ℕ) (ts' : List ℕ) (t : ℕ) : Type 0 where
+pub record SplitOff (at : ℕ) (ws : List ℕ) (n : ℕ) (ts : List ℕ) (r : ℕ) (ws' : List ℕ) (n' : ℕ) (ts' : List ℕ) (t : ℕ) : Type 0 where
   pub out : SplitOut (splitAnswer (headOutcome at ws (bitmapOf n) ts) (tailOutcome at ws (bitmapOf n) ts) (bitmapOf n)) r n' t
   pub head : ws' ≡ store (headOutcome at ws (bitmapOf n) ts) ws n
   pub tail : ts' ≡ store (tailOutcome at ws (bitmapOf n) ts) ts 0
 
 -- `write_list` of the first n words of ws into the buffer bs: the text's length goes out
 pub record Printed (ws : List ℕ) (n : ℕ) (bs : List ℕ) (r : ℕ) (bs' : List ℕ) (v : ℕ) : Type 0 where
-  pub out : NumberOut (reading ws (bitmapOf n) Number.Refused (λ s. fitted (textOf s) bs)) r v
+  pub out : AmountOut (reading ws (bitmapOf n) Amount.Refused (λ s. fitted (textOf s) bs)) r v
   pub leaves : bs' ≡ reading ws (bitmapOf n) (λ e. bs) (λ s. replaced (textOf s) bs)
 
 -- a reading in edition e of a sheet, from the first n words of ws, into the store res: record and count go out

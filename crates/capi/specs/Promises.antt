@@ -3,13 +3,13 @@ use Prim.Native.Nat.{ℕ, _<_}
 use mathlib.Core.Path.{_≡_}
 use mathlib.Core.Bool.{Bool, true, false}
 use mathlib.Core.List.{List}
-use Rattle.storage.specs.Refusals.{foundNumber, foundFlag, foundValue, numberNumber, numberValue, fieldNumber, fieldValue, truthNumber, truthValue}
-use Rattle.storage.specs.Stores.{Bits, Bounded, Space, Op, view, beside, reading, readingBoth}
+use Rattle.storage.specs.Refusals.{foundNumber, foundFlag, foundValue, amountNumber, amountValue, fieldNumber, fieldValue, truthNumber, truthValue}
+use Rattle.storage.specs.Stores.{Bits, Bounded, Space, Op, view, beside, reading, readingBoth, bitmapOf}
 use Rattle.storage.specs.Promises.{Guarded, GuardedBoth, HandsNone, FindsNone, Meets, Kept, EndsAs, CallEnds, BesideEnds}
 use Rattle.storage.specs.declared.Found.{Found}
 use Rattle.storage.specs.declared.Found.the-variants.{Refused}
-use Rattle.storage.specs.declared.Number.{Number}
-use Rattle.storage.specs.declared.Number.the-variants.{Refused}
+use Rattle.storage.specs.declared.Amount.{Amount}
+use Rattle.storage.specs.declared.Amount.the-variants.{Refused}
 use Rattle.storage.specs.declared.Field.{Field}
 use Rattle.storage.specs.declared.Field.the-variants.{Refused}
 use Rattle.storage.specs.declared.Truth.{Truth}
@@ -22,8 +22,8 @@ use Rattle.sheet.specs.Promises.{ReadingMeans, StartMeans, AddMeans}
 use Rattle.sheet.specs.declared.Fields.{Fields}
 use Rattle.sheet.specs.declared.Reading.{Reading}
 use Rattle.sheet.specs.declared.Added.{Added}
-use Rattle.answers.specs.Answers.{FoundOut, NumberOut, FieldOut, TruthOut, ReadingOut, AddedOut}
-use Rattle.capi.specs.Calls.{truth, bitmapOf, Changed, Split, Printed, Read, Written}
+use Rattle.answers.specs.Answers.{FoundOut, AmountOut, FieldOut, TruthOut, ReadingOut, AddedOut}
+use Rattle.capi.specs.Calls.{truth, Changed, SplitOff, Printed, Read, Written}
 
 -- a changing call keeps what its operation promises: by itself, with a second bitmap, with two
 pub record ChangesMean : Type 1 where
@@ -41,12 +41,12 @@ pub record ChangesMean : Type 1 where
       (GuardedBoth xs (bitmapOf k) ys (bitmapOf m) (Kept n ws r n' ws') (EndsAs (rule x y) (why x y) (view ws n) ws r n' ws'))
 
 -- a reading call hands out what is promised of its answer by number, flag and value, of one bitmap or of two
-pub record ReadingsMean : Type 1 where
+pub record ReadingsOut : Type 1 where
   pub found : (rule : Bits → ℕ → ℕ → ℕ → Type 0) (g : Bits → Found)
       → ((b : Bits) → Bounded b → rule b (foundNumber (g b)) (foundFlag (g b)) (foundValue (g b)))
       → (ws : List ℕ) (n r f v : ℕ) → FoundOut (reading ws (bitmapOf n) Found.Refused g) r f v → Guarded ws (bitmapOf n) (FindsNone r f v) (rule (view ws n) r f v)
-  pub number : (rule : Bits → ℕ → ℕ → Type 0) (g : Bits → Number) → ((b : Bits) → Bounded b → rule b (numberNumber (g b)) (numberValue (g b)))
-      → (ws : List ℕ) (n r v : ℕ) → NumberOut (reading ws (bitmapOf n) Number.Refused g) r v → Guarded ws (bitmapOf n) (HandsNone r v) (rule (view ws n) r v)
+  pub amount : (rule : Bits → ℕ → ℕ → Type 0) (g : Bits → Amount) → ((b : Bits) → Bounded b → rule b (amountNumber (g b)) (amountValue (g b)))
+      → (ws : List ℕ) (n r v : ℕ) → AmountOut (reading ws (bitmapOf n) Amount.Refused g) r v → Guarded ws (bitmapOf n) (HandsNone r v) (rule (view ws n) r v)
   pub field : (rule : Bits → ℕ → ℕ → Type 0) (g : Bits → Field) → ((b : Bits) → Bounded b → rule b (fieldNumber (g b)) (fieldValue (g b)))
       → (ws : List ℕ) (n r v : ℕ) → FieldOut (reading ws (bitmapOf n) Field.Refused g) r v → Guarded ws (bitmapOf n) (HandsNone r v) (rule (view ws n) r v)
   pub truth : (rule : Bits → ℕ → ℕ → Type 0) (g : Bits → Truth) → ((b : Bits) → Bounded b → rule b (truthNumber (g b)) (truthValue (g b)))
@@ -55,9 +55,9 @@ pub record ReadingsMean : Type 1 where
       → ((b o : Bits) → Bounded b → Bounded o → rule b o (foundNumber (g b o)) (foundFlag (g b o)) (foundValue (g b o)))
       → (ws os : List ℕ) (n m r f v : ℕ) → FoundOut (readingBoth ws (bitmapOf n) os (bitmapOf m) Found.Refused g) r f v
       → GuardedBoth ws (bitmapOf n) os (bitmapOf m) (FindsNone r f v) (rule (view ws n) (view os m) r f v)
-  pub number-both : (rule : Bits → Bits → ℕ → ℕ → Type 0) (g : Bits → Bits → Number)
-      → ((b o : Bits) → Bounded b → Bounded o → rule b o (numberNumber (g b o)) (numberValue (g b o)))
-      → (ws os : List ℕ) (n m r v : ℕ) → NumberOut (readingBoth ws (bitmapOf n) os (bitmapOf m) Number.Refused g) r v
+  pub amount-both : (rule : Bits → Bits → ℕ → ℕ → Type 0) (g : Bits → Bits → Amount)
+      → ((b o : Bits) → Bounded b → Bounded o → rule b o (amountNumber (g b o)) (amountValue (g b o)))
+      → (ws os : List ℕ) (n m r v : ℕ) → AmountOut (readingBoth ws (bitmapOf n) os (bitmapOf m) Amount.Refused g) r v
       → GuardedBoth ws (bitmapOf n) os (bitmapOf m) (HandsNone r v) (rule (view ws n) (view os m) r v)
   pub truth-both : (rule : Bits → Bits → ℕ → ℕ → Type 0) (g : Bits → Bits → Truth)
       → ((b o : Bits) → Bounded b → Bounded o → rule b o (truthNumber (g b o)) (truthValue (g b o)))
@@ -66,7 +66,7 @@ pub record ReadingsMean : Type 1 where
 
 -- the other calls: `split_off`, `write_list`, and those of the sheet
 pub record OthersMean : Type 0 where
-  pub split : (at : ℕ) (ws ts ws' ts' : List ℕ) (n r n' t : ℕ) → Split at ws n ts r ws' n' ts' t → SplitMeans at ws (bitmapOf n) ts r n' t ws' ts'
+  pub split : (at : ℕ) (ws ts ws' ts' : List ℕ) (n r n' t : ℕ) → SplitOff at ws n ts r ws' n' ts' t → SplitMeans at ws (bitmapOf n) ts r n' t ws' ts'
   pub print : (ws bs bs' : List ℕ) (n r v : ℕ) → Printed ws n bs r bs' v → PrintsText ws (bitmapOf n) bs r v bs'
   pub read : (e : ℕ) (sheet ws res res' : List ℕ) (n r k m : ℕ) → Read e sheet ws n res r res' k m
       → (a : Reading) × ReadingOut a r k m × ReadingMeans e sheet ws (bitmapOf n) res a res'
@@ -86,9 +86,9 @@ pub record TruthIn : Type 0 where
   pub other : (v : ℕ) → 0 < v → truth v ≡ true
 
 -- a refused call changes no word, no byte, no count and no length, whatever it works on. Only `read` differs
-pub record RefusalKeeps : Type 0 where
+pub record RefusedChangesNothing : Type 0 where
   pub change : (op : Op) (ws ws' : List ℕ) (n r n' : ℕ) → Changed op ws n r ws' n' → 0 < r → (n' ≡ n) × (ws' ≡ ws)
-  pub split : (at : ℕ) (ws ts ws' ts' : List ℕ) (n r n' t : ℕ) → Split at ws n ts r ws' n' ts' t → 0 < r → (n' ≡ n) × (ws' ≡ ws) × (ts' ≡ ts)
+  pub split : (at : ℕ) (ws ts ws' ts' : List ℕ) (n r n' t : ℕ) → SplitOff at ws n ts r ws' n' ts' t → 0 < r → (n' ≡ n) × (ws' ≡ ws) × (ts' ≡ ts)
   pub print : (ws bs bs' : List ℕ) (n r v : ℕ) → Printed ws n bs r bs' v → 0 < r → bs' ≡ bs
   pub start : (bs bs' : List ℕ) (n r n' : ℕ) → Written (started bs) n r bs' n' → 0 < r → (n' ≡ n) × (bs' ≡ bs)
   pub add : (bs bs' payload : List ℕ) (d : Bool) (f : Fields) (n kind r n' : ℕ) → Written (added bs n (requested d kind f payload)) n r bs' n' → 0 < r

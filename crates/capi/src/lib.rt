@@ -5,9 +5,9 @@
 // false, any other is true, and 1 is handed out for true.
 //
 // `trimmed` stays behind, because it hands back a part of its words: `trim` gives that part's length.
+mod both;
 mod changes;
 mod lists;
-mod pairs;
 mod scans;
 mod sets;
 mod shapes;

@@ -25,5 +25,5 @@ pub extern "C" fn taxolbin_write_list(
     ensures { λ r. ⌜ Printed (now (words .entry)) count (now (out .entry)) r (now (out .exit)) (now (length .exit)) ⌝ }
 {
     let a = print::write_list(words, Bitmap { count, ..EMPTY }, out);
-    answers::number(a, length)
+    answers::amount(a, length)
 }

@@ -1,19 +1,18 @@
 // What one bitmap holds: bits, fields, scans and counts.
 use storage::Bitmap;
 use storage::EMPTY;
-ghost use Rattle.storage.specs.Stores.{reading, nextFrom, size};
+ghost use Rattle.storage.specs.Stores.{reading, nextFrom, size, bitmapOf};
 ghost use Rattle.storage.specs.declared.Found.{Found};
 ghost use Rattle.storage.specs.declared.Found.the-variants.{Refused};
-ghost use Rattle.storage.specs.declared.Number.{Number};
-ghost use Rattle.storage.specs.declared.Number.the-variants.{Is, Refused};
+ghost use Rattle.storage.specs.declared.Amount.{Amount};
+ghost use Rattle.storage.specs.declared.Amount.the-variants.{Is, Refused};
 ghost use Rattle.storage.specs.declared.Field.{Field};
 ghost use Rattle.storage.specs.declared.Field.the-variants.{Refused};
 ghost use Rattle.storage.specs.declared.Truth.{Truth};
 ghost use Rattle.storage.specs.declared.Truth.the-variants.{Is, Refused};
 ghost use Rattle.slice.specs.Slices.{fieldAt, lastSet, nextClear};
-ghost use Rattle.bits.specs.Bits.{clearSize, countRegion, rankOf, selected};
-ghost use Rattle.answers.specs.Answers.{FoundOut, NumberOut, FieldOut, TruthOut};
-ghost use Rattle.capi.specs.Calls.{bitmapOf};
+ghost use Rattle.bits.specs.Bitwise.{clearSize, countRegion, rankOf, selected};
+ghost use Rattle.answers.specs.Answers.{FoundOut, AmountOut, FieldOut, TruthOut};
 
 // Whether bit i is set; it is not past the length.
 #[no_mangle]
@@ -100,10 +99,10 @@ pub extern "C" fn taxolbin_select(
 // The least clear bit; the length where all are set.
 #[no_mangle]
 pub extern "C" fn taxolbin_first_clear(words: &[u64], count: usize, value: &mut usize) -> u32
-    ensures { λ r. ⌜ NumberOut (reading (now (words .entry)) (bitmapOf count) Number.Refused (λ s. Number.Is (nextClear s 0))) r (now (value .exit)) ⌝ }
+    ensures { λ r. ⌜ AmountOut (reading (now (words .entry)) (bitmapOf count) Amount.Refused (λ s. Amount.Is (nextClear s 0))) r (now (value .exit)) ⌝ }
 {
     let a = slice::first_clear(words, Bitmap { count, ..EMPTY });
-    answers::number(a, value)
+    answers::amount(a, value)
 }
 
 // The least clear bit from i on; i itself past the length.
@@ -114,28 +113,28 @@ pub extern "C" fn taxolbin_next_clear(
     i: usize,
     value: &mut usize,
 ) -> u32
-    ensures { λ r. ⌜ NumberOut (reading (now (words .entry)) (bitmapOf count) Number.Refused (λ s. Number.Is (nextClear s i))) r (now (value .exit)) ⌝ }
+    ensures { λ r. ⌜ AmountOut (reading (now (words .entry)) (bitmapOf count) Amount.Refused (λ s. Amount.Is (nextClear s i))) r (now (value .exit)) ⌝ }
 {
     let a = slice::next_clear(words, Bitmap { count, ..EMPTY }, i);
-    answers::number(a, value)
+    answers::amount(a, value)
 }
 
 // How many bits are set.
 #[no_mangle]
 pub extern "C" fn taxolbin_count_set_bits(words: &[u64], count: usize, value: &mut usize) -> u32
-    ensures { λ r. ⌜ NumberOut (reading (now (words .entry)) (bitmapOf count) Number.Refused (λ s. Number.Is (size s))) r (now (value .exit)) ⌝ }
+    ensures { λ r. ⌜ AmountOut (reading (now (words .entry)) (bitmapOf count) Amount.Refused (λ s. Amount.Is (size s))) r (now (value .exit)) ⌝ }
 {
     let a = slice::count_set_bits(words, Bitmap { count, ..EMPTY });
-    answers::number(a, value)
+    answers::amount(a, value)
 }
 
 // How many bits within the length are clear.
 #[no_mangle]
 pub extern "C" fn taxolbin_count_clear_bits(words: &[u64], count: usize, value: &mut usize) -> u32
-    ensures { λ r. ⌜ NumberOut (reading (now (words .entry)) (bitmapOf count) Number.Refused (λ s. Number.Is (clearSize s))) r (now (value .exit)) ⌝ }
+    ensures { λ r. ⌜ AmountOut (reading (now (words .entry)) (bitmapOf count) Amount.Refused (λ s. Amount.Is (clearSize s))) r (now (value .exit)) ⌝ }
 {
     let a = bits::count_clear_bits(words, Bitmap { count, ..EMPTY });
-    answers::number(a, value)
+    answers::amount(a, value)
 }
 
 // How many of the k bits from i on are set.
@@ -147,17 +146,17 @@ pub extern "C" fn taxolbin_count_region(
     k: usize,
     value: &mut usize,
 ) -> u32
-    ensures { λ r. ⌜ NumberOut (reading (now (words .entry)) (bitmapOf count) Number.Refused (λ s. Number.Is (countRegion i k s))) r (now (value .exit)) ⌝ }
+    ensures { λ r. ⌜ AmountOut (reading (now (words .entry)) (bitmapOf count) Amount.Refused (λ s. Amount.Is (countRegion i k s))) r (now (value .exit)) ⌝ }
 {
     let a = bits::count_region(words, Bitmap { count, ..EMPTY }, i, k);
-    answers::number(a, value)
+    answers::amount(a, value)
 }
 
 // How many bits below i are set.
 #[no_mangle]
 pub extern "C" fn taxolbin_rank(words: &[u64], count: usize, i: usize, value: &mut usize) -> u32
-    ensures { λ r. ⌜ NumberOut (reading (now (words .entry)) (bitmapOf count) Number.Refused (λ s. Number.Is (rankOf i s))) r (now (value .exit)) ⌝ }
+    ensures { λ r. ⌜ AmountOut (reading (now (words .entry)) (bitmapOf count) Amount.Refused (λ s. Amount.Is (rankOf i s))) r (now (value .exit)) ⌝ }
 {
     let a = bits::rank(words, Bitmap { count, ..EMPTY }, i);
-    answers::number(a, value)
+    answers::amount(a, value)
 }

@@ -1,12 +1,11 @@
 // Set operations: of a bitmap with another, of two into a third store, and of two into a store with no earlier count.
 use storage::Bitmap;
 use storage::EMPTY;
-ghost use mathlib.Core.Bool.{_&&_};
-ghost use Rattle.word.specs.Sets.{xorb};
-ghost use Rattle.storage.specs.Stores.{andNot, beside};
+ghost use Rattle.storage.specs.Stores.{beside, bitmapOf};
+ghost use Rattle.pairs.specs.declared.SetOp.the-variants.{And, AndNot, Xor};
 ghost use Rattle.setops.specs.Setops.{combining, uniting};
 ghost use Rattle.combine.specs.Combine.{combiningFrom, unitingFrom, besideBoth};
-ghost use Rattle.capi.specs.Calls.{bitmapOf, Changed};
+ghost use Rattle.capi.specs.Calls.{Changed};
 
 // Keeps the bits that are set in both.
 #[no_mangle]
@@ -16,7 +15,7 @@ pub extern "C" fn taxolbin_and(
     other: &[u64],
     ocount: usize,
 ) -> u32
-    ensures { λ r. ⌜ Changed (beside (now (other .entry)) (bitmapOf ocount) (combining _&&_)) (now (words .entry))
+    ensures { λ r. ⌜ Changed (beside (now (other .entry)) (bitmapOf ocount) (combining And)) (now (words .entry))
         (now (count .entry)) r (now (words .exit)) (now (count .exit)) ⌝ }
 {
     let n = *count;
@@ -36,7 +35,7 @@ pub extern "C" fn taxolbin_andnot(
     other: &[u64],
     ocount: usize,
 ) -> u32
-    ensures { λ r. ⌜ Changed (beside (now (other .entry)) (bitmapOf ocount) (combining andNot)) (now (words .entry))
+    ensures { λ r. ⌜ Changed (beside (now (other .entry)) (bitmapOf ocount) (combining AndNot)) (now (words .entry))
         (now (count .entry)) r (now (words .exit)) (now (count .exit)) ⌝ }
 {
     let n = *count;
@@ -76,7 +75,7 @@ pub extern "C" fn taxolbin_xor(
     other: &[u64],
     ocount: usize,
 ) -> u32
-    ensures { λ r. ⌜ Changed (beside (now (other .entry)) (bitmapOf ocount) (combining xorb)) (now (words .entry))
+    ensures { λ r. ⌜ Changed (beside (now (other .entry)) (bitmapOf ocount) (combining Xor)) (now (words .entry))
         (now (count .entry)) r (now (words .exit)) (now (count .exit)) ⌝ }
 {
     let n = *count;
@@ -99,7 +98,7 @@ pub extern "C" fn taxolbin_and_from(
     rcount: usize,
 ) -> u32
     ensures { λ r. ⌜ Changed (besideBoth (now (left .entry)) (bitmapOf lcount) (now (right .entry)) (bitmapOf rcount)
-        (combiningFrom _&&_)) (now (words .entry)) (now (count .entry)) r (now (words .exit)) (now (count .exit)) ⌝ }
+        (combiningFrom And)) (now (words .entry)) (now (count .entry)) r (now (words .exit)) (now (count .exit)) ⌝ }
 {
     let n = *count;
     let l = Bitmap {
@@ -125,7 +124,7 @@ pub extern "C" fn taxolbin_andnot_from(
     rcount: usize,
 ) -> u32
     ensures { λ r. ⌜ Changed (besideBoth (now (left .entry)) (bitmapOf lcount) (now (right .entry)) (bitmapOf rcount)
-        (combiningFrom andNot)) (now (words .entry)) (now (count .entry)) r (now (words .exit)) (now (count .exit)) ⌝ }
+        (combiningFrom AndNot)) (now (words .entry)) (now (count .entry)) r (now (words .exit)) (now (count .exit)) ⌝ }
 {
     let n = *count;
     let l = Bitmap {
@@ -177,7 +176,7 @@ pub extern "C" fn taxolbin_xor_from(
     rcount: usize,
 ) -> u32
     ensures { λ r. ⌜ Changed (besideBoth (now (left .entry)) (bitmapOf lcount) (now (right .entry)) (bitmapOf rcount)
-        (combiningFrom xorb)) (now (words .entry)) (now (count .entry)) r (now (words .exit)) (now (count .exit)) ⌝ }
+        (combiningFrom Xor)) (now (words .entry)) (now (count .entry)) r (now (words .exit)) (now (count .exit)) ⌝ }
 {
     let n = *count;
     let l = Bitmap {
@@ -203,7 +202,7 @@ pub extern "C" fn taxolbin_dup_and(
     rcount: usize,
 ) -> u32
     ensures { λ r. ⌜ Changed (besideBoth (now (left .entry)) (bitmapOf lcount) (now (right .entry)) (bitmapOf rcount)
-        (combiningFrom _&&_)) (now (words .entry)) 0 r (now (words .exit)) (now (count .exit)) ⌝ }
+        (combiningFrom And)) (now (words .entry)) 0 r (now (words .exit)) (now (count .exit)) ⌝ }
 {
     let l = Bitmap {
         count: lcount,
@@ -228,7 +227,7 @@ pub extern "C" fn taxolbin_dup_andnot(
     rcount: usize,
 ) -> u32
     ensures { λ r. ⌜ Changed (besideBoth (now (left .entry)) (bitmapOf lcount) (now (right .entry)) (bitmapOf rcount)
-        (combiningFrom andNot)) (now (words .entry)) 0 r (now (words .exit)) (now (count .exit)) ⌝ }
+        (combiningFrom AndNot)) (now (words .entry)) 0 r (now (words .exit)) (now (count .exit)) ⌝ }
 {
     let l = Bitmap {
         count: lcount,
@@ -278,7 +277,7 @@ pub extern "C" fn taxolbin_dup_xor(
     rcount: usize,
 ) -> u32
     ensures { λ r. ⌜ Changed (besideBoth (now (left .entry)) (bitmapOf lcount) (now (right .entry)) (bitmapOf rcount)
-        (combiningFrom xorb)) (now (words .entry)) 0 r (now (words .exit)) (now (count .exit)) ⌝ }
+        (combiningFrom Xor)) (now (words .entry)) 0 r (now (words .exit)) (now (count .exit)) ⌝ }
 {
     let l = Bitmap {
         count: lcount,

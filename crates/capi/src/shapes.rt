@@ -1,10 +1,10 @@
 // Flips, shifts, resizing, splitting, joining and gaps, growing and trimming.
 use storage::Bitmap;
 use storage::EMPTY;
-ghost use Rattle.storage.specs.Stores.{beside};
+ghost use Rattle.storage.specs.Stores.{beside, bitmapOf};
 ghost use Rattle.shape.specs.Shapes.{toggling, togglingRegion, raising, lowering, truncating, resizing, appending};
 ghost use Rattle.gap.specs.Gaps.{opening, closing};
-ghost use Rattle.capi.specs.Calls.{bitmapOf, Changed, Split};
+ghost use Rattle.capi.specs.Calls.{Changed, SplitOff};
 
 // Flips bit i; grows to its word.
 #[no_mangle]
@@ -100,7 +100,7 @@ pub extern "C" fn taxolbin_split_off(
     tail: &mut [u64],
     tcount: &mut usize,
 ) -> u32
-    ensures { λ r. ⌜ Split at (now (words .entry)) (now (count .entry)) (now (tail .entry)) r (now (words .exit)) (now (count .exit))
+    ensures { λ r. ⌜ SplitOff at (now (words .entry)) (now (count .entry)) (now (tail .entry)) r (now (words .exit)) (now (count .exit))
         (now (tail .exit)) (now (tcount .exit)) ⌝ }
 {
     let n = *count;

@@ -1,8 +1,8 @@
 // Changes within the length: the count stays.
 use storage::Bitmap;
 use storage::EMPTY;
-ghost use Rattle.slice.specs.Slices.{fieldSetting};
-ghost use Rattle.bits.specs.Bits.{toggling, inverting, reversing};
+ghost use Rattle.slice.specs.Slices.{settingFieldInside};
+ghost use Rattle.bits.specs.Bitwise.{togglingInside, inverting, reversing};
 ghost use Rattle.shift.specs.Shifts.{shiftingLeft, shiftingRight, rotatingLeft, rotatingRight};
 ghost use Rattle.capi.specs.Calls.{Changed};
 
@@ -15,7 +15,7 @@ pub extern "C" fn taxolbin_set_field_strict(
     value: u64,
     width: usize,
 ) -> u32
-    ensures { λ r. ⌜ Changed (fieldSetting i value width) (now (words .entry)) (now (count .entry)) r (now (words .exit)) (now (count .exit)) ⌝ }
+    ensures { λ r. ⌜ Changed (settingFieldInside i value width) (now (words .entry)) (now (count .entry)) r (now (words .exit)) (now (count .exit)) ⌝ }
 {
     let n = *count;
     let a = slice::set_field_strict(words, Bitmap { count: n, ..EMPTY }, i, value, width);
@@ -25,7 +25,7 @@ pub extern "C" fn taxolbin_set_field_strict(
 // Flips bit i; 5 past the length.
 #[no_mangle]
 pub extern "C" fn taxolbin_slice_toggle(words: &mut [u64], count: &mut usize, i: usize) -> u32
-    ensures { λ r. ⌜ Changed (toggling i) (now (words .entry)) (now (count .entry)) r (now (words .exit)) (now (count .exit)) ⌝ }
+    ensures { λ r. ⌜ Changed (togglingInside i) (now (words .entry)) (now (count .entry)) r (now (words .exit)) (now (count .exit)) ⌝ }
 {
     let n = *count;
     let a = bits::toggle(words, Bitmap { count: n, ..EMPTY }, i);

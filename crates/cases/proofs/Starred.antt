@@ -4,12 +4,12 @@ use mathlib.Core.Path.{_≡_, refl, ap, ap₂, subst, _∙_}
 use mathlib.Core.List.{List, [], _∷_}
 use lib.ListN.{length}
 use Rattle.word.specs.Sets.{countBelow, leastFrom, topBelow, nth}
-use Rattle.word.specs.Bits.{bit, pack, wordOf, member, tabFrom, wordsOf}
+use Rattle.word.specs.Places.{bit, pack, wordOf, member, tabFrom, wordsOf}
 use Rattle.arch.specs.Scans.{filledWords}
-use Rattle.storage.specs.Stores.{Outcome, andThen, noWords, checked, view, reading, readingBoth, size, combined, foundBelow, within}
+use Rattle.storage.specs.Stores.{Outcome, andThen, noWords, checked, view, reading, readingBoth, size, combined, foundBelow, within, bitmapOf}
 use Rattle.storage.specs.Stores.{wordsFor, trimmedCount, wordAt, written, zeroed, answer, store, outcome}
 use Rattle.slice.specs.Slices.{equal, fieldAt, nextClear}
-use Rattle.bits.specs.Bits.{selected}
+use Rattle.bits.specs.Bitwise.{selected}
 use Rattle.shift.specs.Shifts.{movedUp, movedDown, turnedDown, rotatingRight}
 use Rattle.bitmap.specs.Bitmaps.{settingRegion, tidied, flippingBit}
 use Rattle.setops.specs.Setops.{uniting}
@@ -23,8 +23,8 @@ use Rattle.sheet.specs.Kinds.{rowOf, sizeIn, ruleOf}
 use Rattle.sheet.specs.Reader as sheets
 use Rattle.sheet.specs.Reads.{step, editionOf, course}
 use Rattle.storage.specs.declared.Bitmap.{Bitmap}
-use Rattle.storage.specs.declared.Number.{Number}
-use Rattle.storage.specs.declared.Number.the-variants.{Is, Refused}
+use Rattle.storage.specs.declared.Amount.{Amount}
+use Rattle.storage.specs.declared.Amount.the-variants.{Is, Refused}
 use Rattle.storage.specs.declared.Field.{Field}
 use Rattle.storage.specs.declared.Field.the-variants.{Refused}
 use Rattle.storage.specs.declared.Found.{Found}
@@ -35,36 +35,36 @@ use Rattle.print.specs.Texts.{textOf, fitted, replaced}
 use Rattle.sheet.specs.Reads.{readAnswer, readStore, readingCount}
 use Rattle.shape.specs.declared.Split.{Split}
 use Rattle.sheet.specs.declared.Reading.{Reading}
-use Rattle.cases.specs.Cases.{Ask, from-list, next-clear, first-clear, get-field, select, eq, rotate-right, xori, split-off, read, zeros, first, whole, changed, found, counted, fielded}
-use Rattle.cases.specs.Cases.{tested, parted, sheeted, Comes, Row, row, Hold, starred, StarredHold}
+use Rattle.cases.specs.Cases.{Question, from-list, next-clear, first-clear, get-field, select, eq, rotate-right, xori, split-off, read, zeros, whole, changed, found, counted, fielded}
+use Rattle.cases.specs.Cases.{tested, parted, sheeted, Comes, Sample, sample, Hold, starred, StarredHold}
 
 -- a reading's answer, and its result printed
 printing : Reading → List ℕ → List ℕ
 printing r ws =
-    let b = first (readingCount r) in
-    sheeted r (reading ws b Number.Refused (λ s. fitted (textOf s) (zeros 16))) (reading ws b (λ e. zeros 16) (λ s. replaced (textOf s) (zeros 16)))
+    let b = bitmapOf (readingCount r) in
+    sheeted r (reading ws b Amount.Refused (λ s. fitted (textOf s) (zeros 16))) (reading ws b (λ e. zeros 16) (λ s. replaced (textOf s) (zeros 16)))
 
 -- a call that came to the outcome o on the bitmap b in ws
 changedBy : Outcome → Bitmap → List ℕ → List ℕ
 changedBy o b ws = changed (answer o b) (store o ws (b .count))
 
 -- what the contract of a call makes of it
-outOf : Ask → List ℕ
+outOf : Question → List ℕ
 outOf (from-list bytes c) = changedBy (outcome (read.readingList bytes) (zeros c) noWords) noWords (zeros c)
-outOf (next-clear ws i) = counted (reading ws (whole ws) Number.Refused (λ s. Number.Is (nextClear s i)))
-outOf (first-clear ws) = counted (reading ws (whole ws) Number.Refused (λ s. Number.Is (nextClear s 0)))
+outOf (next-clear ws i) = counted (reading ws (whole ws) Amount.Refused (λ s. Amount.Is (nextClear s i)))
+outOf (first-clear ws) = counted (reading ws (whole ws) Amount.Refused (λ s. Amount.Is (nextClear s 0)))
 outOf (get-field ws i width) = fielded (reading ws (whole ws) Field.Refused (fieldAt i width))
 outOf (select ws k) = found (reading ws (whole ws) Found.Refused (selected k))
 outOf (eq ws os) = tested (readingBoth ws (whole ws) os (whole os) Truth.Refused (λ s t. Truth.Is (equal s t)))
 outOf (rotate-right ws k) = changedBy (outcome (rotatingRight k) ws (whole ws)) (whole ws) ws
-outOf (xori ws n i) = changedBy (outcome (flippingBit i) ws (first n)) (first n) ws
+outOf (xori ws n i) = changedBy (outcome (flippingBit i) ws (bitmapOf n)) (bitmapOf n) ws
 outOf (split-off ws at c) =
     let h = headOutcome at ws (whole ws) (zeros c) in
     let t = tailOutcome at ws (whole ws) (zeros c) in
     parted (splitAnswer h t (whole ws)) (store h ws (length ws)) (store t (zeros c) 0)
 outOf (read e sheet c) = let k = course e sheet [] noWords (zeros c) in printing (readAnswer k) (readStore k (zeros c))
 
-comes : (a : Ask) → Comes a (outOf a)
+comes : (a : Question) → Comes a (outOf a)
 unfolding printing changedBy outOf
 comes (from-list bytes c) = λ r ws h. ap₂ changed (h .answers) (h .leaves)
 comes (next-clear ws i) = λ r h. ap counted h
@@ -82,11 +82,11 @@ comes (read e sheet c) = λ r ws p bytes h q.
     ap₂ (sheeted r) (q .answers) (q .leaves)
     ∙ ap₂ printing (h .answers) (h .leaves)
 
-again : List Row → List Row
+again : List Sample → List Sample
 again [] = []
-again (r ∷ rs) = row (r .asked) (outOf (r .asked)) ∷ again rs
+again (r ∷ rs) = sample (r .asked) (outOf (r .asked)) ∷ again rs
 
-each : (rs : List Row) → Hold (again rs)
+each : (rs : List Sample) → Hold (again rs)
 unfolding again
 each [] = tt
 each (r ∷ rs) = (comes (r .asked), each rs)
@@ -96,7 +96,7 @@ computed : again starred ≡ starred
 unfolding countBelow leastFrom topBelow nth bit pack wordOf member tabFrom wordsOf filledWords andThen checked view reading readingBoth size combined foundBelow
     within wordsFor trimmedCount wordAt written zeroed answer store outcome equal fieldAt nextClear selected movedUp movedDown turnedDown rotatingRight
     settingRegion uniting tidied flippingBit raising lowered truncated tailOutcome headOutcome splitAnswer opening plain covers highest read.kind
-    read.value read.token read.empty read.step read.next read.reads read.parsed read.parse read.readingList runsFrom decimalFrom printed others text
+    read.value read.token read.empty read.byKind read.next read.reads read.parsed read.parse read.readingList runsFrom decimalFrom printed others text
     number rowOf sizeIn ruleOf sheets.act sheets.records sheets.read step editionOf course printing changedBy outOf again
 computed = refl
 

@@ -3,16 +3,16 @@ use Prim.Native.Nat.{ℕ, zero, suc}
 use mathlib.Core.Path.{_≡_}
 use mathlib.Core.List.{List, [], _∷_, _++_}
 use lib.ListN.{length, take}
-use Rattle.storage.specs.Refusals.{changeNumber, changeRecord, foundNumber, foundFlag, foundValue, numberNumber, numberValue, fieldNumber, fieldValue, truthNumber, truthValue}
-use Rattle.storage.specs.Stores.{withCount, noWords, reading, readingBoth, Changes}
+use Rattle.storage.specs.Refusals.{changeNumber, changeRecord, foundNumber, foundFlag, foundValue, amountNumber, amountValue, fieldNumber, fieldValue, truthNumber, truthValue}
+use Rattle.storage.specs.Stores.{noWords, reading, readingBoth, Changes, bitmapOf}
 use Rattle.storage.specs.declared.Bitmap.{Bitmap}
 use Rattle.storage.specs.declared.Change.{Change}
 use Rattle.storage.specs.declared.Found.{Found}
-use Rattle.storage.specs.declared.Number.{Number}
+use Rattle.storage.specs.declared.Amount.{Amount}
 use Rattle.storage.specs.declared.Field.{Field}
 use Rattle.storage.specs.declared.Truth.{Truth}
 use Rattle.slice.specs.Slices.{equal, fieldAt, nextClear}
-use Rattle.bits.specs.Bits.{selected}
+use Rattle.bits.specs.Bitwise.{selected}
 use Rattle.shift.specs.Shifts.{rotatingRight}
 use Rattle.bitmap.specs.Bitmaps.{flippingBit}
 use Rattle.shape.specs.Shapes.{splitNumber, splitHead, splitTail, Splits}
@@ -23,29 +23,26 @@ use Rattle.sheet.specs.Reads.{readingNumber, readingRecord, readingCount, Reads
 use Rattle.sheet.specs.declared.Reading.{Reading}
 
 -- what is asked; a bitmap's words are all of its store, but in `xori`, where it is the first of them
-pub data Ask : Type 0 where
-  from-list : (text : List ℕ) (capacity : ℕ) → Ask
-  next-clear : (words : List ℕ) (i : ℕ) → Ask
-  first-clear : (words : List ℕ) → Ask
-  get-field : (words : List ℕ) (i width : ℕ) → Ask
-  select : (words : List ℕ) (r : ℕ) → Ask
-  eq : (words others : List ℕ) → Ask
-  rotate-right : (words : List ℕ) (k : ℕ) → Ask
-  xori : (words : List ℕ) (count i : ℕ) → Ask
-  split-off : (words : List ℕ) (at capacity : ℕ) → Ask
+pub data Question : Type 0 where
+  from-list : (text : List ℕ) (capacity : ℕ) → Question
+  next-clear : (words : List ℕ) (i : ℕ) → Question
+  first-clear : (words : List ℕ) → Question
+  get-field : (words : List ℕ) (i width : ℕ) → Question
+  select : (words : List ℕ) (r : ℕ) → Question
+  eq : (words others : List ℕ) → Question
+  rotate-right : (words : List ℕ) (k : ℕ) → Question
+  xori : (words : List ℕ) (count i : ℕ) → Question
+  split-off : (words : List ℕ) (at capacity : ℕ) → Question
   -- from an empty bitmap
-  read : (edition : ℕ) (sheet : List ℕ) (capacity : ℕ) → Ask
+  read : (edition : ℕ) (sheet : List ℕ) (capacity : ℕ) → Question
 
 abbrev pub zeros : ℕ → List ℕ
 zeros zero = []
 zeros (suc n) = 0 ∷ zeros n
 
--- the record of the first n words of a store, and of all of them
-abbrev pub first : ℕ → Bitmap
-first n = withCount noWords n
-
+-- the record of all words of a store
 abbrev pub whole : List ℕ → Bitmap
-whole ws = first (length ws)
+whole ws = bitmapOf (length ws)
 
 -- the number, the count, and every word of the store
 abbrev pub changed : Change → List ℕ → List ℕ
@@ -55,8 +52,8 @@ changed r ws = changeNumber r ∷ changeRecord r .count ∷ ws
 abbrev pub found : Found → List ℕ
 found r = foundNumber r ∷ foundFlag r ∷ foundValue r ∷ []
 
-abbrev pub counted : Number → List ℕ
-counted r = numberNumber r ∷ numberValue r ∷ []
+abbrev pub counted : Amount → List ℕ
+counted r = amountNumber r ∷ amountValue r ∷ []
 
 abbrev pub fielded : Field → List ℕ
 fielded r = fieldNumber r ∷ fieldValue r ∷ []
@@ -69,33 +66,33 @@ abbrev pub parted : Split → List ℕ → List ℕ → List ℕ
 parted r ws ts = splitNumber r ∷ splitHead r .count ∷ (ws ++ (splitTail r ∷ ts))
 
 -- the number, the record, the word count, and the bytes of the list that was printed
-abbrev pub sheeted : Reading → Number → List ℕ → List ℕ
-sheeted r p bytes = readingNumber r ∷ readingRecord r ∷ readingCount r ∷ take (numberValue p) bytes
+abbrev pub sheeted : Reading → Amount → List ℕ → List ℕ
+sheeted r p bytes = readingNumber r ∷ readingRecord r ∷ readingCount r ∷ take (amountValue p) bytes
 
 -- whatever meets the call's contract comes out so; the result of a sheet is printed into sixteen bytes
-abbrev pub Comes : Ask → List ℕ → Type 0
+abbrev pub Comes : Question → List ℕ → Type 0
 Comes (from-list text c) out = (r : Change) (ws : List ℕ) → Changes (readingList text) (zeros c) noWords r ws → changed r ws ≡ out
-Comes (next-clear ws i) out = (r : Number) → r ≡ reading ws (whole ws) Number.Refused (λ s. Number.Is (nextClear s i)) → counted r ≡ out
-Comes (first-clear ws) out = (r : Number) → r ≡ reading ws (whole ws) Number.Refused (λ s. Number.Is (nextClear s 0)) → counted r ≡ out
+Comes (next-clear ws i) out = (r : Amount) → r ≡ reading ws (whole ws) Amount.Refused (λ s. Amount.Is (nextClear s i)) → counted r ≡ out
+Comes (first-clear ws) out = (r : Amount) → r ≡ reading ws (whole ws) Amount.Refused (λ s. Amount.Is (nextClear s 0)) → counted r ≡ out
 Comes (get-field ws i width) out = (r : Field) → r ≡ reading ws (whole ws) Field.Refused (fieldAt i width) → fielded r ≡ out
 Comes (select ws k) out = (r : Found) → r ≡ reading ws (whole ws) Found.Refused (selected k) → found r ≡ out
 Comes (eq ws os) out =
     (r : Truth) → r ≡ readingBoth ws (whole ws) os (whole os) Truth.Refused (λ s t. Truth.Is (equal s t)) → tested r ≡ out
 Comes (rotate-right ws k) out =
     (r : Change) (ws' : List ℕ) → Changes (rotatingRight k) ws (whole ws) r ws' → changed r ws' ≡ out
-Comes (xori ws n i) out = (r : Change) (ws' : List ℕ) → Changes (flippingBit i) ws (first n) r ws' → changed r ws' ≡ out
+Comes (xori ws n i) out = (r : Change) (ws' : List ℕ) → Changes (flippingBit i) ws (bitmapOf n) r ws' → changed r ws' ≡ out
 Comes (split-off ws at c) out =
     (r : Split) (ws' ts : List ℕ) → Splits at ws (whole ws) (zeros c) r ws' ts → parted r ws' ts ≡ out
 Comes (read e sheet c) out =
-    (r : Reading) (ws : List ℕ) (p : Number) (bytes : List ℕ)
-    → Reads e sheet [] noWords (zeros c) r ws → Prints ws (first (readingCount r)) (zeros 16) p bytes → sheeted r p bytes ≡ out
+    (r : Reading) (ws : List ℕ) (p : Amount) (bytes : List ℕ)
+    → Reads e sheet [] noWords (zeros c) r ws → Prints ws (bitmapOf (readingCount r)) (zeros 16) p bytes → sheeted r p bytes ≡ out
 
-pub record Row : Type 0 where
-  pub asked : Ask
+pub record Sample : Type 0 where
+  pub asked : Question
   pub out : List ℕ
 
-abbrev pub row : Ask → List ℕ → Row
-row a o = record { asked = a; out = o }
+abbrev pub sample : Question → List ℕ → Sample
+sample a o = record { asked = a; out = o }
 
 -- the sheet of 01
 abbrev pub sheet : List ℕ
@@ -103,55 +100,55 @@ sheet =
     0x4e ∷ 0x53 ∷ 0x00 ∷ 0x03 ∷ 0x83 ∷ 0x00 ∷ 0x09 ∷ 0x80 ∷ 0x00 ∷ 0x00 ∷ 0x02 ∷ 0x00 ∷ 0x00 ∷ 0x00 ∷ 0x01 ∷ 0x80 ∷ 0x01 ∷ 0x00 ∷ 0x02 ∷ 0x68
     ∷ 0x69 ∷ 0x8a ∷ 0x00 ∷ 0x08 ∷ 0x00 ∷ 0x00 ∷ 0x00 ∷ 0x05 ∷ 0x00 ∷ 0x00 ∷ 0x00 ∷ 0x02 ∷ []
 
-abbrev pub starred : List Row
+abbrev pub starred : List Sample
 starred =
     -- the empty text: 7
-    row (from-list [] 2) (7 ∷ 0 ∷ 0 ∷ 0 ∷ [])
+    sample (from-list [] 2) (7 ∷ 0 ∷ 0 ∷ 0 ∷ [])
     -- the text `,`: 7
-    ∷ row (from-list (44 ∷ []) 2) (7 ∷ 0 ∷ 0 ∷ 0 ∷ [])
+    ∷ sample (from-list (44 ∷ []) 2) (7 ∷ 0 ∷ 0 ∷ 0 ∷ [])
     -- the text `1,,`: 7
-    ∷ row (from-list (49 ∷ 44 ∷ 44 ∷ []) 2) (7 ∷ 0 ∷ 0 ∷ 0 ∷ [])
+    ∷ sample (from-list (49 ∷ 44 ∷ 44 ∷ []) 2) (7 ∷ 0 ∷ 0 ∷ 0 ∷ [])
     -- the text `5-3`: 7
-    ∷ row (from-list (53 ∷ 45 ∷ 51 ∷ []) 2) (7 ∷ 0 ∷ 0 ∷ 0 ∷ [])
+    ∷ sample (from-list (53 ∷ 45 ∷ 51 ∷ []) 2) (7 ∷ 0 ∷ 0 ∷ 0 ∷ [])
     -- the text `4294967296`: 7
-    ∷ row (from-list (52 ∷ 50 ∷ 57 ∷ 52 ∷ 57 ∷ 54 ∷ 55 ∷ 50 ∷ 57 ∷ 54 ∷ []) 2) (7 ∷ 0 ∷ 0 ∷ 0 ∷ [])
+    ∷ sample (from-list (52 ∷ 50 ∷ 57 ∷ 52 ∷ 57 ∷ 54 ∷ 55 ∷ 50 ∷ 57 ∷ 54 ∷ []) 2) (7 ∷ 0 ∷ 0 ∷ 0 ∷ [])
     -- `1,` reads {1}
-    ∷ row (from-list (49 ∷ 44 ∷ []) 2) (0 ∷ 1 ∷ 2 ∷ 0 ∷ [])
+    ∷ sample (from-list (49 ∷ 44 ∷ []) 2) (0 ∷ 1 ∷ 2 ∷ 0 ∷ [])
     -- ` 1 - 3 , 2` reads {1, 2, 3}
-    ∷ row (from-list (32 ∷ 49 ∷ 32 ∷ 45 ∷ 32 ∷ 51 ∷ 32 ∷ 44 ∷ 32 ∷ 50 ∷ []) 2) (0 ∷ 1 ∷ 14 ∷ 0 ∷ [])
+    ∷ sample (from-list (32 ∷ 49 ∷ 32 ∷ 45 ∷ 32 ∷ 51 ∷ 32 ∷ 44 ∷ 32 ∷ 50 ∷ []) 2) (0 ∷ 1 ∷ 14 ∷ 0 ∷ [])
     -- `4294967295` into two words: 6
-    ∷ row (from-list (52 ∷ 50 ∷ 57 ∷ 52 ∷ 57 ∷ 54 ∷ 55 ∷ 50 ∷ 57 ∷ 53 ∷ []) 2) (6 ∷ 0 ∷ 0 ∷ 0 ∷ [])
+    ∷ sample (from-list (52 ∷ 50 ∷ 57 ∷ 52 ∷ 57 ∷ 54 ∷ 55 ∷ 50 ∷ 57 ∷ 53 ∷ []) 2) (6 ∷ 0 ∷ 0 ∷ 0 ∷ [])
     -- bytes 31 C2 A0 (hexadecimal): 8
-    ∷ row (from-list (0x31 ∷ 0xc2 ∷ 0xa0 ∷ []) 2) (8 ∷ 0 ∷ 0 ∷ 0 ∷ [])
+    ∷ sample (from-list (0x31 ∷ 0xc2 ∷ 0xa0 ∷ []) 2) (8 ∷ 0 ∷ 0 ∷ 0 ∷ [])
     -- one word: next_clear(200) is 200
-    ∷ row (next-clear (5 ∷ []) 200) (0 ∷ 200 ∷ [])
+    ∷ sample (next-clear (5 ∷ []) 200) (0 ∷ 200 ∷ [])
     -- all ones: first_clear is 64
-    ∷ row (first-clear (0xffff_ffff_ffff_ffff ∷ [])) (0 ∷ 64 ∷ [])
+    ∷ sample (first-clear (0xffff_ffff_ffff_ffff ∷ [])) (0 ∷ 64 ∷ [])
     -- bits 60 to 63: get_field(60, 8) is 15
-    ∷ row (get-field (0xf000_0000_0000_0000 ∷ []) 60 8) (0 ∷ 15 ∷ [])
+    ∷ sample (get-field (0xf000_0000_0000_0000 ∷ []) 60 8) (0 ∷ 15 ∷ [])
     -- width 64 is read
-    ∷ row (get-field (0xf000_0000_0000_0000 ∷ []) 0 64) (0 ∷ 0xf000_0000_0000_0000 ∷ [])
+    ∷ sample (get-field (0xf000_0000_0000_0000 ∷ []) 0 64) (0 ∷ 0xf000_0000_0000_0000 ∷ [])
     -- 65 gets 3
-    ∷ row (get-field (0xf000_0000_0000_0000 ∷ []) 0 65) (3 ∷ 0 ∷ [])
+    ∷ sample (get-field (0xf000_0000_0000_0000 ∷ []) 0 65) (3 ∷ 0 ∷ [])
     -- bits 1 and 4: select(1) is 4, select(2) none
-    ∷ row (select (18 ∷ []) 1) (0 ∷ 1 ∷ 4 ∷ [])
-    ∷ row (select (18 ∷ []) 2) (0 ∷ 0 ∷ 0 ∷ [])
+    ∷ sample (select (18 ∷ []) 1) (0 ∷ 1 ∷ 4 ∷ [])
+    ∷ sample (select (18 ∷ []) 2) (0 ∷ 0 ∷ 0 ∷ [])
     -- bits 3, 69, 70, 100 split at 70: {3, 69} and {0, 30}
-    ∷ row (split-off (8 ∷ 68719476832 ∷ []) 70 2) (0 ∷ 2 ∷ 8 ∷ 32 ∷ 1 ∷ 1073741825 ∷ 0 ∷ [])
+    ∷ sample (split-off (8 ∷ 68719476832 ∷ []) 70 2) (0 ∷ 2 ∷ 8 ∷ 32 ∷ 1 ∷ 1073741825 ∷ 0 ∷ [])
     -- [1] and [1, 0] are equal, yet rotating right by 1 puts the bit at 63 and at 127
-    ∷ row (eq (1 ∷ []) (1 ∷ 0 ∷ [])) (0 ∷ 1 ∷ [])
-    ∷ row (rotate-right (1 ∷ []) 1) (0 ∷ 1 ∷ 0x8000_0000_0000_0000 ∷ [])
-    ∷ row (rotate-right (1 ∷ 0 ∷ []) 1) (0 ∷ 2 ∷ 0 ∷ 0x8000_0000_0000_0000 ∷ [])
+    ∷ sample (eq (1 ∷ []) (1 ∷ 0 ∷ [])) (0 ∷ 1 ∷ [])
+    ∷ sample (rotate-right (1 ∷ []) 1) (0 ∷ 1 ∷ 0x8000_0000_0000_0000 ∷ [])
+    ∷ sample (rotate-right (1 ∷ 0 ∷ []) 1) (0 ∷ 2 ∷ 0 ∷ 0x8000_0000_0000_0000 ∷ [])
     -- xori(130) twice on [1]: three words, then [1]
-    ∷ row (xori (1 ∷ 7 ∷ 7 ∷ 7 ∷ []) 1 130) (0 ∷ 3 ∷ 1 ∷ 0 ∷ 4 ∷ 7 ∷ [])
-    ∷ row (xori (1 ∷ 0 ∷ 4 ∷ 7 ∷ []) 3 130) (0 ∷ 1 ∷ 1 ∷ 0 ∷ 0 ∷ 7 ∷ [])
+    ∷ sample (xori (1 ∷ 7 ∷ 7 ∷ 7 ∷ []) 1 130) (0 ∷ 3 ∷ 1 ∷ 0 ∷ 4 ∷ 7 ∷ [])
+    ∷ sample (xori (1 ∷ 0 ∷ 4 ∷ 7 ∷ []) 3 130) (0 ∷ 1 ∷ 1 ∷ 0 ∷ 0 ∷ 7 ∷ [])
     -- the sheet, in both editions: 1 13 3 0, and 2 0 3 1 4, 7-8
-    ∷ row (read 1 sheet 128) (13 ∷ 3 ∷ 0 ∷ [])
-    ∷ row (read 2 sheet 128) (0 ∷ 3 ∷ 1 ∷ 52 ∷ 44 ∷ 32 ∷ 55 ∷ 45 ∷ 56 ∷ [])
+    ∷ sample (read 1 sheet 128) (13 ∷ 3 ∷ 0 ∷ [])
+    ∷ sample (read 2 sheet 128) (0 ∷ 3 ∷ 1 ∷ 52 ∷ 44 ∷ 32 ∷ 55 ∷ 45 ∷ 56 ∷ [])
     ∷ []
 
 -- every row comes out as it says
-abbrev pub Hold : List Row → Type 0
+abbrev pub Hold : List Sample → Type 0
 Hold [] = Unit {0}
 Hold (r ∷ rs) = Comes (r .asked) (r .out) × Hold rs
 

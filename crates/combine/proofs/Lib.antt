@@ -1,5 +1,4 @@
 pub mod Guards
-pub mod Lengths
 pub mod Writes
 pub mod Froms
 pub mod Promises

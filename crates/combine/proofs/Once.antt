@@ -10,8 +10,8 @@ use Rattle.combine.proofs.Promises.{combines-from, unites-from}
 
 pub calls-exact : CallsExact
 calls-exact = record {
-  combine = λ f x y e h k. once-exact (combiningFrom f x y) _ _ (combines-from f x y e h k)
-      (λ c b g l m. once-lacks-result c b (λ b s. Combines f y x s) (one-combined f y x));
+  combine = λ op x y h k. once-exact (combiningFrom op x y) _ _ (combines-from op x y h k)
+      (λ c b g l m. once-lacks-result c b (λ b s. Combines op y x s) (one-combined op y x));
   unite = λ x y h k. once-exact (unitingFrom x y) _ _ (unites-from x y h k)
       (λ c b g l m. once-lacks c b (Unites y x) (λ b. max (x .count) (y .count)) (one-united y x) (λ s p. p .count));
 }

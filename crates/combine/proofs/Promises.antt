@@ -1,33 +1,33 @@
 -- The promises of specs/Promises. Assumes nothing.
 use mathlib.Core.Path.{refl, subst}
-use mathlib.Core.Bool.{_||_}
 use mathlib.Core.List.{List}
 use Prim.Native.Nat.{ℕ, max}
+use Rattle.pairs.specs.declared.SetOp.the-variants.{Or}
 use Rattle.storage.specs.Refusals.{changeNumber, changeRecord}
 use Rattle.storage.specs.Stores.{Bits, Bounded, Op, noWords, view, held, beside, outcome, trimmed, combined}
-use Rattle.storage.specs.Promises.{Sound, Combines, Unites, Lacks, LacksResult}
+use Rattle.storage.specs.Promises.{Contained, Combines, Unites, Lacks, LacksResult}
 use Rattle.storage.specs.declared.Bitmap.{Bitmap}
 use Rattle.storage.proofs.Checks.{within-done}
-use Rattle.storage.proofs.Outcomes.{lacks, bounded-combined, sound-within, sound-beside}
+use Rattle.storage.proofs.Outcomes.{lacks, bounded-combined, contained-within, contained-beside}
 use Rattle.storage.proofs.Trims.{bounded-trimmed}
 use Rattle.storage.proofs.Views.{bounded-view}
 use Rattle.storage.proofs.Promises.{guarded-map, leaves-guarded, leaves-ends, guarded-once, ends-one, combined-fewest, combined-either}
 use Rattle.combine.specs.Combine.{combiningFrom, unitingFrom, besideBoth}
-use Rattle.combine.specs.Promises.{CombinesFrom, CombiningDiscards, UnitesFrom, UnitingDiscards, BothMeans, DeterminesBoth, CombineMeans, UniteMeans, DupCombineMeans, DupUniteMeans}
+use Rattle.combine.specs.Promises.{CombinesFrom, CombiningDiscards, UnitesFrom, UnitingDiscards, BothMeans, DeterminesBoth, CombineFromMeans, UniteFromMeans, DupCombineMeans, DupUniteMeans}
 
 -- ---- `and_from`, `andnot_from`, `xor_from` and their dup forms
 
 pub combines-from : CombinesFrom
 unfolding combiningFrom combined
-combines-from f x y e h k = record {
-  made = λ c b s q. subst (Combines f y x) (within-done c _ s q .0) (combined-fewest f x y);
-  sound = sound-within (combiningFrom f x y) (λ b. trimmed (combined f x y)) (λ c b. refl) (λ b i. bounded-trimmed (combined f x y) (bounded-combined f e x y h k));
-  why = λ c b e q. let l = lacks c _ e q in (l .0, (trimmed (combined f x y), combined-fewest f x y, l .1));
+combines-from op x y h k = record {
+  made = λ c b s q. subst (Combines op y x) (within-done c _ s q .0) (combined-fewest op x y);
+  contained = contained-within (combiningFrom op x y) (λ b. trimmed (combined op x y)) (λ c b. refl) (λ b i. bounded-trimmed (combined op x y) (bounded-combined op x y h k));
+  why = λ c b e q. let l = lacks c _ e q in (l .0, (trimmed (combined op x y), combined-fewest op x y, l .1));
 }
 
 pub combining-discards : CombiningDiscards
 unfolding combiningFrom
-combining-discards f x y c b b' = refl
+combining-discards op x y c b b' = refl
 
 -- ---- `or_from` and `dup_or`
 
@@ -35,7 +35,7 @@ pub unites-from : UnitesFrom
 unfolding unitingFrom combined
 unites-from x y h k = record {
   made = λ c b s q. subst (Unites y x) (within-done c _ s q .0) (combined-either x y);
-  sound = sound-within (unitingFrom x y) (λ b. combined _||_ x y) (λ c b. refl) (λ b i. bounded-combined _||_ refl x y h k);
+  contained = contained-within (unitingFrom x y) (λ b. combined Or x y) (λ c b. refl) (λ b i. bounded-combined Or x y h k);
   why = λ c b e q. lacks c _ e q;
 }
 
@@ -45,9 +45,9 @@ uniting-discards x y c b b' = refl
 
 -- ---- with the two stores that are read
 
-pub sound-both : (xs ys : List ℕ) (x y : Bitmap) (op : Bits → Bits → Op) → ((s t : Bits) → Bounded s → Bounded t → Sound (op s t)) → Sound (besideBoth xs x ys y op)
+pub contained-both : (xs ys : List ℕ) (x y : Bitmap) (op : Bits → Bits → Op) → ((s t : Bits) → Bounded s → Bounded t → Contained (op s t)) → Contained (besideBoth xs x ys y op)
 unfolding besideBoth
-sound-both xs ys x y op f = sound-beside xs x (λ s. beside ys y (op s)) (λ s h. sound-beside ys y (op s) (λ t k. f s t h k))
+contained-both xs ys x y op f = contained-beside xs x (λ s. beside ys y (op s)) (λ s h. contained-beside ys y (op s) (λ t k. f s t h k))
 
 pub both-means : BothMeans
 unfolding besideBoth beside outcome
@@ -92,16 +92,16 @@ determines-both op rule why exact xs x ys y ws us vs b r s f g p q =
     m' : ℕ
     m' = changeRecord s .count
 
-pub combine-means : CombineMeans
-combine-means f e =
-    both-means (combiningFrom f) (λ x y c b s. Combines f y x s) (λ x y. LacksResult (λ b s. Combines f y x s)) (λ x y. combines-from f x y e)
+pub combine-from-means : CombineFromMeans
+combine-from-means op =
+    both-means (combiningFrom op) (λ x y c b s. Combines op y x s) (λ x y. LacksResult (λ b s. Combines op y x s)) (λ x y. combines-from op x y)
 
-pub unite-means : UniteMeans
+pub unite-from-means : UniteFromMeans
 unfolding view
-unite-means = both-means unitingFrom (λ x y c b s. Unites y x s) (λ x y. Lacks (λ b. max (x .count) (y .count))) unites-from
+unite-from-means = both-means unitingFrom (λ x y c b s. Unites y x s) (λ x y. Lacks (λ b. max (x .count) (y .count))) unites-from
 
 pub dup-combine-means : DupCombineMeans
-dup-combine-means f e xs x ys y ws r ws' l = combine-means f e xs x ys y ws noWords r ws' l
+dup-combine-means op xs x ys y ws r ws' l = combine-from-means op xs x ys y ws noWords r ws' l
 
 pub dup-unite-means : DupUniteMeans
-dup-unite-means xs x ys y ws r ws' l = unite-means xs x ys y ws noWords r ws' l
+dup-unite-means xs x ys y ws r ws' l = unite-from-means xs x ys y ws noWords r ws' l

@@ -1,9 +1,9 @@
 -- What the calls promise, from their contracts. Each is proved in proofs/Promises, `CallsExact` in proofs/Once.
 use Prim.Native.Nat.{ℕ, _^_, _<_, max}
 use mathlib.Core.Path.{_≡_}
-use mathlib.Core.Bool.{Bool, false}
 use mathlib.Core.List.{List}
 use lib.ListN.{getD}
+use Rattle.pairs.specs.declared.SetOp.{SetOp}
 use Rattle.storage.specs.Refusals.{changeNumber, changeRecord}
 use Rattle.storage.specs.Promises.{Guarded, GuardedBoth, Combines, Unites, Meets, Lacks, LacksResult, Kept, EndsAs, MeetsExactly}
 use Rattle.storage.specs.Stores.{Bits, Bounded, Space, Op, noWords, held, Changes, Makes}
@@ -15,14 +15,14 @@ use Rattle.combine.specs.Combine.{combiningFrom, unitingFrom, besideBoth
 abbrev pub Discards : Op → Type 0
 Discards op = (c : Space) (b b' : Bits) → op c b ≡ op c b'
 
--- of any two bitmaps, the rule of the truth table f, and 6 exactly where its result has no space
+-- of any two bitmaps, the numbers that come in, in the fewest words, and 6 exactly where those have no space
 abbrev pub CombinesFrom : Type 0
 CombinesFrom =
-    (f : Bool → Bool → Bool) (x y : Bits) → f false false ≡ false → Bounded x → Bounded y
-    → Meets (combiningFrom f x y) (λ c b s. Combines f y x s) (LacksResult (λ b s. Combines f y x s))
+    (op : SetOp) (x y : Bits) → Bounded x → Bounded y
+    → Meets (combiningFrom op x y) (λ c b s. Combines op y x s) (LacksResult (λ b s. Combines op y x s))
 
 abbrev pub CombiningDiscards : Type 0
-CombiningDiscards = (f : Bool → Bool → Bool) (x y : Bits) → Discards (combiningFrom f x y)
+CombiningDiscards = (op : SetOp) (x y : Bits) → Discards (combiningFrom op x y)
 
 -- the members of either, and 6 exactly where the longer has no space
 abbrev pub UnitesFrom : Type 0
@@ -33,8 +33,8 @@ UnitingDiscards = (x y : Bits) → Discards (unitingFrom x y)
 
 -- and both are exact: done where there is a result as said, with space, and refused with 6 where there is none
 pub record CallsExact : Type 0 where
-  pub combine : (f : Bool → Bool → Bool) (x y : Bits) → f false false ≡ false → Bounded x → Bounded y
-      → MeetsExactly (combiningFrom f x y) (λ c b s. Combines f y x s) (LacksResult (λ b s. Combines f y x s))
+  pub combine : (op : SetOp) (x y : Bits) → Bounded x → Bounded y
+      → MeetsExactly (combiningFrom op x y) (λ c b s. Combines op y x s) (LacksResult (λ b s. Combines op y x s))
   pub unite : (x y : Bits) → Bounded x → Bounded y
       → MeetsExactly (unitingFrom x y) (λ c b s. Unites y x s) (Lacks (λ b. max (x .count) (y .count)))
 
@@ -67,15 +67,14 @@ DeterminesBoth =
     → (changeNumber r ≡ changeNumber s) × (changeRecord r .count ≡ changeRecord s .count) × (us ≡ vs)
 
 -- `and_from`, `andnot_from`, `xor_from`
-abbrev pub CombineMeans : Type 0
-CombineMeans =
-    (f : Bool → Bool → Bool) → f false false ≡ false
-    → (xs : List ℕ) (x : Bitmap) (ys : List ℕ) (y : Bitmap) (ws : List ℕ) (b : Bitmap) (r : Change) (ws' : List ℕ) → Changes (besideBoth xs x ys y (combiningFrom f)) ws b r ws'
-    → EndsBoth (λ c b s. Combines f (held ys y) (held xs x) s) (LacksResult (λ b s. Combines f (held ys y) (held xs x) s)) xs x ys y ws b r ws'
+abbrev pub CombineFromMeans : Type 0
+CombineFromMeans =
+    (op : SetOp) (xs : List ℕ) (x : Bitmap) (ys : List ℕ) (y : Bitmap) (ws : List ℕ) (b : Bitmap) (r : Change) (ws' : List ℕ) → Changes (besideBoth xs x ys y (combiningFrom op)) ws b r ws'
+    → EndsBoth (λ c b s. Combines op (held ys y) (held xs x) s) (LacksResult (λ b s. Combines op (held ys y) (held xs x) s)) xs x ys y ws b r ws'
 
 -- `or_from`
-abbrev pub UniteMeans : Type 0
-UniteMeans =
+abbrev pub UniteFromMeans : Type 0
+UniteFromMeans =
     (xs : List ℕ) (x : Bitmap) (ys : List ℕ) (y : Bitmap) (ws : List ℕ) (b : Bitmap) (r : Change) (ws' : List ℕ) → Changes (besideBoth xs x ys y unitingFrom) ws b r ws'
     → EndsBoth (λ c o s. Unites (held ys y) (held xs x) s) (Lacks (λ o. max (x .count) (y .count))) xs x ys y ws b r ws'
 
@@ -84,9 +83,8 @@ UniteMeans =
 -- `dup_and`, `dup_andnot`, `dup_xor`
 abbrev pub DupCombineMeans : Type 0
 DupCombineMeans =
-    (f : Bool → Bool → Bool) → f false false ≡ false
-    → (xs : List ℕ) (x : Bitmap) (ys : List ℕ) (y : Bitmap) (ws : List ℕ) (r : Change) (ws' : List ℕ) → Makes (besideBoth xs x ys y (combiningFrom f)) ws r ws'
-    → EndsBoth (λ c b s. Combines f (held ys y) (held xs x) s) (LacksResult (λ b s. Combines f (held ys y) (held xs x) s)) xs x ys y ws noWords r ws'
+    (op : SetOp) (xs : List ℕ) (x : Bitmap) (ys : List ℕ) (y : Bitmap) (ws : List ℕ) (r : Change) (ws' : List ℕ) → Makes (besideBoth xs x ys y (combiningFrom op)) ws r ws'
+    → EndsBoth (λ c b s. Combines op (held ys y) (held xs x) s) (LacksResult (λ b s. Combines op (held ys y) (held xs x) s)) xs x ys y ws noWords r ws'
 
 -- `dup_or`
 abbrev pub DupUniteMeans : Type 0

@@ -1,25 +1,55 @@
 // Set operations of two bitmaps into another store. What that store held before is discarded.
 //
-// Every call refuses for the store that is written, then for the two that are read. The kernels take the words in use of those two.
+// Every call refuses for the store that is written, then for the two that are read. The words of the result are counted before one is written.
 mod kernels;
 
+use pairs::SetOp;
 use storage::Bitmap;
 use storage::Change;
 use storage::Guard;
 use storage::Refusal;
-ghost use mathlib.Core.Bool.{_&&_};
-ghost use mathlib.Core.Path.{_≡_};
-ghost use Rattle.word.specs.Sets.{xorb};
-ghost use Rattle.storage.specs.Stores.{andNot, withCount, zeroed, Changes, Makes};
-ghost use Rattle.storage.specs.declared.Change.the-variants.{Done};
+ghost use Prim.Native.Nat.{_≤_};
+ghost use lib.ListN.{length};
+ghost use Rattle.arch.specs.Scans.{nonzeroLen};
+ghost use Rattle.pairs.specs.Pairs.{wordsBy, endBy};
+ghost use Rattle.pairs.specs.declared.SetOp.the-variants.{And, AndNot, Xor};
+ghost use Rattle.storage.specs.Stores.{view, within, Leaves, Changes, Makes};
+ghost use Rattle.storage.specs.Guards.{PassedThree};
 ghost use Rattle.combine.specs.Combine.{combiningFrom, unitingFrom, besideBoth};
 
-// m words are in use where b's were: those that fall out of use become zero.
-fn finish(words: &mut [u64], b: Bitmap, m: usize) -> Change
-    ensures { λ r. ⌜ (r ≡ Done (withCount b m)) × (now (words .exit) ≡ zeroed m (b .count) (now (words .entry))) ⌝ }
+// The first m words that the operation makes, where b's were in use: those that fall out of use become zero.
+fn put(op: SetOp, words: &mut [u64], b: Bitmap, left: &[u64], right: &[u64], m: usize) -> Change
+    requires { ⌜ (nonzeroLen (wordsBy op (now left) (now right)) ≤ m) × (m ≤ endBy op (length (now left)) (length (now right))) ⌝ }
+    ensures { λ a. ⌜ Leaves (within (length (now (words .entry))) (view (wordsBy op (now (left .entry)) (now (right .entry))) m))
+        (now (words .entry)) b a (now (words .exit)) ⌝ }
 {
-    storage::grow(words, m, b.count);
+    if m > words.len() {
+        return Change::Refused(Refusal::NoSpace, b);
+    }
+    kernels::put_words(op, words, left, right, m);
+    storage::zero_words(words, m, b.count);
     Change::Done(Bitmap { count: m, ..b })
+}
+
+// What the operation makes, in the fewest words.
+fn fewest(
+    op: SetOp,
+    words: &mut [u64],
+    b: Bitmap,
+    left: &[u64],
+    l: Bitmap,
+    right: &[u64],
+    r: Bitmap,
+) -> Change
+    requires { ⌜ PassedThree (now words) b (now left) l (now right) r ⌝ }
+    ensures { λ a. ⌜ Changes (besideBoth (now (left .entry)) l (now (right .entry)) r (combiningFrom op)) (now (words .entry)) b a (now (words .exit)) ⌝ }
+{
+    let i = l.count;
+    let j = r.count;
+    let x = &left[..i];
+    let y = &right[..j];
+    let m = pairs::nonzero_len(op, x, y);
+    put(op, words, b, x, y, m)
 }
 
 // The members of both bitmaps, in the fewest words.
@@ -31,22 +61,13 @@ pub fn and_from(
     right: &[u64],
     r: Bitmap,
 ) -> Change
-    ensures { λ a. ⌜ Changes (besideBoth (now (left .entry)) l (now (right .entry)) r (combiningFrom _&&_)) (now (words .entry)) b a (now (words .exit)) ⌝ }
+    ensures { λ a. ⌜ Changes (besideBoth (now (left .entry)) l (now (right .entry)) r (combiningFrom And)) (now (words .entry)) b a (now (words .exit)) ⌝ }
 {
-    let i = l.count;
-    let j = r.count;
     match storage::check_three(words, b, left, l, right, r) {
         Guard::Stop(e) => return Change::Refused(e, b),
         Guard::Pass => {}
     }
-    let x = &left[..i];
-    let y = &right[..j];
-    let m = kernels::and_len(x, y);
-    if m > words.len() {
-        return Change::Refused(Refusal::NoSpace, b);
-    }
-    kernels::and_words(words, x, y, m);
-    finish(words, b, m)
+    fewest(SetOp::And, words, b, left, l, right, r)
 }
 
 // The members of the left bitmap that are not in the right one, in the fewest words.
@@ -58,24 +79,13 @@ pub fn andnot_from(
     right: &[u64],
     r: Bitmap,
 ) -> Change
-    ensures { λ a. ⌜ Changes (besideBoth (now (left .entry)) l (now (right .entry)) r (combiningFrom andNot)) (now (words .entry)) b a (now (words .exit)) ⌝ }
+    ensures { λ a. ⌜ Changes (besideBoth (now (left .entry)) l (now (right .entry)) r (combiningFrom AndNot)) (now (words .entry)) b a (now (words .exit)) ⌝ }
 {
-    let i = l.count;
-    let j = r.count;
     match storage::check_three(words, b, left, l, right, r) {
         Guard::Stop(e) => return Change::Refused(e, b),
         Guard::Pass => {}
     }
-    let x = &left[..i];
-    let y = &right[..j];
-    let m = kernels::andnot_len(x, y);
-    if m > words.len() {
-        return Change::Refused(Refusal::NoSpace, b);
-    }
-    let both = word::min(j, m);
-    kernels::andnot_words(words, x, y, both);
-    kernels::copy_words(words, x, both, m);
-    finish(words, b, m)
+    fewest(SetOp::AndNot, words, b, left, l, right, r)
 }
 
 // The members of either bitmap, in as many words as the longer.
@@ -95,15 +105,14 @@ pub fn or_from(
         Guard::Stop(e) => return Change::Refused(e, b),
         Guard::Pass => {}
     }
-    let m = word::max(i, j);
-    if m > words.len() {
-        return Change::Refused(Refusal::NoSpace, b);
-    }
-    let x = &left[..i];
-    let y = &right[..j];
-    kernels::or_words(words, x, y, word::min(i, j));
-    kernels::copy_tail(words, x, y, m);
-    finish(words, b, m)
+    put(
+        SetOp::Or,
+        words,
+        b,
+        &left[..i],
+        &right[..j],
+        word::max(i, j),
+    )
 }
 
 // The members of one bitmap only, in the fewest words.
@@ -115,35 +124,25 @@ pub fn xor_from(
     right: &[u64],
     r: Bitmap,
 ) -> Change
-    ensures { λ a. ⌜ Changes (besideBoth (now (left .entry)) l (now (right .entry)) r (combiningFrom xorb)) (now (words .entry)) b a (now (words .exit)) ⌝ }
+    ensures { λ a. ⌜ Changes (besideBoth (now (left .entry)) l (now (right .entry)) r (combiningFrom Xor)) (now (words .entry)) b a (now (words .exit)) ⌝ }
 {
-    let i = l.count;
-    let j = r.count;
     match storage::check_three(words, b, left, l, right, r) {
         Guard::Stop(e) => return Change::Refused(e, b),
         Guard::Pass => {}
     }
-    let x = &left[..i];
-    let y = &right[..j];
-    let m = kernels::xor_len(x, y);
-    if m > words.len() {
-        return Change::Refused(Refusal::NoSpace, b);
-    }
-    kernels::xor_words(words, x, y, word::min(word::min(i, j), m));
-    kernels::copy_tail(words, x, y, m);
-    finish(words, b, m)
+    fewest(SetOp::Xor, words, b, left, l, right, r)
 }
 
 // The members of both bitmaps, into a store with no earlier count.
 pub fn dup_and(words: &mut [u64], left: &[u64], l: Bitmap, right: &[u64], r: Bitmap) -> Change
-    ensures { λ a. ⌜ Makes (besideBoth (now (left .entry)) l (now (right .entry)) r (combiningFrom _&&_)) (now (words .entry)) a (now (words .exit)) ⌝ }
+    ensures { λ a. ⌜ Makes (besideBoth (now (left .entry)) l (now (right .entry)) r (combiningFrom And)) (now (words .entry)) a (now (words .exit)) ⌝ }
 {
     and_from(words, storage::EMPTY, left, l, right, r)
 }
 
 // The members of the left bitmap that are not in the right one, into a store with no earlier count.
 pub fn dup_andnot(words: &mut [u64], left: &[u64], l: Bitmap, right: &[u64], r: Bitmap) -> Change
-    ensures { λ a. ⌜ Makes (besideBoth (now (left .entry)) l (now (right .entry)) r (combiningFrom andNot)) (now (words .entry)) a (now (words .exit)) ⌝ }
+    ensures { λ a. ⌜ Makes (besideBoth (now (left .entry)) l (now (right .entry)) r (combiningFrom AndNot)) (now (words .entry)) a (now (words .exit)) ⌝ }
 {
     andnot_from(words, storage::EMPTY, left, l, right, r)
 }
@@ -157,7 +156,7 @@ pub fn dup_or(words: &mut [u64], left: &[u64], l: Bitmap, right: &[u64], r: Bitm
 
 // The members of one bitmap only, into a store with no earlier count.
 pub fn dup_xor(words: &mut [u64], left: &[u64], l: Bitmap, right: &[u64], r: Bitmap) -> Change
-    ensures { λ a. ⌜ Makes (besideBoth (now (left .entry)) l (now (right .entry)) r (combiningFrom xorb)) (now (words .entry)) a (now (words .exit)) ⌝ }
+    ensures { λ a. ⌜ Makes (besideBoth (now (left .entry)) l (now (right .entry)) r (combiningFrom Xor)) (now (words .entry)) a (now (words .exit)) ⌝ }
 {
     xor_from(words, storage::EMPTY, left, l, right, r)
 }

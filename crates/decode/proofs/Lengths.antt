@@ -18,41 +18,41 @@ use Rattle.sheet.proofs.Tables.{past-kinds}
 use Rattle.decode.specs.declared.Asked.{Asked}
 use Rattle.decode.specs.declared.Asked.the-variants.{Refused}
 use Rattle.decode.specs.Asks.{askedBy, askedFor}
-use Rattle.decode.specs.Kernels.{bytesOf, asks}
+use Rattle.decode.specs.Kernels.{payloadLength, asks}
 
 -- a kind that is known by its number
-pub of-kind : (kind j n : ℕ) → bytesOf j ≡ n → kind ≡ j → bytesOf kind ≡ n
-of-kind kind j n e k = ap bytesOf k ∙ e
+pub of-kind : (kind j n : ℕ) → payloadLength j ≡ n → kind ≡ j → payloadLength kind ≡ n
+of-kind kind j n e k = ap payloadLength k ∙ e
 
 pub as-kind : (kind j : ℕ) (l : List ℕ) (r : Asked) → kind ≡ j → r ≡ asks (ruleOf j l) → r ≡ asks (ruleOf kind l)
 as-kind kind j l r k h = h ∙ ap (λ (k : ℕ). asks (ruleOf k l)) (sym k)
 
-pub of-place : (kind : ℕ) → 1 ≤ kind → kind ≤ 2 → bytesOf kind ≡ 4
-unfolding bytesOf
+pub of-place : (kind : ℕ) → 1 ≤ kind → kind ≤ 2 → payloadLength kind ≡ 4
+unfolding payloadLength
 of-place kind a b = by-lt kind 2 (λ l. of-kind kind 1 4 refl (omega arith)) (λ l. of-kind kind 2 4 refl (omega arith))
 
-pub of-region : bytesOf 3 ≡ 9
-unfolding bytesOf
+pub of-region : payloadLength 3 ≡ 9
+unfolding payloadLength
 of-region = refl
 
-pub of-field : bytesOf 4 ≡ 13
-unfolding bytesOf
+pub of-field : payloadLength 4 ≡ 13
+unfolding payloadLength
 of-field = refl
 
-pub of-turn : (kind : ℕ) → 5 ≤ kind → kind ≤ 6 → bytesOf kind ≡ 5
-unfolding bytesOf
+pub of-turn : (kind : ℕ) → 5 ≤ kind → kind ≤ 6 → payloadLength kind ≡ 5
+unfolding payloadLength
 of-turn kind a b = by-lt kind 6 (λ l. of-kind kind 5 5 refl (omega arith)) (λ l. of-kind kind 6 5 refl (omega arith))
 
-pub of-size : bytesOf 7 ≡ 5
-unfolding bytesOf
+pub of-size : payloadLength 7 ≡ 5
+unfolding payloadLength
 of-size = refl
 
-pub of-reverse : bytesOf 8 ≡ 0
-unfolding bytesOf
+pub of-reverse : payloadLength 8 ≡ 0
+unfolding payloadLength
 of-reverse = refl
 
-pub of-pair : (kind : ℕ) → 9 ≤ kind → kind ≤ 11 → bytesOf kind ≡ 8
-unfolding bytesOf
+pub of-pair : (kind : ℕ) → 9 ≤ kind → kind ≤ 11 → payloadLength kind ≡ 8
+unfolding payloadLength
 of-pair kind a b =
     by-lt kind 10 (λ l. of-kind kind 9 8 refl (omega arith))
     (λ l. by-lt kind 11 (λ m. of-kind kind 10 8 refl (omega arith)) (λ m. of-kind kind 11 8 refl (omega arith)))
@@ -81,13 +81,13 @@ row-bytes e n (some r) p = go (leb (r .since) e) p
     go true q = one q
     go false q = absurd (never q)
 
-pub record Held (kind n : ℕ) : Type 0 where
-  pub bytes : n ≡ bytesOf kind
+pub record HeldBytes (kind n : ℕ) : Type 0 where
+  pub bytes : n ≡ payloadLength kind
   pub low : 1 ≤ kind
   pub high : kind ≤ length table
 
-pub held : (e kind n : ℕ) → Bytes n ≡ known (sizeIn e kind) → Held kind n
-unfolding sizeIn bytesOf
+pub held : (e kind n : ℕ) → Bytes n ≡ known (sizeIn e kind) → HeldBytes kind n
+unfolding sizeIn payloadLength
 held e zero n p = absurd (never p)
 held e (suc k) n p = record {
   bytes = row-bytes e n (rowOf (suc k)) p;

@@ -36,22 +36,22 @@ pub fits-more : (x b i : ℕ) → x < 256 ^ i → b < 256 → x * 256 + b < 256 
 fits-more x b i h k = subst (λ (y : ℕ). x * 256 + b < y) (sym (pow-add 256 i 1)) (omega arith)
 
 -- i bytes are read
-pub record Read (bytes : List ℕ) (i x : ℕ) : Type 0 where
+pub record ReadUpTo (bytes : List ℕ) (i x : ℕ) : Type 0 where
   pub inside : i ≤ length bytes
   pub is : x ≡ number (take i bytes)
   pub small : x < 256 ^ i
 
-pub read-none : (bytes : List ℕ) → Read bytes 0 0
+pub read-none : (bytes : List ℕ) → ReadUpTo bytes 0 0
 unfolding number
 read-none bytes = record { inside = omega arith; is = refl; small = omega arith }
 
-pub read-more : (bytes : List ℕ) (i x b : ℕ) → Read bytes i x → i < length bytes → b ≡ getD bytes i 0 → b < 256 → Read bytes (i + 1) (x * 256 + b)
+pub read-more : (bytes : List ℕ) (i x b : ℕ) → ReadUpTo bytes i x → i < length bytes → b ≡ getD bytes i 0 → b < 256 → ReadUpTo bytes (i + 1) (x * 256 + b)
 read-more bytes i x b r h e k = record {
   inside = omega arith;
   is = ap₂ (λ (y z : ℕ). y * 256 + z) (r .is) e ∙ sym (number-more bytes i h);
   small = fits-more x b i (r .small) k;
 }
 
-pub read-all : (bytes : List ℕ) (i x : ℕ) → Read bytes i x → length bytes ≤ i → (x ≡ number bytes) × (x < 256 ^ length bytes)
+pub read-all : (bytes : List ℕ) (i x : ℕ) → ReadUpTo bytes i x → length bytes ≤ i → (x ≡ number bytes) × (x < 256 ^ length bytes)
 read-all bytes i x r h =
     (r .is ∙ ap number (take-all i bytes h), subst (λ (n : ℕ). x < 256 ^ n) (let e : i ≡ length bytes = omega (arith, r .inside) in e) (r .small))

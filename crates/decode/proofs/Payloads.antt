@@ -9,7 +9,7 @@ use lib.ListN.{length, take, drop, length-drop}
 use lib.Seq.{length-take-le, take-all, drop-drop}
 use lib.Dec.{leb}
 use borrow.Author.Tests.{le-leb, lt-leb}
-use Rattle.word.specs.Bits.{isOne}
+use Rattle.word.specs.Places.{isOne}
 use Rattle.word.proofs.Cases.{by-lt}
 use Rattle.storage.specs.declared.Refusal.the-variants.{BadPayload}
 use Rattle.sheet.specs.Bytes.{number}
@@ -23,16 +23,16 @@ use Rattle.decode.specs.Kernels.{asks}
 use Rattle.decode.proofs.Numbers.{number-cut}
 
 -- x is the number of the bytes l
-abbrev pub Is : List ℕ → ℕ → Type 0
-Is l x = (x ≡ number l) × (x < 256 ^ length l)
+abbrev pub IsNumber : List ℕ → ℕ → Type 0
+IsNumber l x = (x ≡ number l) × (x < 256 ^ length l)
 
 -- so it is below 256 ^ n where there are n bytes
-pub below : (l : List ℕ) (x n : ℕ) → Is l x → length l ≡ n → x < 256 ^ n
+pub below : (l : List ℕ) (x n : ℕ) → IsNumber l x → length l ≡ n → x < 256 ^ n
 below l x n h e = subst (λ (m : ℕ). x < 256 ^ m) e (h .1)
 
 -- the bytes from k on, as a slice has them
-pub rest : (k : ℕ) (l : List ℕ) (x : ℕ) → Is (take (length l - k) (drop k l)) x → Is (drop k l) x
-rest k l x h = subst (λ (y : List ℕ). Is y x) (take-all (length l - k) (drop k l) (omega (arith, length-drop k l))) h
+pub rest : (k : ℕ) (l : List ℕ) (x : ℕ) → IsNumber (take (length l - k) (drop k l)) x → IsNumber (drop k l) x
+rest k l x h = subst (λ (y : List ℕ). IsNumber y x) (take-all (length l - k) (drop k l) (omega (arith, length-drop k l))) h
 
 -- a payload's edit, or none
 is-edit : (k : ℕ) (l : List ℕ) (e : Edit) → ruleOf k l ≡ some e → For e ≡ asks (ruleOf k l)
@@ -50,7 +50,7 @@ one-bit b m d z o = by-lt b m (λ h. ap isOne (z h) ∙ sym (lt-leb m b h)) (λ 
 
 -- ---- kinds 1 and 2
 
-module _ (kind : ℕ) (l : List ℕ) (p : ℕ) (n : length l ≡ 4) (h : Is l p) where
+module _ (kind : ℕ) (l : List ℕ) (p : ℕ) (n : length l ≡ 4) (h : IsNumber l p) where
   up : p < 2 ^ 32
   up = below l p 4 h n
 
@@ -64,7 +64,7 @@ module _ (kind : ℕ) (l : List ℕ) (p : ℕ) (n : length l ≡ 4) (h : Is l p)
 
 -- ---- kind 3
 
-module _ (l : List ℕ) (b x : ℕ) (n : length l ≡ 9) (hb : Is (take 1 l) b) (hx : Is (drop 1 l) x) where
+module _ (l : List ℕ) (b x : ℕ) (n : length l ≡ 9) (hb : IsNumber (take 1 l) b) (hx : IsNumber (drop 1 l) x) where
   region-number : number l ≡ b * 2 ^ 64 + x
   region-number =
       number-cut 1 l ∙ ap (λ (m : ℕ). number (take 1 l) * 256 ^ m + number (drop 1 l)) (length-drop 1 l ∙ ap (λ (m : ℕ). m - 1) n)
@@ -101,14 +101,14 @@ module _ (l : List ℕ) (b x : ℕ) (n : length l ≡ 9) (hb : Is (take 1 l) b) 
 
 -- ---- kind 4
 
-module _ (l : List ℕ) (p b x : ℕ) (n : length l ≡ 13) (hp : Is (take 4 l) p) (hb : Is (take 1 (drop 4 l)) b) (hx : Is (drop 5 l) x) where
+module _ (l : List ℕ) (p b x : ℕ) (n : length l ≡ 13) (hp : IsNumber (take 4 l) p) (hb : IsNumber (take 1 (drop 4 l)) b) (hx : IsNumber (drop 5 l) x) where
   tail : length (drop 4 l) ≡ 9
   tail = length-drop 4 l ∙ ap (λ (m : ℕ). m - 4) n
 
   field-number : number l ≡ p * 2 ^ 72 + (b * 2 ^ 64 + x)
   field-number =
       number-cut 4 l ∙ ap (λ (m : ℕ). number (take 4 l) * 256 ^ m + number (drop 4 l)) tail
-      ∙ ap₂ (λ (y z : ℕ). y * 2 ^ 72 + z) (sym (hp .0)) (region-number (drop 4 l) b x tail hb (subst (λ (y : List ℕ). Is y x) (sym (drop-drop 1 4 l)) hx))
+      ∙ ap₂ (λ (y z : ℕ). y * 2 ^ 72 + z) (sym (hp .0)) (region-number (drop 4 l) b x tail hb (subst (λ (y : List ℕ). IsNumber y x) (sym (drop-drop 1 4 l)) hx))
 
   field-p : p < 2 ^ 32
   field-p = below (take 4 l) p 4 hp (length-take-le 4 l (omega arith))
@@ -150,7 +150,7 @@ module _ (l : List ℕ) (p b x : ℕ) (n : length l ≡ 13) (hp : Is (take 4 l) 
 
 -- ---- kinds 5, 6 and 7
 
-module _ (l : List ℕ) (x : ℕ) (n : length l ≡ 5) (h : Is l x) where
+module _ (l : List ℕ) (x : ℕ) (n : length l ≡ 5) (h : IsNumber l x) where
   five : x < 2 ^ 40
   five = below l x 5 h n
 
@@ -210,7 +210,7 @@ module _ (l : List ℕ) (x : ℕ) (n : length l ≡ 5) (h : Is l x) where
 
 -- ---- kinds 9, 10 and 11
 
-module _ (l : List ℕ) (x : ℕ) (n : length l ≡ 8) (h : Is l x) (kind : ℕ) where
+module _ (l : List ℕ) (x : ℕ) (n : length l ≡ 8) (h : IsNumber l x) (kind : ℕ) where
   eight : x < 2 ^ 64
   eight = below l x 8 h n
 

@@ -8,9 +8,9 @@ use Rattle.decode.specs.Asks.{askedBy}
 use Rattle.decode.specs.declared.Asked.{Asked}
 
 -- the payload's bytes of a kind
-unfoldable pub bytesOf : ℕ → ℕ
+unfoldable pub payloadLength : ℕ → ℕ
 unfolding rowOf bytesIn
-bytesOf kind = bytesBy (rowOf kind)
+payloadLength kind = bytesBy (rowOf kind)
 
 -- a payload's edit, or 12
 abbrev pub asks : Option Edit → Asked

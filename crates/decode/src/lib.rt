@@ -16,7 +16,7 @@ ghost use lib.ListN.{length};
 ghost use Rattle.sheet.specs.Bytes.{number};
 ghost use Rattle.sheet.specs.Kinds.{ruleOf};
 ghost use Rattle.decode.specs.Asks.{askedFor};
-ghost use Rattle.decode.specs.Kernels.{bytesOf, asks};
+ghost use Rattle.decode.specs.Kernels.{payloadLength, asks};
 
 // An edit, or the refusal 13 or 12.
 pub enum Asked {
@@ -134,7 +134,7 @@ fn pair(kind: usize, payload: &[u8]) -> Asked
 
 // A payload of its kind's length.
 fn decode(kind: usize, payload: &[u8]) -> Asked
-    requires { ⌜ (length (now payload) ≡ bytesOf kind) × (1 ≤ kind) × (kind ≤ 11) ⌝ }
+    requires { ⌜ (length (now payload) ≡ payloadLength kind) × (1 ≤ kind) × (kind ≤ 11) ⌝ }
     ensures { λ r. ⌜ r ≡ asks (ruleOf kind (now (payload .entry))) ⌝ }
 {
     if kind <= 2 {

@@ -17,8 +17,8 @@ use Rattle.setops.specs.Setops.{uniting}
 use Rattle.shape.specs.Shapes.{topOf, cutAt, lowered, truncated}
 use Rattle.shape.proofs.Moves.{raised, raise-none, raise-over, raise-put}
 use Rattle.gap.specs.Gaps.{opening}
-use Rattle.gap.specs.Kernels.{opened}
-use Rattle.gap.proofs.Tops.{Ends, ends-of, top-le, ends-count, ends-top, ends-down}
+use Rattle.gap.specs.Kernels.{gapOpened}
+use Rattle.gap.proofs.Tops.{TopAt, ends-of, top-le, ends-count, ends-top, ends-down}
 use Rattle.gap.proofs.Tails.{opened-below, opened-gap, opened-from}
 
 -- the words of a set that ends at or before another
@@ -33,7 +33,7 @@ words-none = refl
 -- ---- the head and the tail of a bitmap cut at p
 
 module _ (p : ℕ) (b : Bits) (h : Bounded b) where
-  pub tail-ends : Ends (movedDown p (b .members)) (topOf b - p)
+  pub tail-ends : TopAt (movedDown p (b .members)) (topOf b - p)
   tail-ends = ends-down (b .members) (topOf b) (ends-of b h) p
 
   pub tail-count : lowered p b .count ≡ wordsFor (topOf b - p)
@@ -86,13 +86,13 @@ module _ (p k c : ℕ) (b : Bits) (h : Bounded b) where
         ap (λ (o : Outcome). andThen o (λ t. uniting t c (truncated p b)))
         (raise-over _ c (lowered p b) (omega (arith, tail-top p b h)) (omega (arith, tail-top p b h)))
 
-    pub opened-ends : Ends (opened p k (b .members)) (topOf b + k)
+    pub opened-ends : TopAt (gapOpened p k (b .members)) (topOf b + k)
     opened-ends = record {
       last = λ i e. opened-from p k (b .members) i (omega arith) ∙ ends-of b h .last (i - k) (omega arith);
       over = λ i m. opened-from p k (b .members) i (omega arith) ∙ ends-of b h .over (i - k) (omega arith);
     }
 
-    moved : (i : ℕ) → (ltb i p && b .members i) || movedUp (p + k) (movedDown p (b .members)) i ≡ opened p k (b .members) i
+    moved : (i : ℕ) → (ltb i p && b .members i) || movedUp (p + k) (movedDown p (b .members)) i ≡ gapOpened p k (b .members) i
     unfolding movedDown
     moved i =
         by-lt i p
@@ -105,7 +105,7 @@ module _ (p k c : ℕ) (b : Bits) (h : Bounded b) where
         (λ q. moved-in (p + k) (movedDown p (b .members)) i q ∙ sym (opened-gap p k (b .members) i m q))
         (λ q. moved-up (p + k) (movedDown p (b .members)) i q ∙ ap (b .members) (omega arith) ∙ sym (opened-from p k (b .members) i q)))
 
-    pub open-put : topOf b + k ≤ 2 ^ 64 → opening p k c b ≡ within c (record { members = opened p k (b .members); count = wordsFor (topOf b + k) })
+    pub open-put : topOf b + k ≤ 2 ^ 64 → opening p k c b ≡ within c (record { members = gapOpened p k (b .members); count = wordsFor (topOf b + k) })
     unfolding opening andThen uniting combined lowered truncated
     open-put g =
         ap (λ (o : Outcome). andThen o (λ t. uniting t c (truncated p b)))
@@ -113,7 +113,7 @@ module _ (p k c : ℕ) (b : Bits) (h : Bounded b) where
         ∙ by-lt c (wordsFor (topOf b + k))
         (λ m.
         ap (λ (o : Outcome). andThen o (λ t. uniting t c (truncated p b))) (within-no c (raised (p + k) (lowered p b)) (omega (arith, count)))
-        ∙ sym (within-no c (record { members = opened p k (b .members); count = wordsFor (topOf b + k) }) m))
+        ∙ sym (within-no c (record { members = gapOpened p k (b .members); count = wordsFor (topOf b + k) }) m))
         (λ m.
         ap (λ (o : Outcome). andThen o (λ t. uniting t c (truncated p b))) (within-ok c (raised (p + k) (lowered p b)) (omega (arith, count)))
         ∙ ap (within c) (same-bits moved (omega (arith, count, head-count p b h (topOf b + k) (omega arith)))))

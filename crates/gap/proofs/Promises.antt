@@ -12,9 +12,9 @@ use Rattle.storage.proofs.Checks.{within-done}
 use Rattle.storage.proofs.Outcomes.{never, which, lacks}
 use Rattle.shape.specs.Shapes.{topOf}
 use Rattle.gap.specs.Gaps.{opening, closing}
-use Rattle.gap.specs.Kernels.{opened}
+use Rattle.gap.specs.Kernels.{gapOpened}
 use Rattle.gap.specs.Promises.{Trimmed, Opens, NotOpened, OpenMeans, Closes, CloseMeans}
-use Rattle.gap.proofs.Tops.{Ends, ends-of, top-le, ends-count}
+use Rattle.gap.proofs.Tops.{TopAt, ends-of, top-le, ends-count}
 use Rattle.gap.proofs.Tails.{opened-below, opened-gap, opened-from, closed-below, closed-from}
 use Rattle.gap.proofs.Opens.{open-none, open-over, open-put, opened-ends}
 use Rattle.gap.proofs.Closes.{shut, close-none, close-over, close-put, close-done}
@@ -22,14 +22,14 @@ use Rattle.gap.proofs.Closes.{shut, close-none, close-over, close-put, 
 -- ---- the fewest words
 
 -- a member lies below the end
-ends-under : {s : ℕ → Bool} {t : ℕ} → Ends s t → (i : ℕ) → s i ≡ true → i < t
+ends-under : {s : ℕ → Bool} {t : ℕ} → TopAt s t → (i : ℕ) → s i ≡ true → i < t
 ends-under {s} {t} e i y = by-lt i t (λ l. l) (λ l. absurd (false≢true (sym (e .over i l) ∙ y)))
 
-ends-trimmed : (s : Bits) (t : ℕ) → Ends (s .members) t → s .count ≡ wordsFor t → Trimmed s
+ends-trimmed : (s : Bits) (t : ℕ) → TopAt (s .members) t → s .count ≡ wordsFor t → Trimmed s
 unfolding wordsFor
 ends-trimmed s t e c = record { holds = λ i y. omega (arith, ends-under e i y); least = λ n f. least t e c n f }
   where
-    least : (t : ℕ) → Ends (s .members) t → s .count ≡ (t + 63) / 64 → (n : ℕ) → ((i : ℕ) → s .members i ≡ true → i < 64 * n) → s .count ≤ n
+    least : (t : ℕ) → TopAt (s .members) t → s .count ≡ (t + 63) / 64 → (n : ℕ) → ((i : ℕ) → s .members i ≡ true → i < 64 * n) → s .count ≤ n
     least zero e c n f = omega arith
     least (suc q) e c n f = omega (arith, f q (e .last q refl))
 
@@ -52,10 +52,10 @@ module _ (p k c : ℕ) (b : Bits) (h : Bounded b) where
     count = own-trimmed b h;
   }
     where
-      e : Ends (b .members) (topOf b)
+      e : TopAt (b .members) (topOf b)
       e = ends-of b h
 
-  with-tail : p < topOf b → topOf b + k ≤ 2 ^ 64 → Opens p k b (record { members = opened p k (b .members); count = wordsFor (topOf b + k) })
+  with-tail : p < topOf b → topOf b + k ≤ 2 ^ 64 → Opens p k b (record { members = gapOpened p k (b .members); count = wordsFor (topOf b + k) })
   with-tail l g = record {
     below = λ i m. opened-below p k (b .members) i m;
     empty = λ i m q. opened-gap p k (b .members) i m q;
@@ -95,7 +95,7 @@ module _ (p k c : ℕ) (b : Bits) (h : Bounded b) where
 pub opens : OpenMeans
 opens p k = record {
   made = λ c b s q h. open-made p k c b h s q .0;
-  sound = record { space = λ c b s h l q. open-made p k c b h s q .1; bound = λ c b s h l q. trimmed-bounded (open-made p k c b h s q .0 .count) };
+  contained = record { space = λ c b s h l q. open-made p k c b h s q .1; bound = λ c b s h l q. trimmed-bounded (open-made p k c b h s q .0 .count) };
   why = λ c b e q h. open-why p k c b h e q;
 }
 
@@ -131,6 +131,6 @@ module _ (p k : ℕ) (b : Bits) (h : Bounded b) where
 pub closes : CloseMeans
 closes p k = record {
   made = λ c b s q h. close-made p k b h c s q .0;
-  sound = record { space = λ c b s h l q. close-made p k b h c s q .1; bound = λ c b s h l q. trimmed-bounded (close-made p k b h c s q .0 .count) };
+  contained = record { space = λ c b s h l q. close-made p k b h c s q .1; bound = λ c b s h l q. trimmed-bounded (close-made p k b h c s q .0 .count) };
   why = λ c b e q h l m. never (sym (close-done p k c b h l (omega arith)) ∙ q);
 }

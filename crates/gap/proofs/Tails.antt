@@ -11,10 +11,10 @@ use lib.Pow.{ones-sub-lt}
 use lib.Dec.{ltb}
 use borrow.Author.Tests.{lt-ltb, le-ltb, le-leb, lt-leb}
 use Rattle.word.specs.Sets.{choose}
-use Rattle.word.specs.Bits.{bit, wordOf, member, wordsOf}
+use Rattle.word.specs.Places.{bit, wordOf, member, wordsOf}
 use Rattle.word.specs.Words.{lowMask}
 use Rattle.word.proofs.Cases.{by-lt, by-eq, and-false, and-keep}
-use Rattle.word.proofs.Bits.{bit-and, bit-not, bit-pack, pack-lt}
+use Rattle.word.proofs.Places.{bit-and, bit-not, bit-pack, pack-lt}
 use Rattle.word.proofs.Words.{bit-low-mask, low-mask-lt}
 use Rattle.word.proofs.Lists.{Fit, at-place, past, length-words, word-at, words-is, member-at}
 use Rattle.word.proofs.Sweep.{getD-set}
@@ -22,7 +22,7 @@ use Rattle.shift.specs.Shifts.{movedUp, movedDown}
 use Rattle.shift.proofs.Moves.{moved-up, moved-in}
 use Rattle.slice.specs.Kernels.{overlaid}
 use Rattle.slice.proofs.Stricts.{overlay-is}
-use Rattle.gap.specs.Kernels.{opened, closed}
+use Rattle.gap.specs.Kernels.{gapOpened, gapClosed}
 
 -- ---- the words from word a on are those of a set
 
@@ -133,24 +133,24 @@ module _ (us part : List ℕ) (p mask low : ℕ) (h s : ℕ → Bool) (f : Fit u
 -- ---- the sets
 
 module _ (p k : ℕ) (s : ℕ → Bool) (i : ℕ) where
-  pub opened-below : i < p → opened p k s i ≡ s i
-  unfolding opened
+  pub opened-below : i < p → gapOpened p k s i ≡ s i
+  unfolding gapOpened
   opened-below h = rw (lt-ltb i p h)
 
-  pub opened-gap : p ≤ i → i < p + k → opened p k s i ≡ false
-  unfolding opened
+  pub opened-gap : p ≤ i → i < p + k → gapOpened p k s i ≡ false
+  unfolding gapOpened
   opened-gap h l = rw (le-ltb i p h, lt-leb (p + k) i l)
 
-  pub opened-from : p + k ≤ i → opened p k s i ≡ s (i - k)
-  unfolding opened
+  pub opened-from : p + k ≤ i → gapOpened p k s i ≡ s (i - k)
+  unfolding gapOpened
   opened-from h = let l : p ≤ i = omega arith in rw (le-ltb i p l, le-leb (p + k) i h)
 
-  pub closed-below : i < p → closed p k s i ≡ s i
-  unfolding closed
+  pub closed-below : i < p → gapClosed p k s i ≡ s i
+  unfolding gapClosed
   closed-below h = rw (lt-ltb i p h)
 
-  pub closed-from : p ≤ i → closed p k s i ≡ s (i + k)
-  unfolding closed
+  pub closed-from : p ≤ i → gapClosed p k s i ≡ s (i + k)
+  unfolding gapClosed
   closed-from h = rw (le-ltb i p h)
 
 -- ---- the calls on words
@@ -175,20 +175,20 @@ pub after-set-long : (ws part : List ℕ) (a v : ℕ) (h : ℕ → Bool) → a <
 after-set-long ws part a v h l ep = joined-long (set ws a v) part a h (omega (arith, length-set ws a v)) ep ∙ length-set ws a v
 
 module _ (ws : List ℕ) (p k : ℕ) (f : Fit ws) where
-  pub close-out : length ws ≤ p / 64 → ws ≡ wordsOf (closed p k (member ws)) (length ws)
-  close-out h = own-words ws (closed p k (member ws)) f (λ i l. closed-below p k (member ws) i (omega arith))
+  pub close-out : length ws ≤ p / 64 → ws ≡ wordsOf (gapClosed p k (member ws)) (length ws)
+  close-out h = own-words ws (gapClosed p k (member ws)) f (λ i l. closed-below p k (member ws) i (omega arith))
 
-  pub open-out : length ws ≤ p / 64 → ws ≡ wordsOf (opened p k (member ws)) (length ws)
-  open-out h = own-words ws (opened p k (member ws)) f (λ i l. opened-below p k (member ws) i (omega arith))
+  pub open-out : length ws ≤ p / 64 → ws ≡ wordsOf (gapOpened p k (member ws)) (length ws)
+  open-out h = own-words ws (gapOpened p k (member ws)) f (λ i l. opened-below p k (member ws) i (omega arith))
 
   module _ (part : List ℕ) (mask : ℕ) (l : p / 64 < length ws) (em : mask ≡ lowMask 64 (p % 64)) where
     pub close-tail : part ≡ wordsOf (movedDown k (member (take (length ws - p / 64) (drop (p / 64) ws)))) (length (take (length ws - p / 64) (drop (p / 64) ws)))
         → set (take (p / 64) ws ++ (part ++ drop (length ws - p / 64) (drop (p / 64) ws))) (p / 64)
         (bitOr (bitAnd (getD (take (p / 64) ws ++ (part ++ drop (length ws - p / 64) (drop (p / 64) ws))) (p / 64) 0) ((2 ^ 64 - 1) - mask)) (bitAnd (getD ws (p / 64) 0) mask))
-        ≡ wordsOf (closed p k (member ws)) (length ws)
+        ≡ wordsOf (gapClosed p k (member ws)) (length ws)
     unfolding movedDown
     close-tail ep =
-        tail-is ws part p mask (getD ws (p / 64) 0) (movedDown k (member (take (length ws - p / 64) (drop (p / 64) ws)))) (closed p k (member ws)) f l ep em (f (p / 64))
+        tail-is ws part p mask (getD ws (p / 64) 0) (movedDown k (member (take (length ws - p / 64) (drop (p / 64) ws)))) (gapClosed p k (member ws)) f l ep em (f (p / 64))
         (λ m j a b. sym (member-at ws m j b) ∙ sym (closed-below p k (member ws) (64 * m + j) (omega arith)))
         (λ j a. sym (member-at ws (p / 64) j (omega arith)) ∙ sym (closed-below p k (member ws) (64 * (p / 64) + j) (omega arith)))
         (λ i a. member-tail ws (p / 64) (i - 64 * (p / 64) + k) ∙ ap (member ws) (omega arith) ∙ sym (closed-from p k (member ws) i a))
@@ -236,15 +236,15 @@ module _ (ws : List ℕ) (p k : ℕ) (f : Fit ws) where
     pub open-tail : part ≡ wordsOf (movedUp k (member (take (length us - p / 64) (drop (p / 64) us)))) (length (take (length us - p / 64) (drop (p / 64) us)))
         → set (take (p / 64) us ++ (part ++ drop (length us - p / 64) (drop (p / 64) us))) (p / 64)
         (bitOr (bitAnd (getD (take (p / 64) us ++ (part ++ drop (length us - p / 64) (drop (p / 64) us))) (p / 64) 0) ((2 ^ 64 - 1) - mask)) (bitAnd (getD ws (p / 64) 0) mask))
-        ≡ wordsOf (opened p k (member ws)) (length ws)
+        ≡ wordsOf (gapOpened p k (member ws)) (length ws)
     open-tail ep =
-        tail-is us part p mask (getD ws (p / 64) 0) (movedUp k (member (take (length us - p / 64) (drop (p / 64) us)))) (opened p k (member ws)) us-fit (omega (arith, us-long)) ep em (f (p / 64))
+        tail-is us part p mask (getD ws (p / 64) 0) (movedUp k (member (take (length us - p / 64) (drop (p / 64) us)))) (gapOpened p k (member ws)) us-fit (omega (arith, us-long)) ep em (f (p / 64))
         (λ m j a b. ap (λ (x : ℕ). bit x j) (us-other m (omega arith)) ∙ sym (member-at ws m j b) ∙ sym (opened-below p k (member ws) (64 * m + j) (omega arith)))
         (λ j a. sym (member-at ws (p / 64) j (omega arith)) ∙ sym (opened-below p k (member ws) (64 * (p / 64) + j) (omega arith)))
         moved
-        ∙ ap (wordsOf (opened p k (member ws))) us-long
+        ∙ ap (wordsOf (gapOpened p k (member ws))) us-long
       where
-        moved : (i : ℕ) → p ≤ i → movedUp k (member (take (length us - p / 64) (drop (p / 64) us))) (i - 64 * (p / 64)) ≡ opened p k (member ws) i
+        moved : (i : ℕ) → p ≤ i → movedUp k (member (take (length us - p / 64) (drop (p / 64) us))) (i - 64 * (p / 64)) ≡ gapOpened p k (member ws) i
         moved i a =
             by-lt (i - 64 * (p / 64)) k
             (λ h. moved-in k (member (take (length us - p / 64) (drop (p / 64) us))) (i - 64 * (p / 64)) h ∙ sym (opened-gap p k (member ws) i a (omega arith)))

@@ -11,11 +11,11 @@ use Rattle.shift.specs.Shifts.{movedDown}
 use Rattle.shape.specs.Shapes.{topOf}
 
 -- t is one more than the greatest member of all; or it is 0, and there is none
-pub record Ends (s : ℕ → Bool) (t : ℕ) : Type 0 where
+pub record TopAt (s : ℕ → Bool) (t : ℕ) : Type 0 where
   pub last : (k : ℕ) → suc k ≡ t → s k ≡ true
   pub over : (k : ℕ) → t ≤ k → s k ≡ false
 
-pub ends-of : (b : Bits) → Bounded b → Ends (b .members) (topOf b)
+pub ends-of : (b : Bits) → Bounded b → TopAt (b .members) (topOf b)
 ends-of b h = record {
   last = r .last;
   over = λ k l. by-lt k (64 * b .count) (λ m. r .over k l m) (λ m. h .past k m);
@@ -27,7 +27,7 @@ ends-of b h = record {
 pub top-le : (b : Bits) → topOf b ≤ 64 * b .count
 top-le b = top (b .members) (64 * b .count) .within
 
-module _ (s : ℕ → Bool) (t : ℕ) (e : Ends s t) where
+module _ (s : ℕ → Bool) (t : ℕ) (e : TopAt s t) where
   ends-below : (m : ℕ) → t ≤ m → topBelow s m ≡ t
   ends-below m h = top-is s m t (record { within = h; last = e .last; over = λ k a b. e .over k a })
 
@@ -40,6 +40,6 @@ module _ (s : ℕ → Bool) (t : ℕ) (e : Ends s t) where
   unfolding wordsFor
   ends-top n h = ends-below (64 * trimmedCount s n) (omega (arith, ends-count n h))
 
-  pub ends-down : (p : ℕ) → Ends (movedDown p s) (t - p)
+  pub ends-down : (p : ℕ) → TopAt (movedDown p s) (t - p)
   unfolding movedDown
   ends-down p = record { last = λ k q. e .last (k + p) (omega arith); over = λ k l. e .over (k + p) (omega arith) }

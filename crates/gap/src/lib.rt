@@ -9,14 +9,14 @@ use storage::Refusal;
 use word::Word;
 ghost use mathlib.Core.Path.{_≡_};
 ghost use lib.ListN.{length};
-ghost use Rattle.word.specs.Bits.{member, wordsOf};
+ghost use Rattle.word.specs.Places.{member, wordsOf};
 ghost use Rattle.storage.specs.Stores.{Changes};
 ghost use Rattle.gap.specs.Gaps.{opening, closing};
-ghost use Rattle.gap.specs.Kernels.{opened, closed};
+ghost use Rattle.gap.specs.Kernels.{gapOpened, gapClosed};
 
 // The bits from p on go k up; those that pass the end are lost.
 fn open_words(words: &mut [u64], p: usize, k: usize)
-    ensures { λ r. ⌜ now (words .exit) ≡ wordsOf (opened p k (member (now (words .entry)))) (length (now (words .entry))) ⌝ }
+    ensures { λ r. ⌜ now (words .exit) ≡ wordsOf (gapOpened p k (member (now (words .entry)))) (length (now (words .entry))) ⌝ }
 {
     let a = p / 64;
     if a >= words.len() {
@@ -31,7 +31,7 @@ fn open_words(words: &mut [u64], p: usize, k: usize)
 
 // The bits from p + k on go k down; those from p on, below p + k, are lost.
 fn close_words(words: &mut [u64], p: usize, k: usize)
-    ensures { λ r. ⌜ now (words .exit) ≡ wordsOf (closed p k (member (now (words .entry)))) (length (now (words .entry))) ⌝ }
+    ensures { λ r. ⌜ now (words .exit) ≡ wordsOf (gapClosed p k (member (now (words .entry)))) (length (now (words .entry))) ⌝ }
 {
     let a = p / 64;
     if a >= words.len() {
@@ -63,7 +63,7 @@ pub fn open_gap(words: &mut [u64], b: Bitmap, p: usize, k: usize) -> Change
     if w >= words.len() {
         return Change::Refused(Refusal::NoSpace, b);
     }
-    storage::grow(words, n, w + 1);
+    storage::zero_words(words, n, w + 1);
     let m = word::max(n, w + 1);
     open_words(&mut words[..m], p, k);
     Change::Done(Bitmap { count: w + 1, ..b })

@@ -3,9 +3,9 @@
 use libc::STDIN_FILENO;
 use libc::STDOUT_FILENO;
 use sheet::Reading;
+use storage::Amount;
 use storage::Bitmap;
 use storage::EMPTY;
-use storage::Number;
 
 // The most bytes of a sheet that is read.
 const MOST: usize = 65_535;
@@ -29,13 +29,13 @@ fn answer(edition: usize, number: usize, record: usize, count: usize) {
 fn list(words: &[u64], b: Bitmap) {
     let mut out = io::large_buffer();
     match print::write_list(words, b, &mut out) {
-        Number::Is(n) => {
+        Amount::Is(n) => {
             if n > 0 {
                 put(b" ");
                 put(&out[..n]);
             }
         }
-        Number::Refused(_) => {}
+        Amount::Refused(_) => {}
     }
 }
 

@@ -1,13 +1,20 @@
 -- The promises of specs/Promises. Assumes nothing.
-use mathlib.Core.Path.{_≡_, refl, sym, _∙_}
+use mathlib.Core.Path.{_≡_, refl, sym, ap₂, _∙_}
 use mathlib.Core.Bool.{Bool, true, false, true≢false}
+use mathlib.Core.List.{List}
 use mathlib.Core.Logic.{_↔_, _⊎_, inl, inr}
-use Rattle.word.specs.Bits.{bit, member}
-use Rattle.pairs.specs.Pairs.{tableOf, wordBy, wordsBy}
-use Rattle.pairs.specs.Promises.{ComesIn, TableMeans, MakesWord, MakesSet}
+use Prim.Native.Nat.{ℕ, _+_, _≤_, _<_, min, max}
+use native.Mathlib.Omega.{arith}
+use lib.ListN.{length, getD}
+use Rattle.word.specs.Places.{bit, member, tabFrom}
+use Rattle.word.proofs.Cases.{by-lt}
+use Rattle.word.proofs.Lists.{past, length-tab, tab-at}
+use Rattle.pairs.specs.Pairs.{tableOf, wordBy, wordsBy, endBy}
+use Rattle.pairs.specs.Promises.{ComesIn, TableMeans, MakesWord, MakesSet, NoneFrom, EndMeans}
 use Rattle.pairs.specs.declared.SetOp.{SetOp}
 use Rattle.pairs.specs.declared.SetOp.the-variants.{And, AndNot, Or, Xor}
-use Rattle.pairs.proofs.Tables.{by-lt-word, by-bit, by-length, by-fit, by-member}
+use Rattle.pairs.proofs.Tables.{by-lt-word, by-bit, by-length, by-fit, by-at, by-member}
+use Rattle.pairs.proofs.Scans.{past-end}
 
 -- ---- the table, line by line
 
@@ -43,30 +50,67 @@ xor-table p q = (there p q, back p q)
     back false q (inr (e, f)) = f
 
 pub table-means : TableMeans
-table-means p q = record { and = and-table p q; andnot = andnot-table p q; or = or-table p q; xor = xor-table p q }
+table-means And = and-table
+table-means AndNot = andnot-table
+table-means Or = or-table
+table-means Xor = xor-table
 
 -- ---- what is by the table at a place
 
-one-line : {t u : Bool} {A : Type 0} → t ≡ u → (u ≡ true) ↔ A → (t ≡ true) ↔ A
-one-line e l = ((λ a. l .0 (sym e ∙ a)), (λ a. e ∙ l .1 a))
-
-by-table : (p q : Bool) (r : SetOp → Bool) → ((op : SetOp) → r op ≡ tableOf op p q) → ComesIn p q (λ op. r op ≡ true)
-by-table p q r e = record {
-  and = one-line (e And) (and-table p q);
-  andnot = one-line (e AndNot) (andnot-table p q);
-  or = one-line (e Or) (or-table p q);
-  xor = one-line (e Xor) (xor-table p q);
-}
+pub by-table : (op : SetOp) (p q r : Bool) → r ≡ tableOf op p q → (r ≡ true) ↔ ComesIn op p q
+by-table op p q r e = ((λ a. table-means op p q .0 (sym e ∙ a)), (λ a. e ∙ table-means op p q .1 a))
 
 pub makes-word : MakesWord
 makes-word = record {
   fits = by-lt-word;
-  places = λ x y j l. by-table (bit x j) (bit y j) (λ op. bit (wordBy op x y) j) (λ op. by-bit op x y j l);
+  places = λ op x y j l. by-table op (bit x j) (bit y j) (bit (wordBy op x y) j) (by-bit op x y j l);
 }
 
 pub makes-set : MakesSet
 makes-set = record {
   long = by-length;
   fits = by-fit;
-  members = λ xs ys i. by-table (member xs i) (member ys i) (λ op. member (wordsBy op xs ys) i) (λ op. by-member op xs ys i);
+  members = λ op xs ys i. by-table op (member xs i) (member ys i) (member (wordsBy op xs ys) i) (by-member op xs ys i);
+}
+
+-- ---- the end: below it some lists make a word that is not 0
+
+repeated : ℕ → ℕ → List ℕ
+unfolding tabFrom
+repeated l x = tabFrom 0 l (λ k. x)
+
+length-repeated : (l x : ℕ) → length (repeated l x) ≡ l
+unfolding repeated
+length-repeated l x = length-tab 0 l (λ k. x)
+
+at-repeated : (l x k : ℕ) → k < l → getD (repeated l x) k 0 ≡ x
+unfolding repeated
+at-repeated l x k h = tab-at l (λ k. x) k h
+
+at-zeros : (l k : ℕ) → getD (repeated l 0) k 0 ≡ 0
+at-zeros l k = by-lt k l (λ h. at-repeated l 0 k h) (λ h. past (repeated l 0) k (omega (arith, length-repeated l 0)))
+
+module _ (op : SetOp) (n m d : ℕ) (f : NoneFrom op n m d) where
+  never : (x y : ℕ) → getD (repeated n x) d 0 ≡ x → getD (repeated m y) d 0 ≡ y → wordBy op x y ≡ 1 → ⊥
+  never x y p q e =
+      let z = f (repeated n x) (repeated m y) (length-repeated n x) (length-repeated m y) d (omega arith) in
+      omega (arith, sym e ∙ sym (ap₂ (wordBy op) p q) ∙ sym (by-at op (repeated n x) (repeated m y) d) ∙ z)
+
+  -- where one list alone makes a word that is not 0
+  never-either : wordBy op 1 0 ≡ 1 → wordBy op 0 1 ≡ 1 → max n m ≤ d
+  never-either p q =
+      by-lt d n (λ l. absurd (never 1 0 (at-repeated n 1 d l) (at-zeros m d) p))
+      (λ h. by-lt d m (λ l. absurd (never 0 1 (at-zeros n d) (at-repeated m 1 d l) q)) (λ k. omega arith))
+
+end-least : (op : SetOp) (n m d : ℕ) → NoneFrom op n m d → endBy op n m ≤ d
+unfolding wordBy bit
+end-least And n m d f = by-lt d (min n m) (λ l. absurd (never And n m d f 1 1 (at-repeated n 1 d (omega arith)) (at-repeated m 1 d (omega arith)) refl)) (λ h. h)
+end-least AndNot n m d f = by-lt d n (λ l. absurd (never AndNot n m d f 1 0 (at-repeated n 1 d l) (at-zeros m d) refl)) (λ h. h)
+end-least Or n m d f = never-either Or n m d f refl refl
+end-least Xor n m d f = never-either Xor n m d f refl refl
+
+pub end-means : EndMeans
+end-means = record {
+  past = λ op n m xs ys p q k h. past-end op xs ys (endBy op n m) (sym (ap₂ (endBy op) p q)) (k + 1) .at k h (omega arith);
+  least = end-least;
 }

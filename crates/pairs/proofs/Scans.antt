@@ -11,8 +11,7 @@ use Rattle.word.proofs.Eights.{or-none}
 use Rattle.word.proofs.Lists.{past}
 use Rattle.arch.specs.Scans.{Alike, nonzeroLen, isZero}
 use Rattle.arch.proofs.Scans.{alike-none, alike-join, alike-one, nonzero-past, nonzero-none}
-use Rattle.pairs.specs.Pairs.{wordsBy}
-use Rattle.pairs.specs.Kernels.{endBy}
+use Rattle.pairs.specs.Pairs.{wordsBy, endBy}
 use Rattle.pairs.specs.declared.SetOp.{SetOp}
 use Rattle.pairs.proofs.Tables.{end-zero, end-le, by-length, by-at}
 

@@ -7,12 +7,13 @@ use native.Mathlib.Omega.{arith}
 use lib.ListN.{length, getD}
 use lib.Pow.{ones-sub-lt}
 use lib.Bits.{bitAnd, bitOr, bitXor, and-lt, or-lt, xor-lt}
-use Rattle.word.specs.Bits.{bit, member}
-use Rattle.word.proofs.Cases.{by-lt, and-false}
-use Rattle.word.proofs.Bits.{bit-and, bit-or, bit-xor, bit-not, bit-zero, bit-pack, pack-is, pack-lt}
+use Rattle.word.specs.Places.{bit, member}
+use Rattle.word.proofs.Cases.{by-lt, or-false, xor-false, and-false, and-keep}
+use Rattle.word.proofs.Places.{bit-and, bit-or, bit-xor, bit-not, bit-zero, bit-pack, pack-is, pack-lt}
 use Rattle.word.proofs.Lists.{Fit, past, length-tab, tab-at}
-use Rattle.pairs.specs.Pairs.{tableOf, wordBy, wordsBy}
-use Rattle.pairs.specs.Kernels.{endBy}
+use Rattle.arch.specs.Scans.{nonzeroLen}
+use Rattle.arch.proofs.Scans.{nonzero-last}
+use Rattle.pairs.specs.Pairs.{tableOf, wordBy, wordsBy, endBy}
 use Rattle.pairs.specs.declared.SetOp.{SetOp}
 use Rattle.pairs.specs.declared.SetOp.the-variants.{And, AndNot, Or, Xor}
 
@@ -46,7 +47,7 @@ by-bit op x y j l = bit-pack 64 (λ j. tableOf op (bit x j) (bit y j)) j l
 
 -- ---- where a list has only 0
 
-none-none : (op : SetOp) → tableOf op false false ≡ false
+pub none-none : (op : SetOp) → tableOf op false false ≡ false
 none-none And = refl
 none-none AndNot = refl
 none-none Or = refl
@@ -79,6 +80,35 @@ end-le AndNot n m = omega arith
 end-le Or n m = omega arith
 end-le Xor n m = omega arith
 
+-- an end past the first list's is the second's
+pub end-top : (op : SetOp) (n m : ℕ) → n < endBy op n m → endBy op n m ≡ m
+end-top And n m h = absurd (omega arith)
+end-top AndNot n m h = absurd (omega arith)
+end-top Or n m h = omega arith
+end-top Xor n m h = omega arith
+
+-- ---- below that end, a word that only one of the lists has passes through
+
+first-alone : (op : SetOp) (x y : ℕ) → ((p : Bool) → tableOf op p false ≡ p) → x < 2 ^ 64 → y ≡ 0 → wordBy op x y ≡ x
+first-alone op x y f h e =
+    sym (word-by op x y x h (λ j l. sym (ap (λ (s : ℕ). tableOf op (bit x j) (bit s j)) e ∙ ap (tableOf op (bit x j)) (bit-zero j) ∙ f (bit x j))))
+
+second-alone : (op : SetOp) (x y : ℕ) → ((q : Bool) → tableOf op false q ≡ q) → y < 2 ^ 64 → x ≡ 0 → wordBy op x y ≡ y
+second-alone op x y f h e =
+    sym (word-by op x y y h (λ j l. sym (ap (λ (s : ℕ). tableOf op (bit s j) (bit y j)) e ∙ ap (λ (t : Bool). tableOf op t (bit y j)) (bit-zero j) ∙ f (bit y j))))
+
+pub end-first : (op : SetOp) (n m k x y : ℕ) → x < 2 ^ 64 → y ≡ 0 → m ≤ k → k < endBy op n m → wordBy op x y ≡ x
+end-first And n m k x y h e p l = absurd (omega arith)
+end-first AndNot n m k x y h e p l = first-alone AndNot x y and-keep h e
+end-first Or n m k x y h e p l = first-alone Or x y or-false h e
+end-first Xor n m k x y h e p l = first-alone Xor x y xor-false h e
+
+pub end-second : (op : SetOp) (n m k x y : ℕ) → y < 2 ^ 64 → x ≡ 0 → n ≤ k → k < endBy op n m → wordBy op x y ≡ y
+end-second And n m k x y h e p l = absurd (omega arith)
+end-second AndNot n m k x y h e p l = absurd (omega arith)
+end-second Or n m k x y h e p l = second-alone Or x y (λ q. refl) h e
+end-second Xor n m k x y h e p l = second-alone Xor x y (λ q. refl) h e
+
 -- ---- the words of two lists
 
 module _ (op : SetOp) (xs ys : List ℕ) where
@@ -100,3 +130,11 @@ module _ (op : SetOp) (xs ys : List ℕ) where
   pub by-member : (i : ℕ) → member (wordsBy op xs ys) i ≡ tableOf op (member xs i) (member ys i)
   unfolding member
   by-member i = ap (λ (x : ℕ). bit x (i % 64)) (by-at (i / 64)) ∙ by-bit op (getD xs (i / 64) 0) (getD ys (i / 64) 0) (i % 64) (omega arith)
+
+  -- the fewest words that hold it lie below the end that two ends make
+  pub by-nonzero : (n m r : ℕ) → ((k : ℕ) → n ≤ k → getD xs k 0 ≡ 0) → ((k : ℕ) → m ≤ k → getD ys k 0 ≡ 0) → r ≡ nonzeroLen (wordsBy op xs ys) → r ≤ endBy op n m
+  by-nonzero n m r f g e =
+      by-lt (endBy op n m) r
+      (λ l. absurd (nonzero-last (wordsBy op xs ys) (r - 1) (omega arith)
+      (by-at (r - 1) ∙ end-zero op n m (r - 1) (getD xs (r - 1) 0) (getD ys (r - 1) 0) (f (r - 1)) (g (r - 1)) (omega arith))))
+      (λ l. l)

@@ -1,10 +1,10 @@
 -- What a set operation makes of two words, and of two lists of words.
-use Prim.Native.Nat.{ℕ, max}
+use Prim.Native.Nat.{ℕ, min, max}
 use mathlib.Core.Bool.{Bool, not, _&&_, _||_}
 use mathlib.Core.List.{List}
 use lib.ListN.{length, getD}
 use Rattle.word.specs.Sets.{xorb}
-use Rattle.word.specs.Bits.{bit, pack, tabFrom}
+use Rattle.word.specs.Places.{bit, pack, tabFrom}
 use Rattle.pairs.specs.declared.SetOp.{SetOp}
 use Rattle.pairs.specs.declared.SetOp.the-variants.{And, AndNot, Or, Xor}
 
@@ -24,3 +24,10 @@ wordBy op x y = pack 64 (λ j. tableOf op (bit x j) (bit y j))
 unfoldable pub wordsBy : SetOp → List ℕ → List ℕ → List ℕ
 unfolding tabFrom wordBy
 wordsBy op xs ys = tabFrom 0 (max (length xs) (length ys)) (λ k. wordBy op (getD xs k 0) (getD ys k 0))
+
+-- the words past which it makes only 0, of lists of n words and of m
+abbrev pub endBy : SetOp → ℕ → ℕ → ℕ
+endBy And n m = min n m
+endBy AndNot n m = n
+endBy Or n m = max n m
+endBy Xor n m = max n m

@@ -1,12 +1,12 @@
 // Kernels on two slices of words: what a set operation makes of them, looked at without being built. The shorter slice reads as zero past its end.
 //
-// Everything here is total. One function serves every operation: the compiler takes the test of it out of the loops.
+// Everything here is total. One function serves every operation, and a call names one: where the body is short enough the compiler takes it into the
+// call, with no test of the operation left in its loops.
 ghost use mathlib.Core.Path.{_≡_};
 ghost use Prim.Native.Nat.{_+_, _≤_};
 ghost use lib.ListN.{length, getD};
 ghost use Rattle.arch.specs.Scans.{Alike, nonzeroLen, isZero};
-ghost use Rattle.pairs.specs.Pairs.{wordBy, wordsBy};
-ghost use Rattle.pairs.specs.Kernels.{endBy};
+ghost use Rattle.pairs.specs.Pairs.{wordBy, wordsBy, endBy};
 
 // A set operation, by what it makes of two memberships.
 pub enum SetOp {
@@ -31,14 +31,14 @@ impl SetOp {
 }
 
 // Word k of what the operation makes; 0 past the end.
-fn word_at(op: SetOp, a: &[u64], b: &[u64], k: usize) -> u64
+pub fn word_at(op: SetOp, a: &[u64], b: &[u64], k: usize) -> u64
     ensures { λ r. ⌜ r ≡ getD (wordsBy op (now (a .entry)) (now (b .entry))) k 0 ⌝ }
 {
     op.word(arch::word_at(a, k), arch::word_at(b, k))
 }
 
 // The words past which the operation makes only zeros of n words and m.
-fn end_of(op: SetOp, n: usize, m: usize) -> usize
+pub fn end_of(op: SetOp, n: usize, m: usize) -> usize
     ensures { λ r. ⌜ r ≡ endBy op n m ⌝ }
 {
     match op {
@@ -64,19 +64,19 @@ fn some_in_eight(op: SetOp, a: &[u64], b: &[u64], i: usize) -> u64
     some
 }
 
-// How many words from the start are zero, as far as eights of the words that both have tell.
-fn zero_eights(op: SetOp, a: &[u64], b: &[u64]) -> usize
-    ensures { λ r. ⌜ Alike (wordsBy op (now (a .entry)) (now (b .entry))) 0 0 r ⌝ }
+// An index from `from` on up to which every word is zero, as far as eights of the words that both have tell.
+pub fn zero_eights(op: SetOp, a: &[u64], b: &[u64], from: usize) -> usize
+    ensures { λ r. ⌜ (from ≤ r) × Alike (wordsBy op (now (a .entry)) (now (b .entry))) 0 from r ⌝ }
 {
-    let both = word::min(a.len(), b.len());
-    let mut i = 0;
-    while both - i >= 8 {
-        if some_in_eight(op, a, b, i) != 0 {
-            return i;
+    let stop = word::saturating_sub(word::min(a.len(), b.len()), 7);
+    let mut k = from;
+    while k < stop {
+        if some_in_eight(op, a, b, k) != 0 {
+            return k;
         }
-        i += 8;
+        k += 8;
     }
-    i
+    k
 }
 
 // Is every word zero?
@@ -84,7 +84,7 @@ pub fn is_zero(op: SetOp, a: &[u64], b: &[u64]) -> bool
     ensures { λ r. ⌜ r ≡ isZero (wordsBy op (now (a .entry)) (now (b .entry))) ⌝ }
 {
     let end = end_of(op, a.len(), b.len());
-    let mut k = zero_eights(op, a, b);
+    let mut k = zero_eights(op, a, b, 0);
     while k < end {
         if word_at(op, a, b, k) != 0 {
             return false;

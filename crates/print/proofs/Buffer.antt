@@ -71,13 +71,13 @@ puts-is at r t t' out out' e p = subst (λ (x : List ℕ). Puts at x r out out')
 
 -- ---- digits, the last first: those from place p on are put, and y has the others
 
-pub record Putting (at x : ℕ) (out out' : List ℕ) (p y : ℕ) (s : List ℕ) : Type 0 where
+pub record PuttingDigits (at x : ℕ) (out out' : List ℕ) (p y : ℕ) (s : List ℕ) : Type 0 where
   pub low : at ≤ p
   pub digits : lastDigits (p - at) y ++ s ≡ decimal x
   pub leaves : out' ≡ putAt p s out
 
 module _ (at x : ℕ) (out : List ℕ) (h : at + length (decimal x) ≤ length out) where
-  pub putting-start : (d : ℕ) → d ≡ length (decimal x) → Putting at x out out (at + d) x []
+  pub putting-start : (d : ℕ) → d ≡ length (decimal x) → PuttingDigits at x out out (at + d) x []
   putting-start d e =
       let q : at + d - at ≡ length (decimal x) = omega (arith, e) in
       record {
@@ -86,7 +86,7 @@ module _ (at x : ℕ) (out : List ℕ) (h : at + length (decimal x) ≤ length o
         leaves = sym (put-none (at + d) out);
       }
 
-  module _ (out' : List ℕ) (p y : ℕ) (s : List ℕ) (g : Putting at x out out' p y s) where
+  module _ (out' : List ℕ) (p y : ℕ) (s : List ℕ) (g : PuttingDigits at x out out' p y s) where
     pub putting-place : p + length s ≡ at + length (decimal x)
     putting-place =
         omega (arith, g .low, ap length (sym (g .digits)), length-append (lastDigits (p - at) y) s, length-last (p - at) y)
@@ -95,7 +95,7 @@ module _ (at x : ℕ) (out : List ℕ) (h : at + length (decimal x) ≤ length o
     putting-long = ap length (g .leaves) ∙ length-put p s out (omega (arith, putting-place))
 
     -- the digit before those
-    pub putting-more : (p' y' c : ℕ) → at < p → p ≡ suc p' → y' ≡ y / 10 → c ≡ zeroDigit + y % 10 → Putting at x out (set out' p' c) p' y' (c ∷ s)
+    pub putting-more : (p' y' c : ℕ) → at < p → p ≡ suc p' → y' ≡ y / 10 → c ≡ zeroDigit + y % 10 → PuttingDigits at x out (set out' p' c) p' y' (c ∷ s)
     putting-more p' y' c l ep ey ec = record {
       low = omega arith;
       digits =
@@ -118,8 +118,8 @@ module _ (at x : ℕ) (out : List ℕ) (h : at + length (decimal x) ≤ length o
     }
 
   -- two at once
-  pub putting-two : (out' : List ℕ) (p y : ℕ) (s : List ℕ) → Putting at x out out' p y s → at + 2 ≤ p
-      → Putting at x out (set (set out' (p - 1) (zeroDigit + y % 100 % 10)) (p - 2) (zeroDigit + y % 100 / 10)) (p - 2) (y / 100)
+  pub putting-two : (out' : List ℕ) (p y : ℕ) (s : List ℕ) → PuttingDigits at x out out' p y s → at + 2 ≤ p
+      → PuttingDigits at x out (set (set out' (p - 1) (zeroDigit + y % 100 % 10)) (p - 2) (zeroDigit + y % 100 / 10)) (p - 2) (y / 100)
       ((zeroDigit + y % 100 / 10) ∷ (zeroDigit + y % 100 % 10) ∷ s)
   putting-two out' p y s g l =
       putting-more (set out' (p - 1) (zeroDigit + y % 100 % 10)) (p - 1) (y / 10) ((zeroDigit + y % 100 % 10) ∷ s)
@@ -127,7 +127,7 @@ module _ (at x : ℕ) (out : List ℕ) (h : at + length (decimal x) ≤ length o
       (p - 2) (y / 100) (zeroDigit + y % 100 / 10) (omega arith) (omega arith) (omega arith) (omega arith)
 
   -- the last one
-  pub putting-last : (out' : List ℕ) (p y : ℕ) (s : List ℕ) → Putting at x out out' p y s → at < p → p < at + 2 → (d : ℕ) → d ≡ length (decimal x)
+  pub putting-last : (out' : List ℕ) (p y : ℕ) (s : List ℕ) → PuttingDigits at x out out' p y s → at < p → p < at + 2 → (d : ℕ) → d ≡ length (decimal x)
       → Puts at (decimal x) (at + d) out (set out' at (zeroDigit + y % 10))
   putting-last out' p y s g l h d e =
       putting-end (set out' at (zeroDigit + y % 10)) at (y / 10) ((zeroDigit + y % 10) ∷ s)

@@ -14,12 +14,12 @@ use Rattle.storage.specs.declared.Bitmap.{Bitmap}
 use Rattle.storage.specs.declared.Refusal.{Refusal}
 use Rattle.storage.specs.declared.Refusal.the-variants.{NoSpace}
 use Rattle.storage.specs.declared.Guard.the-variants.{Pass, Stop}
-use Rattle.storage.specs.declared.Number.{Number}
-use Rattle.storage.specs.declared.Number.the-variants.{Is}
+use Rattle.storage.specs.declared.Amount.{Amount}
+use Rattle.storage.specs.declared.Amount.the-variants.{Is}
 use Rattle.storage.proofs.Checks.{reading-ok, reading-stopped}
-use Rattle.text.specs.Lists.{limit, Range, range}
+use Rattle.text.specs.Lists.{listLimit, Range, range}
 use Rattle.print.specs.Texts.{runs, printed, others, text, textOf, fitted, replaced, Prints}
-use Rattle.print.specs.Kernels.{NextRun, gap, putAt, Puts}
+use Rattle.print.specs.Kernels.{NextRun, separator, putAt, Puts}
 use Rattle.print.specs.Promises.{Runs}
 use Rattle.print.specs.declared.Run.{Run}
 use Rattle.print.proofs.Buffer.{length-put, put-then, puts-none}
@@ -37,7 +37,7 @@ unfolding tail text others
 tail-none zero = refl
 tail-none (suc at) = refl
 
-tail-more : (at : ℕ) (r : Range) (rs : List Range) → tail at (r ∷ rs) ≡ (gap at ++ printed r) ++ others rs
+tail-more : (at : ℕ) (r : Range) (rs : List Range) → tail at (r ∷ rs) ≡ (separator at ++ printed r) ++ others rs
 unfolding tail text others
 tail-more zero r rs = refl
 tail-more (suc at) r rs = refl
@@ -48,7 +48,7 @@ tail-others zero rs h = absurd (omega arith)
 tail-others (suc at) rs h = refl
 
 -- the text's front is printed, and the run is the first of those left
-pub record Going (b : Bits) (e at : ℕ) (run : Run) : Type 0 where
+pub record PrintingTo (b : Bits) (e at : ℕ) (run : Run) : Type 0 where
   pub i : ℕ
   pub front : List ℕ
   rest : List Range
@@ -58,12 +58,12 @@ pub record Going (b : Bits) (e at : ℕ) (run : Run) : Type 0 where
   pub at-is : at ≡ length front
   pub short : at ≤ 23 * i
 
-pub going-start : (b : Bits) → Bounded b → (e : ℕ) (run : Run) → NextRun (b .members) e 0 run → Going b e 0 run
+pub going-start : (b : Bits) → Bounded b → (e : ℕ) (run : Run) → NextRun (b .members) e 0 run → PrintingTo b e 0 run
 unfolding tail
 going-start b h e run n =
     record { i = 0; front = []; rest = runs b; next = n; left = runs-are b h; parts = refl; at-is = refl; short = omega arith }
 
-module _ (b : Bits) (e : ℕ) (past : (j : ℕ) → e ≤ j → b .members j ≡ false) (small : e ≤ limit + 1) (at : ℕ) (run : Run) (g : Going b e at run) where
+module _ (b : Bits) (e : ℕ) (past : (j : ℕ) → e ≤ j → b .members j ≡ false) (small : e ≤ listLimit + 1) (at : ℕ) (run : Run) (g : PrintingTo b e at run) where
   -- all is printed
   pub going-end : run .end ≤ run .low → textOf b ≡ g .front
   going-end l =
@@ -76,12 +76,12 @@ module _ (b : Bits) (e : ℕ) (past : (j : ℕ) → e ≤ j → b .members j ≡
     r = range (run .low) (run .end - 1)
 
     abbrev piece : List ℕ
-    piece = gap at ++ printed r
+    piece = separator at ++ printed r
 
-    pub low-limit : run .low ≤ limit
+    pub low-limit : run .low ≤ listLimit
     low-limit = omega (arith, g .next .within)
 
-    pub high-limit : run .end - 1 ≤ limit
+    pub high-limit : run .end - 1 ≤ listLimit
     high-limit = omega (arith, g .next .within)
 
     pub end-within : run .end ≤ e
@@ -99,20 +99,20 @@ module _ (b : Bits) (e : ℕ) (past : (j : ℕ) → e ≤ j → b .members j ≡
         ∙ ap (λ (t : List ℕ). g .front ++ t) (tail-more at r (found .0))
         ∙ sym (append-assoc (g .front) piece (others (found .0)))
 
-    pub piece-length : length piece ≡ length (gap at) + length (printed r)
-    piece-length = length-append (gap at) (printed r)
+    pub piece-length : length piece ≡ length (separator at) + length (printed r)
+    piece-length = length-append (separator at) (printed r)
 
     -- the piece lies within the text
-    pub piece-fits : at + (length (gap at) + length (printed r)) ≤ length (textOf b)
+    pub piece-fits : at + (length (separator at) + length (printed r)) ≤ length (textOf b)
     piece-fits =
         omega
         (arith, ap length whole, length-append (g .front ++ piece) (others (found .0)), length-append (g .front) piece, piece-length, g .at-is)
 
-    pub piece-short : at + (length (gap at) + length (printed r)) ≤ 23 * run .end
+    pub piece-short : at + (length (separator at) + length (printed r)) ≤ 23 * run .end
     piece-short =
         omega (arith, g .short, gap-length at, printed-length (run .low) (run .end - 1) low-limit high-limit .1, going-on)
 
-    pub going-more : (at' : ℕ) (run' : Run) → at' ≡ at + (length (gap at) + length (printed r)) → NextRun (b .members) e (run .end) run' → Going b e at' run'
+    pub going-more : (at' : ℕ) (run' : Run) → at' ≡ at + (length (separator at) + length (printed r)) → NextRun (b .members) e (run .end) run' → PrintingTo b e at' run'
     going-more at' run' q n = record {
       i = run .end;
       front = g .front ++ piece;
@@ -130,39 +130,39 @@ module _ (b : Bits) (e : ℕ) (past : (j : ℕ) → e ≤ j → b .members j ≡
 -- ---- the printed front stands in the buffer
 
 pub record Shown (b : Bits) (e : ℕ) (out : List ℕ) (at : ℕ) (run : Run) (out' : List ℕ) : Type 0 where
-  pub going : Going b e at run
+  pub going : PrintingTo b e at run
   pub shown : out' ≡ putAt 0 (going .front) out
 
 pub shown-start : (b : Bits) → Bounded b → (e : ℕ) (out : List ℕ) (run : Run) → NextRun (b .members) e 0 run → Shown b e out 0 run out
 unfolding going-start
 shown-start b h e out run n = record { going = going-start b h e run n; shown = puts-none 0 out .leaves }
 
-module _ (b : Bits) (e : ℕ) (past : (j : ℕ) → e ≤ j → b .members j ≡ false) (small : e ≤ limit + 1) (out : List ℕ) (room : length (textOf b) ≤ length out)
+module _ (b : Bits) (e : ℕ) (past : (j : ℕ) → e ≤ j → b .members j ≡ false) (small : e ≤ listLimit + 1) (out : List ℕ) (room : length (textOf b) ≤ length out)
     (at : ℕ) (run : Run) (out' : List ℕ) (w : Shown b e out at run out') where
-  abbrev g : Going b e at run
+  abbrev g : PrintingTo b e at run
   g = w .going
 
   module _ (l : run .low < run .end) where
     -- the front and the piece lie within the buffer
-    fits : length (g .front) + (length (gap at) + length (printed (range (run .low) (run .end - 1)))) ≤ length out
+    fits : length (g .front) + (length (separator at) + length (printed (range (run .low) (run .end - 1)))) ≤ length out
     fits = omega (arith, piece-fits b e past small at run g l, g .at-is)
 
     pub shown-long : length out' ≡ length out
     shown-long = ap length (w .shown) ∙ length-put 0 (g .front) out (omega (arith, fits))
 
-    pub shown-room : at + (length (gap at) + length (printed (range (run .low) (run .end - 1)))) ≤ length out'
+    pub shown-room : at + (length (separator at) + length (printed (range (run .low) (run .end - 1)))) ≤ length out'
     shown-room = omega (arith, fits, shown-long, g .at-is)
 
-    pub shown-more : (at' : ℕ) (run' : Run) (out'' : List ℕ) → Puts at (gap at ++ printed (range (run .low) (run .end - 1))) at' out' out''
+    pub shown-more : (at' : ℕ) (run' : Run) (out'' : List ℕ) → Puts at (separator at ++ printed (range (run .low) (run .end - 1))) at' out' out''
         → NextRun (b .members) e (run .end) run' → Shown b e out at' run' out''
     unfolding going-more
     shown-more at' run' out'' q n = record {
-      going = going-more b e past small at run g l at' run' (q .next ∙ ap (λ (k : ℕ). at + k) (length-append (gap at) (printed (range (run .low) (run .end - 1))))) n;
+      going = going-more b e past small at run g l at' run' (q .next ∙ ap (λ (k : ℕ). at + k) (length-append (separator at) (printed (range (run .low) (run .end - 1))))) n;
       shown =
           q .leaves
-          ∙ ap₂ (λ (k : ℕ) (o : List ℕ). putAt k (gap at ++ printed (range (run .low) (run .end - 1))) o) (g .at-is ∙ omega arith) (w .shown)
-          ∙ put-then 0 (g .front) (gap at ++ printed (range (run .low) (run .end - 1))) out
-          (omega (arith, fits, length-append (gap at) (printed (range (run .low) (run .end - 1)))));
+          ∙ ap₂ (λ (k : ℕ) (o : List ℕ). putAt k (separator at ++ printed (range (run .low) (run .end - 1))) o) (g .at-is ∙ omega arith) (w .shown)
+          ∙ put-then 0 (g .front) (separator at ++ printed (range (run .low) (run .end - 1))) out
+          (omega (arith, fits, length-append (separator at) (printed (range (run .low) (run .end - 1)))));
     }
 
   pub shown-end : run .end ≤ run .low → out' ≡ putAt 0 (textOf b) out
@@ -174,9 +174,9 @@ module _ (b : Bits) (e : ℕ) (past : (j : ℕ) → e ≤ j → b .members j ≡
 -- ---- the call
 
 module _ (ws : List ℕ) (b : Bitmap) (out : List ℕ) where
-  pub prints-stopped : (e : Refusal) → Stop e ≡ checked ws b Stop Pass → Prints ws b out (Number.Refused e) out
+  pub prints-stopped : (e : Refusal) → Stop e ≡ checked ws b Stop Pass → Prints ws b out (Amount.Refused e) out
   prints-stopped e q = record {
-    answers = sym (reading-stopped ws b e Number.Refused (λ s. fitted (textOf s) out) q);
+    answers = sym (reading-stopped ws b e Amount.Refused (λ s. fitted (textOf s) out) q);
     leaves = sym (reading-stopped ws b e (λ d. out) (λ s. replaced (textOf s) out) q);
   }
 
@@ -184,22 +184,22 @@ module _ (ws : List ℕ) (b : Bitmap) (out : List ℕ) where
     abbrev t : List ℕ
     t = textOf (held ws b)
 
-    pub prints-short : length out < len → Prints ws b out (Number.Refused NoSpace) out
+    pub prints-short : length out < len → Prints ws b out (Amount.Refused NoSpace) out
     prints-short h =
         let q : leb (length t) (length out) ≡ false = lt-leb (length t) (length out) (omega arith) in
         record {
           answers =
-              sym (reading-ok ws b Number.Refused (λ s. fitted (textOf s) out) p ∙ ap (λ (x : Bool). choose x (Number.Is (length t)) (Number.Refused NoSpace)) q);
+              sym (reading-ok ws b Amount.Refused (λ s. fitted (textOf s) out) p ∙ ap (λ (x : Bool). choose x (Amount.Is (length t)) (Amount.Refused NoSpace)) q);
           leaves = sym (reading-ok ws b (λ d. out) (λ s. replaced (textOf s) out) p ∙ ap (λ (x : Bool). choose x (t ++ drop (length t) out) out) q);
         }
 
-    pub prints-done : (out' : List ℕ) → len ≤ length out → out' ≡ putAt 0 t out → Prints ws b out (Number.Is len) out'
+    pub prints-done : (out' : List ℕ) → len ≤ length out → out' ≡ putAt 0 t out → Prints ws b out (Amount.Is len) out'
     unfolding putAt
     prints-done out' h e =
         let q : leb (length t) (length out) ≡ true = le-leb (length t) (length out) (omega arith) in
         record {
           answers =
-              ap Number.Is el
-              ∙ sym (reading-ok ws b Number.Refused (λ s. fitted (textOf s) out) p ∙ ap (λ (x : Bool). choose x (Number.Is (length t)) (Number.Refused NoSpace)) q);
+              ap Amount.Is el
+              ∙ sym (reading-ok ws b Amount.Refused (λ s. fitted (textOf s) out) p ∙ ap (λ (x : Bool). choose x (Amount.Is (length t)) (Amount.Refused NoSpace)) q);
           leaves = e ∙ sym (reading-ok ws b (λ d. out) (λ s. replaced (textOf s) out) p ∙ ap (λ (x : Bool). choose x (t ++ drop (length t) out) out) q);
         }

@@ -12,15 +12,15 @@ use lib.Seq.{take-at, drop-at}
 use borrow.Author.Tests.{le-leb, lt-leb}
 use Rattle.word.specs.Sets.{choose}
 use Rattle.word.proofs.Cases.{by-lt}
-use Rattle.storage.specs.Refusals.{numberOf, numberNumber, numberValue, changeNumber, changeRecord}
+use Rattle.storage.specs.Refusals.{numberOf, amountNumber, amountValue, changeNumber, changeRecord}
 use Rattle.storage.specs.Stores.{Bits, Outcome, done, withCount, spaceOf, checked, view, held, reading, trimmedCount, trimmed, outcome, answer, store}
 use Rattle.storage.specs.Guards.{Passed}
 use Rattle.storage.specs.Promises.{LeastCount}
 use Rattle.storage.specs.declared.Bitmap.{Bitmap}
 use Rattle.storage.specs.declared.Refusal.{Refusal}
 use Rattle.storage.specs.declared.Refusal.the-variants.{NoSpace, NotList}
-use Rattle.storage.specs.declared.Number.{Number}
-use Rattle.storage.specs.declared.Number.the-variants.{Is, Refused}
+use Rattle.storage.specs.declared.Amount.{Amount}
+use Rattle.storage.specs.declared.Amount.the-variants.{Is, Refused}
 use Rattle.storage.specs.declared.Change.{Change}
 use Rattle.storage.specs.declared.Change.the-variants.{Done}
 use Rattle.storage.proofs.Checks.{checked-ok, by-guard, reading-ok}
@@ -112,49 +112,49 @@ text-of b h small = record {
 
 -- ---- the call that prints
 
-module _ (ws : List ℕ) (b : Bitmap) (out : List ℕ) (r : Number) (out' : List ℕ) (p : Prints ws b out r out') where
+module _ (ws : List ℕ) (b : Bitmap) (out : List ℕ) (r : Amount) (out' : List ℕ) (p : Prints ws b out r out') where
   abbrev t : List ℕ
   t = textOf (held ws b)
 
   -- where the store passes, whether the text fits is all there is to ask
   asked : (x : Bool) → Passed ws b → leb (length t) (length out) ≡ x
-      → (r ≡ choose x (Is (length t)) (Number.Refused NoSpace)) × (out' ≡ choose x (t ++ drop (length t) out) out)
+      → (r ≡ choose x (Is (length t)) (Amount.Refused NoSpace)) × (out' ≡ choose x (t ++ drop (length t) out) out)
   asked x q e = (
-    p .answers ∙ reading-ok ws b Number.Refused (λ s. fitted (textOf s) out) q ∙ ap (λ (x : Bool). choose x (Is (length t)) (Number.Refused NoSpace)) e,
+    p .answers ∙ reading-ok ws b Amount.Refused (λ s. fitted (textOf s) out) q ∙ ap (λ (x : Bool). choose x (Is (length t)) (Amount.Refused NoSpace)) e,
     p .leaves ∙ reading-ok ws b (λ e. out) (λ s. replaced (textOf s) out) q ∙ ap (λ (x : Bool). choose x (t ++ drop (length t) out) out) e,
   )
 
-  stopped : (e : Refusal) → r ≡ Number.Refused e → out' ≡ out → NotPrinted out (numberNumber r) (numberValue r) out' (numberOf e)
-  stopped e q w = record { hands = (ap numberNumber q, ap numberValue q); bytes = w }
+  stopped : (e : Refusal) → r ≡ Amount.Refused e → out' ≡ out → NotPrinted out (amountNumber r) (amountValue r) out' (numberOf e)
+  stopped e q w = record { hands = (ap amountNumber q, ap amountValue q); bytes = w }
 
-  lacking : Passed ws b → length out < length t → NotPrinted out (numberNumber r) (numberValue r) out' 6
+  lacking : Passed ws b → length out < length t → NotPrinted out (amountNumber r) (amountValue r) out' 6
   lacking q l = let a = asked false q (lt-leb (length t) (length out) l) in stopped NoSpace (a .0) (a .1)
 
-  pub text-put : Passed ws b → length t ≤ length out → TextPut t out (numberNumber r) (numberValue r) out'
+  pub text-put : Passed ws b → length t ≤ length out → TextPut t out (amountNumber r) (amountValue r) out'
   text-put q l =
       let f = asked true q (le-leb (length t) (length out) l) in
-      let v : numberValue r ≡ length t = ap numberValue (f .0) in
+      let v : amountValue r ≡ length t = ap amountValue (f .0) in
       record {
-        number = ap numberNumber (f .0);
+        number = ap amountNumber (f .0);
         value = v;
-        front = ap (take (numberValue r)) (f .1) ∙ take-at t (drop (length t) out) (numberValue r) (sym v);
-        past = ap (drop (numberValue r)) (f .1) ∙ drop-at t (drop (length t) out) (numberValue r) (sym v) ∙ ap (λ (m : ℕ). drop m out) (sym v);
+        front = ap (take (amountValue r)) (f .1) ∙ take-at t (drop (length t) out) (amountValue r) (sym v);
+        past = ap (drop (amountValue r)) (f .1) ∙ drop-at t (drop (length t) out) (amountValue r) (sym v) ∙ ap (λ (m : ℕ). drop m out) (sym v);
       }
 
   -- the answer and the buffer are refused by one guard
-  abbrev kept : Refusal → Number × List ℕ
-  kept e = (Number.Refused e, out)
+  abbrev kept : Refusal → Amount × List ℕ
+  kept e = (Amount.Refused e, out)
 
   pair-is : (r, out') ≡ checked ws b kept (r, out')
   unfolding reading
   pair-is =
       by-guard ws b
       (λ e s.
-      ap₂ (λ (x : Number) (y : List ℕ). (x, y)) (p .answers ∙ s _ Number.Refused (fitted t out)) (p .leaves ∙ s _ (λ e. out) (replaced t out))
+      ap₂ (λ (x : Amount) (y : List ℕ). (x, y)) (p .answers ∙ s _ Amount.Refused (fitted t out)) (p .leaves ∙ s _ (λ e. out) (replaced t out))
       ∙ sym (s _ kept (r, out')))
       (λ q. sym (checked-ok ws b kept (r, out') q))
 
-  call-means : PrintsText ws b out (numberNumber r) (numberValue r) out'
+  call-means : PrintsText ws b out (amountNumber r) (amountValue r) out'
   call-means =
       guarded-map
       (λ q u. (
@@ -162,10 +162,10 @@ module _ (ws : List ℕ) (b : Bitmap) (out : List ℕ) (r : Number) (out' : List
         prints-one (held ws b) (bounded-view ws (b .count)) t .1 refl,
         by-lt (length out) (length t) (λ l. inr (l, lacking q l)) (λ l. inl (l, text-put q l)),
       ))
-      (guarded ws b kept (r, out') (λ x k. NotPrinted out (numberNumber (x .0)) (numberValue (x .0)) (x .1) k) (λ x. Unit {0})
+      (guarded ws b kept (r, out') (λ x k. NotPrinted out (amountNumber (x .0)) (amountValue (x .0)) (x .1) k) (λ x. Unit {0})
       (λ e. record { hands = (refl, refl); bytes = refl }) (λ q. tt) (r, out') pair-is)
 
-  pub text-fits : Passed ws b → numberNumber r ≡ 0 → length t ≤ length out
+  pub text-fits : Passed ws b → amountNumber r ≡ 0 → length t ≤ length out
   text-fits q z = by-lt (length out) (length t) (λ l. absurd (omega (arith, lacking q l .hands .0))) (λ l. l)
 
 pub prints-text : WriteListMeans
@@ -178,8 +178,8 @@ unfolding answer store
 there-and-back ws b i out out' a q e p z us us' o r m u fewest space c =
     let n = b .count in
     let put = text-put ws b out a out' p q (text-fits ws b out a out' p q z) in
-    let made : outcome (readingList (take (numberValue a) out')) us o ≡ done (trimmed (held ws b)) =
-    outcome-ok (readingList (take (numberValue a) out')) us o u
+    let made : outcome (readingList (take (amountValue a) out')) us o ≡ done (trimmed (held ws b)) =
+    outcome-ok (readingList (take (amountValue a) out')) us o u
     ∙ ap (λ (t : List ℕ). readingList t (spaceOf us) (held us o)) (put .front)
     ∙ reads-back (held ws b) (bounded-view ws n) (omega (arith, q, view-count ws n)) i e (spaceOf us) (held us o) (omega (arith, count)) in
     let answered : r ≡ Done (withCount o (trimmed (held ws b) .count)) = c .answers ∙ ap (λ (x : Outcome). answer x o) made in (

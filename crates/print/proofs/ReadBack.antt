@@ -14,7 +14,7 @@ use Rattle.storage.specs.Stores as stores
 use Rattle.storage.specs.Stores.{Bits, Bounded, done, trimmedCount, trimmed}
 use Rattle.storage.proofs.Checks.{within-ok}
 use Rattle.storage.proofs.Trims.{trimmed-is}
-use Rattle.text.specs.Lists.{comma, joiner, limit, plain, Range, range, highest}
+use Rattle.text.specs.Lists.{comma, joiner, listLimit, plain, Range, range, highest}
 use Rattle.text.specs.Grammar as g
 use Rattle.text.specs.Readings.{ranges, union, readingList}
 use Rattle.print.specs.Texts.{runs, decimal, printed, others, text, textOf}
@@ -26,15 +26,15 @@ use Rattle.text.proofs.Taken.{list-is}
 
 -- ---- what is printed is a list of the grammar
 
-decimal-number : (n : ℕ) → n ≤ limit → g.Number (decimal n) n
-decimal-number n h = subst (λ (t : List ℕ). g.Number t n) (append-nil (decimal n)) (g.number g.nil (decimal-digits n) g.nil h)
+decimal-number : (n : ℕ) → n ≤ listLimit → g.Numeral (decimal n) n
+decimal-number n h = subst (λ (t : List ℕ). g.Numeral t n) (append-nil (decimal n)) (g.number g.nil (decimal-digits n) g.nil h)
 
 -- ranges that a list may hold
 data Fit : List Range → Type 0 where
   fitNone : Fit []
-  fitMore : {r : Range} {rs : List Range} → r .low ≤ r .high → r .high ≤ limit → Fit rs → Fit (r ∷ rs)
+  fitMore : {r : Range} {rs : List Range} → r .low ≤ r .high → r .high ≤ listLimit → Fit rs → Fit (r ∷ rs)
 
-printed-token : (r : Range) → r .low ≤ r .high → r .high ≤ limit → g.Token (printed r) r
+printed-token : (r : Range) → r .low ≤ r .high → r .high ≤ listLimit → g.Token (printed r) r
 unfolding printed
 printed-token r h l = go (eqb (r .low) (r .high)) refl
   where
@@ -44,7 +44,7 @@ printed-token r h l = go (eqb (r .low) (r .high)) refl
     go false e = g.pair (decimal-number (r .low) (omega arith)) (decimal-number (r .high) l) h
 
 -- a blank before a token
-blank-number : {t : List ℕ} {v : ℕ} → g.Number t v → g.Number (32 ∷ t) v
+blank-number : {t : List ℕ} {v : ℕ} → g.Numeral t v → g.Numeral (32 ∷ t) v
 blank-number (g.number b d w h) = g.number (g.cons (inl refl) b) d w h
 
 blank-token : {t : List ℕ} {r : Range} → g.Token t r → g.Token (32 ∷ t) r
@@ -60,7 +60,7 @@ text-listed : (r : Range) (rs : List Range) → Fit (r ∷ rs) → g.Listed (tex
 unfolding text
 text-listed r rs (fitMore h l f) = others-listed (printed r) r rs (printed-token r h l) f
 
-runs-fit : (s : ℕ → Bool) (i : ℕ) (rs : List Range) → Runs s i rs → ((j : ℕ) → s j ≡ true → j ≤ limit) → Fit rs
+runs-fit : (s : ℕ → Bool) (i : ℕ) (rs : List Range) → Runs s i rs → ((j : ℕ) → s j ≡ true → j ≤ listLimit) → Fit rs
 runs-fit s i [] (none f) h = fitNone
 runs-fit s i (r ∷ rs) (more a b f m z x) h = fitMore b (h (r .high) (m (r .high) b (omega arith))) (runs-fit s (r .high + 1) rs x h)
 
@@ -92,7 +92,7 @@ plain-digits : {t : List ℕ} {v : ℕ} → g.Digits t v → plain t ≡ true
 plain-digits (g.one {c = c} e) = plain-cons c [] (omega (arith, e .1)) plain-nil
 plain-digits (g.more {t = t} c d e) = plain-append t (c ∷ []) (plain-digits d) (plain-cons c [] (omega (arith, e .1)) plain-nil)
 
-plain-number : {t : List ℕ} {v : ℕ} → g.Number t v → plain t ≡ true
+plain-number : {t : List ℕ} {v : ℕ} → g.Numeral t v → plain t ≡ true
 plain-number (g.number {u = u} {d = d} {w = w} b x y h) = plain-append (u ++ d) w (plain-append u d (plain-blanks b) (plain-digits x)) (plain-blanks y)
 
 plain-token : {t : List ℕ} {r : Range} → g.Token t r → plain t ≡ true
@@ -131,7 +131,7 @@ words-needed s n t low l =
 
 -- ---- of a bitmap
 
-module _ (b : Bits) (h : Bounded b) (small : b .count ≤ stores.limit) where
+module _ (b : Bits) (h : Bounded b) (small : b .count ≤ stores.storeLimit) where
   below : (j : ℕ) → b .members j ≡ true → j < 64 * b .count
   below j e = by-lt j (64 * b .count) (λ p. p) (λ p. absurd (false≢true (sym (h .past j p) ∙ e)))
 

@@ -14,7 +14,7 @@ use Rattle.print.specs.Texts.{Nowhere, From, runsFrom, runs}
 use Rattle.print.specs.Kernels.{NextRun}
 use Rattle.print.specs.Promises.{Runs, none, more}
 use Rattle.print.specs.declared.Run.{Run}
-use Rattle.text.proofs.Marks.{between, between-in}
+use Rattle.text.proofs.Marks.{betweenMarks, between-in}
 use lib.Bits.{bitAnd}
 use lib.ListN.{getD}
 use Rattle.storage.specs.Refusals.{foundNumber, foundFlag, foundValue}
@@ -24,8 +24,8 @@ use Rattle.storage.specs.declared.Bitmap.{Bitmap}
 use Rattle.storage.specs.declared.Refusal.{Refusal}
 use Rattle.storage.specs.declared.Found.{Found}
 use Rattle.storage.specs.declared.Found.the-variants.{At, Nothing}
-use Rattle.storage.specs.declared.Number.{Number}
-use Rattle.storage.specs.declared.Number.the-variants.{Is}
+use Rattle.storage.specs.declared.Amount.{Amount}
+use Rattle.storage.specs.declared.Amount.the-variants.{Is}
 use Rattle.storage.proofs.Checks.{reading-ok}
 use Rattle.storage.proofs.Views.{view-count, bounded-view}
 use Rattle.storage.proofs.Promises.{each-number-once, next-member, finds-at, finds-nothing}
@@ -77,10 +77,10 @@ runs-are b h = runs-from (b .members) (64 * b .count) 0 (λ j l. h .past j (omeg
 
 -- ---- they cover exactly the set
 
-between-below : (a b i : ℕ) → i < a → between a b i ≡ false
+between-below : (a b i : ℕ) → i < a → betweenMarks a b i ≡ false
 between-below a b i h = ap (λ (t : Bool). t && leb i b) (lt-leb a i h)
 
-between-above : (a b i : ℕ) → b < i → between a b i ≡ false
+between-above : (a b i : ℕ) → b < i → betweenMarks a b i ≡ false
 between-above a b i h = ap (λ (t : Bool). leb a i && t) (lt-leb i b h) ∙ and-false (leb a i)
 
 runs-below : (s : ℕ → Bool) (i : ℕ) (rs : List Range) → Runs s i rs → (j : ℕ) → j < i → covers rs j ≡ false
@@ -197,14 +197,14 @@ module _ (ws : List ℕ) (b : Bitmap) (i : ℕ) (p : Passed ws b) where
       none = λ e. absurd (omega arith);
     }
 
-    module _ (x : ℕ) (ex : f ≡ At x) (m : Number) (em : m ≡ reading ws b Number.Refused (λ s. Number.Is (nextClear s (x + 1)))) where
-      clear : m ≡ Number.Is (nextClear s (x + 1))
-      clear = em ∙ reading-ok ws b Number.Refused (λ s. Number.Is (nextClear s (x + 1))) p
+    module _ (x : ℕ) (ex : f ≡ At x) (m : Amount) (em : m ≡ reading ws b Amount.Refused (λ s. Amount.Is (nextClear s (x + 1)))) where
+      clear : m ≡ Amount.Is (nextClear s (x + 1))
+      clear = em ∙ reading-ok ws b Amount.Refused (λ s. Amount.Is (nextClear s (x + 1))) p
 
-      pub clear-never : (e : Refusal) → m ≡ Number.Refused e → ⊥
-      clear-never e q = let z : Number.Refused e ≡ Number.Is (nextClear s (x + 1)) = sym q ∙ clear in let y : _≡_ {A = ℕ} 0 1 = cc in omega arith
+      pub clear-never : (e : Refusal) → m ≡ Amount.Refused e → ⊥
+      clear-never e q = let z : Amount.Refused e ≡ Amount.Is (nextClear s (x + 1)) = sym q ∙ clear in let y : _≡_ {A = ℕ} 0 1 = cc in omega arith
 
-      pub run-found : (end : ℕ) → m ≡ Number.Is end → NextRun (s .members) (64 * n) i (record { low = x; end = end })
+      pub run-found : (end : ℕ) → m ≡ Amount.Is end → NextRun (s .members) (64 * n) i (record { low = x; end = end })
       run-found end q = record {
         from = at x ex .0;
         order = omega (arith, o .from);
@@ -216,7 +216,7 @@ module _ (ws : List ℕ) (b : Bitmap) (i : ℕ) (p : Passed ws b) where
       }
         where
           same : nextClear s (x + 1) ≡ end
-          same = let z : Number.Is (nextClear s (x + 1)) ≡ Number.Is end = sym clear ∙ q in cc
+          same = let z : Amount.Is (nextClear s (x + 1)) ≡ Amount.Is end = sym clear ∙ q in cc
 
           o : NextOther s (x + 1) end
           o = subst (NextOther s (x + 1)) same (next-other s bound (x + 1))

@@ -18,9 +18,9 @@ pub record NextRun (s : ℕ → Bool) (e i : ℕ) (r : Run) : Type 0 where
   pub none : r .low ≡ r .end → r .end ≡ e
 
 -- what stands between two runs, where `at` bytes came before
-abbrev pub gap : ℕ → List ℕ
-gap zero = []
-gap (suc k) = comma ∷ space ∷ []
+abbrev pub separator : ℕ → List ℕ
+separator zero = []
+separator (suc k) = comma ∷ space ∷ []
 
 -- the bytes t at a place
 unfoldable pub putAt : ℕ → List ℕ → List ℕ → List ℕ

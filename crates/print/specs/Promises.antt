@@ -5,14 +5,14 @@ use mathlib.Core.Bool.{Bool, true, false}
 use mathlib.Core.List.{List, [], _∷_, _++_}
 use mathlib.Core.Logic.{_↔_, _⊎_}
 use lib.ListN.{length, take, drop}
-use Rattle.storage.specs.Refusals.{numberOf, numberNumber, numberValue, changeNumber, changeRecord}
+use Rattle.storage.specs.Refusals.{numberOf, amountNumber, amountValue, changeNumber, changeRecord}
 use Rattle.storage.specs.Stores.{Bits, Bounded, refused, Space, view, held, Changes}
 use Rattle.storage.specs.Guards.{mostWords, Passed}
 use Rattle.storage.specs.Promises.{Guarded, LeastCount, HandsNone}
 use Rattle.storage.specs.declared.Bitmap.{Bitmap}
 use Rattle.storage.specs.declared.Refusal.{Refusal}
 use Rattle.storage.specs.declared.Change.{Change}
-use Rattle.storage.specs.declared.Number.{Number}
+use Rattle.storage.specs.declared.Amount.{Amount}
 use Rattle.text.specs.Lists.{Range}
 use Rattle.text.specs.Grammar.{Digits, Listed}
 use Rattle.text.specs.Readings.{readingList}
@@ -93,7 +93,7 @@ PrintsText ws b out x v out' =
 
 -- `write_list`, from its contract
 abbrev pub WriteListMeans : Type 0
-WriteListMeans = (ws : List ℕ) (b : Bitmap) (out : List ℕ) (r : Number) (out' : List ℕ) → Prints ws b out r out' → PrintsText ws b out (numberNumber r) (numberValue r) out'
+WriteListMeans = (ws : List ℕ) (b : Bitmap) (out : List ℕ) (r : Amount) (out' : List ℕ) → Prints ws b out r out' → PrintsText ws b out (amountNumber r) (amountValue r) out'
 
 -- a set with no member prints no byte, which is refused with 7; the text of any other is the grammar's list of its runs
 pub record TextOf (b : Bits) : Type 0 where
@@ -108,8 +108,8 @@ TextMeans = (b : Bits) → Bounded b → b .count ≤ mostWords → TextOf b
 -- the text is read back, into any bitmap, where the store has the m words that its members need at least: the same members, in those words
 abbrev pub ReadsBack : Type 0
 ReadsBack =
-    (ws : List ℕ) (b : Bitmap) (i : ℕ) (out out' : List ℕ) (a : Number) → Passed ws b → held ws b .members i ≡ true
-    → Prints ws b out a out' → numberNumber a ≡ 0
+    (ws : List ℕ) (b : Bitmap) (i : ℕ) (out out' : List ℕ) (a : Amount) → Passed ws b → held ws b .members i ≡ true
+    → Prints ws b out a out' → amountNumber a ≡ 0
     → (us us' : List ℕ) (o : Bitmap) (r : Change) (m : ℕ) → Passed us o → LeastCount (held ws b .members) (b .count) m → m ≤ length us
-    → Changes (readingList (take (numberValue a) out')) us o r us'
+    → Changes (readingList (take (amountValue a) out')) us o r us'
     → (changeNumber r ≡ 0) × (changeRecord r .count ≡ m) × ((j : ℕ) → view us' m .members j ≡ held ws b .members j)

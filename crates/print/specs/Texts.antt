@@ -9,8 +9,8 @@ use Rattle.word.specs.Sets.{choose}
 use Rattle.storage.specs.Stores.{Bits, reading}
 use Rattle.storage.specs.declared.Bitmap.{Bitmap}
 use Rattle.storage.specs.declared.Refusal.the-variants.{NoSpace}
-use Rattle.storage.specs.declared.Number.{Number}
-use Rattle.storage.specs.declared.Number.the-variants.{Is, Refused}
+use Rattle.storage.specs.declared.Amount.{Amount}
+use Rattle.storage.specs.declared.Amount.the-variants.{Is, Refused}
 use Rattle.text.specs.Lists.{comma, joiner, space, zeroDigit, Range, range}
 
 -- where the run began that is open, if one is
@@ -68,7 +68,7 @@ abbrev pub textOf : Bits → List ℕ
 textOf b = text (runs b)
 
 -- the text's length, or 6 where the buffer has fewer bytes
-abbrev pub fitted : List ℕ → List ℕ → Number
+abbrev pub fitted : List ℕ → List ℕ → Amount
 fitted t out = choose (leb (length t) (length out)) (Is (length t)) (Refused NoSpace)
 
 -- the text at the buffer's front, the bytes past it as they were; the whole buffer as it was where the text does not fit
@@ -76,6 +76,6 @@ abbrev pub replaced : List ℕ → List ℕ → List ℕ
 replaced t out = choose (leb (length t) (length out)) (t ++ drop (length t) out) out
 
 -- a call on the bitmap b in ws answers r, and makes out' of the buffer out
-pub record Prints (ws : List ℕ) (b : Bitmap) (out : List ℕ) (r : Number) (out' : List ℕ) : Type 0 where
-  pub answers : r ≡ reading ws b Number.Refused (λ s. fitted (textOf s) out)
+pub record Prints (ws : List ℕ) (b : Bitmap) (out : List ℕ) (r : Amount) (out' : List ℕ) : Type 0 where
+  pub answers : r ≡ reading ws b Amount.Refused (λ s. fitted (textOf s) out)
   pub leaves : out' ≡ reading ws b (λ e. out) (λ s. replaced (textOf s) out)

@@ -1,8 +1,8 @@
 // A bitmap printed as list text: its runs upward, as `0-3, 5-7, 11`. The call measures first and writes only what fits.
+use storage::Amount;
 use storage::Bitmap;
 use storage::Found;
 use storage::Guard;
-use storage::Number;
 use storage::Refusal;
 use text::COMMA;
 use text::JOINER;
@@ -13,9 +13,9 @@ ghost use mathlib.Core.List.{_++_};
 ghost use lib.ListN.{length};
 ghost use Rattle.storage.specs.Stores.{held};
 ghost use Rattle.storage.specs.Guards.{Passed};
-ghost use Rattle.text.specs.Lists.{limit, range};
+ghost use Rattle.text.specs.Lists.{listLimit, range};
 ghost use Rattle.print.specs.Texts.{decimal, printed, textOf, Prints};
-ghost use Rattle.print.specs.Kernels.{NextRun, gap, putAt, Puts};
+ghost use Rattle.print.specs.Kernels.{NextRun, separator, putAt, Puts};
 
 const SPACE: u8 = 32;
 
@@ -44,8 +44,8 @@ fn next_run(words: &[u64], b: Bitmap, i: usize) -> Run
             }
             let c = slice::next_clear(words, b, next);
             match c {
-                Number::Is(e) => Run { low: a, end: e },
-                Number::Refused(_) => none,
+                Amount::Is(e) => Run { low: a, end: e },
+                Amount::Refused(_) => none,
             }
         }
         Found::Nothing => none,
@@ -55,7 +55,7 @@ fn next_run(words: &[u64], b: Bitmap, i: usize) -> Run
 
 // How many digits x has.
 fn digits(x: usize) -> usize
-    requires { ⌜ x ≤ limit ⌝ }
+    requires { ⌜ x ≤ listLimit ⌝ }
     ensures { λ r. ⌜ r ≡ length (decimal x) ⌝ }
 {
     if x < 100_000 {
@@ -78,14 +78,14 @@ fn digits(x: usize) -> usize
 
 // The length of what stands before a run.
 fn gap_len(at: usize) -> usize
-    ensures { λ r. ⌜ r ≡ length (gap at) ⌝ }
+    ensures { λ r. ⌜ r ≡ length (separator at) ⌝ }
 {
     if at == 0 { 0 } else { 2 }
 }
 
 // The length of a run.
 fn run_len(a: usize, b: usize) -> usize
-    requires { ⌜ (a ≤ limit) × (b ≤ limit) ⌝ }
+    requires { ⌜ (a ≤ listLimit) × (b ≤ listLimit) ⌝ }
     ensures { λ r. ⌜ r ≡ length (printed (range a b)) ⌝ }
 {
     if a == b {
@@ -110,7 +110,7 @@ fn text_len(words: &[u64], b: Bitmap) -> usize
 
 // Puts the digits of x, the last two first; the place after them.
 fn put_number(out: &mut [u8], at: usize, x: usize) -> usize
-    requires { ⌜ (x ≤ limit) × (at + length (decimal x) ≤ length (now out)) ⌝ }
+    requires { ⌜ (x ≤ listLimit) × (at + length (decimal x) ≤ length (now out)) ⌝ }
     ensures { λ r. ⌜ Puts at (decimal x) r (now (out .entry)) (now (out .exit)) ⌝ }
 {
     let end = at + digits(x);
@@ -131,8 +131,8 @@ fn put_number(out: &mut [u8], at: usize, x: usize) -> usize
 
 // Puts what stands between two runs, if one came before; the place after it.
 fn put_gap(out: &mut [u8], at: usize) -> usize
-    requires { ⌜ at + length (gap at) ≤ length (now out) ⌝ }
-    ensures { λ r. ⌜ Puts at (gap at) r (now (out .entry)) (now (out .exit)) ⌝ }
+    requires { ⌜ at + length (separator at) ≤ length (now out) ⌝ }
+    ensures { λ r. ⌜ Puts at (separator at) r (now (out .entry)) (now (out .exit)) ⌝ }
 {
     if at == 0 {
         return 0;
@@ -144,8 +144,8 @@ fn put_gap(out: &mut [u8], at: usize) -> usize
 
 // Puts a run, after what stands before it; the place after it.
 fn put_run(out: &mut [u8], at: usize, a: usize, b: usize) -> usize
-    requires { ⌜ (a ≤ limit) × (b ≤ limit) × (at + (length (gap at) + length (printed (range a b))) ≤ length (now out)) ⌝ }
-    ensures { λ r. ⌜ Puts at (gap at ++ printed (range a b)) r (now (out .entry)) (now (out .exit)) ⌝ }
+    requires { ⌜ (a ≤ listLimit) × (b ≤ listLimit) × (at + (length (separator at) + length (printed (range a b))) ≤ length (now out)) ⌝ }
+    ensures { λ r. ⌜ Puts at (separator at ++ printed (range a b)) r (now (out .entry)) (now (out .exit)) ⌝ }
 {
     let start = put_gap(out, at);
     let next = put_number(out, start, a);
@@ -170,17 +170,17 @@ fn print(words: &[u64], b: Bitmap, out: &mut [u8])
 }
 
 // Prints the bitmap as a list; the text's length. 6 if the buffer is shorter, before a byte is written; bytes past the text are untouched.
-pub fn write_list(words: &[u64], b: Bitmap, out: &mut [u8]) -> Number
+pub fn write_list(words: &[u64], b: Bitmap, out: &mut [u8]) -> Amount
     ensures { λ r. ⌜ Prints (now (words .entry)) b (now (out .entry)) r (now (out .exit)) ⌝ }
 {
     match storage::check(words, b) {
-        Guard::Stop(e) => return Number::Refused(e),
+        Guard::Stop(e) => return Amount::Refused(e),
         Guard::Pass => {}
     }
     let len = text_len(words, b);
     if len > out.len() {
-        return Number::Refused(Refusal::NoSpace);
+        return Amount::Refused(Refusal::NoSpace);
     }
     print(words, b, out);
-    Number::Is(len)
+    Amount::Is(len)
 }

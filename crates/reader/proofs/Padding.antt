@@ -6,15 +6,15 @@ use native.Mathlib.Omega.{arith}
 use lib.ListN.{length, getD}
 use Rattle.word.proofs.Cases.{by-lt}
 use Rattle.word.proofs.Lists.{Fit, past}
-use Rattle.storage.specs.Stores.{Bits, noWords, view, written}
+use Rattle.storage.specs.Stores.{Bits, noWords, view, written, bitmapOf}
 use Rattle.storage.specs.Guards.{Passed}
 use Rattle.storage.proofs.Checks.{passed-as}
 use Rattle.storage.proofs.Views.{view-count, view-in}
 use Rattle.storage.proofs.Stores.{Stored, stored-written, written-stored, length-written}
-use Rattle.reader.specs.Kernels.{Padded, fresh}
+use Rattle.reader.specs.Kernels.{Padded}
 
 -- it is the store that a reading leaves of any other of its length
-pub padded-written : (res ws : List ℕ) (n : ℕ) → length ws ≡ length res → Fit ws → Padded ws (fresh n) → ws ≡ written res (length res) (view ws n)
+pub padded-written : (res ws : List ℕ) (n : ℕ) → length ws ≡ length res → Fit ws → Padded ws (bitmapOf n) → ws ≡ written res (length res) (view ws n)
 padded-written res ws n e f p =
     stored-written res (length res) (view ws n) ws
     (record {
@@ -37,7 +37,7 @@ module _ (ws : List ℕ) (n : ℕ) (s : Bits) (h : s .count ≤ length ws) (l : 
       (λ b. subst (λ (x : ℕ). x < 2 ^ 64) (sym (t .dropped k a b)) (omega arith))
       (λ b. subst (λ (x : ℕ). x < 2 ^ 64) (sym (t .kept k a b)) (f k)))
 
-  pub written-padded : Passed ws noWords → ((k : ℕ) → n ≤ k → getD ws k 0 ≡ 0) → Padded (written ws n s) (fresh (s .count))
+  pub written-padded : Passed ws noWords → ((k : ℕ) → n ≤ k → getD ws k 0 ≡ 0) → Padded (written ws n s) (bitmapOf (s .count))
   written-padded p z = record {
     passes = passed-as ws (written ws n s) noWords (s .count) (length-written ws n s) h p;
     zeros = λ k a. by-lt k n (λ b. t .dropped k a b) (λ b. t .kept k a b ∙ z k b);

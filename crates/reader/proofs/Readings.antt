@@ -8,10 +8,10 @@ use native.Mathlib.Omega.{arith}
 use lib.ListN.{length, getD}
 use borrow.Author.Tests.{le-leb, lt-leb}
 use Rattle.word.specs.Sets.{choose}
-use Rattle.word.specs.Bits.{bit}
+use Rattle.word.specs.Places.{bit}
 use Rattle.word.proofs.Lists.{Fit, past}
 use Rattle.word.proofs.Sweep.{Swept, sweep-to}
-use Rattle.storage.specs.Stores.{Bits, noWords, view, written, zeroed}
+use Rattle.storage.specs.Stores.{Bits, noWords, view, written, zeroed, bitmapOf}
 use Rattle.storage.specs.Guards.{Passed}
 use Rattle.storage.specs.declared.Refusal.the-variants.{NoSpace, NotSheet}
 use Rattle.storage.proofs.Views.{view-count, view-in, bounded-view}
@@ -22,7 +22,7 @@ use Rattle.sheet.specs.Reads.{editionOf, fitting, went, readAnswer}
 use Rattle.sheet.specs.declared.Edit.{Edit}
 use Rattle.sheet.specs.declared.Reading.{Reading}
 use Rattle.sheet.proofs.Readings.{same-written}
-use Rattle.reader.specs.Kernels.{Padded, fresh, Came}
+use Rattle.reader.specs.Kernels.{Padded, Came}
 use Rattle.reader.proofs.Padding.{written-padded}
 
 -- ---- the old words copied, and zeros past them
@@ -75,10 +75,10 @@ module _ (edition : ℕ) (sheet old : List ℕ) (n : ℕ) (res : List ℕ) where
     pub copy-long : length res' ≡ length res
     copy-long = ap length q ∙ length-written res (length res) (view old n)
 
-    pub copy-padded : Passed res noWords → Padded res' (fresh n)
+    pub copy-padded : Passed res noWords → Padded res' (bitmapOf n)
     copy-padded p =
-        subst (λ (x : List ℕ). Padded x (fresh n)) (sym q)
-        (subst (λ (x : ℕ). Padded (written res (length res) (view old n)) (fresh x)) (view-count old n)
+        subst (λ (x : List ℕ). Padded x (bitmapOf n)) (sym q)
+        (subst (λ (x : ℕ). Padded (written res (length res) (view old n)) (bitmapOf x)) (view-count old n)
         (written-padded res (length res) (view old n) (omega (arith, view-count old n)) (omega arith) p (λ k h. past res k h)))
 
     seen : view res' n ≡ view old n

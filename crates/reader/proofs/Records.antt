@@ -10,7 +10,7 @@ use lib.Dec.{leb, ltb}
 use borrow.Author.Tests.{le-leb, lt-leb, lt-ltb, le-ltb}
 use Rattle.word.specs.Sets.{choose}
 use Rattle.word.proofs.Lists.{Fit}
-use Rattle.storage.specs.Stores.{Bits, refused, done, withCount, view, written, answer, store, Leaves}
+use Rattle.storage.specs.Stores.{Bits, refused, done, withCount, view, written, answer, store, Leaves, bitmapOf}
 use Rattle.storage.specs.declared.Bitmap.{Bitmap}
 use Rattle.storage.specs.declared.Refusal.{Refusal}
 use Rattle.storage.specs.declared.Refusal.the-variants.{CutRecord, BytesRemain}
@@ -25,25 +25,25 @@ use Rattle.sheet.specs.Reader.{Edition, Turn, stop, next, Answer, refused, done
 use Rattle.sheet.specs.Reads.{editionOf, went, readAnswer}
 use Rattle.sheet.specs.declared.Edit.{Edit}
 use Rattle.sheet.specs.declared.Reading.the-variants as reading
-use Rattle.reader.specs.Kernels.{Padded, fresh, outcomeOf, turned, Came}
+use Rattle.reader.specs.Kernels.{Padded, outcomeOf, turned, Came}
 use Rattle.sheet.proofs.Turns.{stop-next, next-inj}
-use Rattle.sheet.proofs.Effects.{Kept, step-kept}
+use Rattle.sheet.proofs.Effects.{KeptIn, step-kept}
 use Rattle.reader.proofs.Padding.{padded-written, written-fit, written-padded}
 
 -- ---- what a record makes has space, and no member past its words
 
-module _ (edition c k : ℕ) (b s : Bits) (h : Kept c b) where
-  taken-kept : (t : Turn Edit) → taken (editionOf c edition) k b t ≡ next s → Kept c s
+module _ (edition c k : ℕ) (b s : Bits) (h : KeptIn c b) where
+  taken-kept : (t : Turn Edit) → taken (editionOf c edition) k b t ≡ next s → KeptIn c s
   taken-kept (stop e) p = absurd (stop-next p)
   taken-kept (next e) p = step-kept c edition k e b s h p
 
-  act-kept : (r : Item) → act (editionOf c edition) k r b ≡ next s → Kept c s
+  act-kept : (r : Item) → act (editionOf c edition) k r b ≡ next s → KeptIn c s
   unfolding act
   act-kept r p = go (r .duty) (asking (editionOf c edition .size) (editionOf c edition .rule) (r .kind) (r .payload)) p
     where
-      go : (d : Bool) (t : Turn Edit) → choose d (taken (editionOf c edition) k b t) (next b) ≡ next s → Kept c s
+      go : (d : Bool) (t : Turn Edit) → choose d (taken (editionOf c edition) k b t) (next b) ≡ next s → KeptIn c s
       go true t q = taken-kept t q
-      go false t q = subst (Kept c) (next-inj q) h
+      go false t q = subst (KeptIn c) (next-inj q) h
 
 -- a step of the table does not look at the record's number
 any-number : (edition c k : ℕ) (r : Item) (b : Bits) → act (editionOf c edition) k r b ≡ act (editionOf c edition) 0 r b
@@ -85,18 +85,18 @@ module _ (edition : ℕ) (sheet : List ℕ) (n : ℕ) (ws₀ : List ℕ) (n₀ :
   whole = records (editionOf (length ws₀) edition) sheet n 0 4 (view ws₀ n₀)
 
   -- i records are read, and the next starts at a position: the store holds what they made
-  pub record Going (ws : List ℕ) (m i at : ℕ) : Type 0 where
+  pub record ReadingTo (ws : List ℕ) (m i at : ℕ) : Type 0 where
     pub bound : i ≤ n
     pub inside : at ≤ length sheet
     pub long : length ws ≡ length ws₀
     pub fit : Fit ws
-    pub padded : Padded ws (fresh m)
+    pub padded : Padded ws (bitmapOf m)
     pub decides : whole ≡ records E sheet (n - i) i at (view ws m)
 
-  pub begins : 4 ≤ length sheet → Fit ws₀ → Padded ws₀ (fresh n₀) → Going ws₀ n₀ 0 4
+  pub begins : 4 ≤ length sheet → Fit ws₀ → Padded ws₀ (bitmapOf n₀) → ReadingTo ws₀ n₀ 0 4
   begins l f p = record { bound = omega arith; inside = l; long = refl; fit = f; padded = p; decides = ap (λ (x : ℕ). records E sheet x 0 4 (view ws₀ n₀)) (let e : n ≡ n - 0 = omega arith in e) }
 
-  module _ (ws : List ℕ) (m i at : ℕ) (g : Going ws m i at) (more : i < n) where
+  module _ (ws : List ℕ) (m i at : ℕ) (g : ReadingTo ws m i at) (more : i < n) where
     unrolled : whole
         ≡ choose (leb (endAt sheet at) (length sheet))
         (then E (records E sheet (n - (i + 1)) (suc i) (endAt sheet at)) (suc i) (act E (suc i) (itemAt sheet at) (view ws m))) (refused CutRecord (suc i))
@@ -127,43 +127,43 @@ module _ (edition : ℕ) (sheet : List ℕ) (n : ℕ) (ws₀ : List ℕ) (n₀ :
           (subst (λ (c : ℕ). Leaves (turned edition (itemAt sheet at) c (view ws m)) ws b r ws') (g .long) h)
 
       pub stops : (r : Change) (ws' : List ℕ) (e : Refusal) (b' : Bitmap) → r ≡ Change.Refused e b'
-          → Leaves (turned edition (itemAt sheet at) (length ws) (view ws m)) ws (fresh m) r ws' → whole ≡ refused e (i + 1)
+          → Leaves (turned edition (itemAt sheet at) (length ws) (view ws m)) ws (bitmapOf m) r ws' → whole ≡ refused e (i + 1)
       stops r ws' e b' p h =
           turns
           ∙ ap (then E (records E sheet (n - (i + 1)) (suc i) end) (suc i))
-          (told-stop (act E (suc i) (itemAt sheet at) (view ws m)) ws ws' (fresh m) b' e
-          (in-store (fresh m) (Change.Refused e b') ws' (subst (λ (x : Change). Leaves (turned edition (itemAt sheet at) (length ws) (view ws m)) ws (fresh m) x ws') p h)))
+          (told-stop (act E (suc i) (itemAt sheet at) (view ws m)) ws ws' (bitmapOf m) b' e
+          (in-store (bitmapOf m) (Change.Refused e b') ws' (subst (λ (x : Change). Leaves (turned edition (itemAt sheet at) (length ws) (view ws m)) ws (bitmapOf m) x ws') p h)))
           ∙ ap (refused e) (sym (add-one i))
 
       pub goes-on : (r : Change) (ws' : List ℕ) (after : Bitmap) → r ≡ Change.Done after
-          → Leaves (turned edition (itemAt sheet at) (length ws) (view ws m)) ws (fresh m) r ws' → Going ws' (after .count) (i + 1) end
+          → Leaves (turned edition (itemAt sheet at) (length ws) (view ws m)) ws (bitmapOf m) r ws' → ReadingTo ws' (after .count) (i + 1) end
       goes-on r ws' after p h = record {
         bound = omega arith;
         inside = l;
         long = long;
         fit = subst Fit (sym (y .leaves)) (written-fit ws m s room (g .padded .passes .inside) (g .fit));
         padded =
-            subst (λ (x : ℕ). Padded ws' (fresh x)) (sym (y .count))
-            (subst (λ (x : List ℕ). Padded x (fresh (s .count))) (sym (y .leaves))
-            (written-padded ws m s room (g .padded .passes .inside) (passed-as ws ws (fresh m) 0 refl (omega arith) (g .padded .passes)) (g .padded .zeros)));
+            subst (λ (x : ℕ). Padded ws' (bitmapOf x)) (sym (y .count))
+            (subst (λ (x : List ℕ). Padded x (bitmapOf (s .count))) (sym (y .leaves))
+            (written-padded ws m s room (g .padded .passes .inside) (passed-as ws ws (bitmapOf m) 0 refl (omega arith) (g .padded .passes)) (g .padded .zeros)));
         decides =
             turns ∙ ap (then E (records E sheet (n - (i + 1)) (suc i) end) (suc i)) (y .is)
             ∙ ap (λ (x : Bits). records E sheet (n - (i + 1)) (suc i) end x) (sym seen)
             ∙ ap (λ (x : ℕ). records E sheet (n - (i + 1)) x end (view ws' (after .count))) (sym (add-one i));
       }
         where
-          found : (s : Bits) × Made (act E (suc i) (itemAt sheet at) (view ws m)) ws ws' (fresh m) after s
+          found : (s : Bits) × Made (act E (suc i) (itemAt sheet at) (view ws m)) ws ws' (bitmapOf m) after s
           found =
-              told-next (act E (suc i) (itemAt sheet at) (view ws m)) ws ws' (fresh m) after
-              (in-store (fresh m) (Change.Done after) ws' (subst (λ (x : Change). Leaves (turned edition (itemAt sheet at) (length ws) (view ws m)) ws (fresh m) x ws') p h))
+              told-next (act E (suc i) (itemAt sheet at) (view ws m)) ws ws' (bitmapOf m) after
+              (in-store (bitmapOf m) (Change.Done after) ws' (subst (λ (x : Change). Leaves (turned edition (itemAt sheet at) (length ws) (view ws m)) ws (bitmapOf m) x ws') p h))
 
           s : Bits
           s = found .0
 
-          y : Made (act E (suc i) (itemAt sheet at) (view ws m)) ws ws' (fresh m) after s
+          y : Made (act E (suc i) (itemAt sheet at) (view ws m)) ws ws' (bitmapOf m) after s
           y = found .1
 
-          kept : Kept (length ws₀) s
+          kept : KeptIn (length ws₀) s
           kept =
               act-kept edition (length ws₀) (suc i) (view ws m) s
               (record { bounded = bounded-view ws m; space = omega (arith, view-count ws m, g .padded .passes .inside, g .long) }) (itemAt sheet at) (y .is)
@@ -177,7 +177,7 @@ module _ (edition : ℕ) (sheet : List ℕ) (n : ℕ) (ws₀ : List ℕ) (n₀ :
           seen : view ws' (after .count) ≡ s
           seen = ap (view ws') (y .count) ∙ ap (λ (x : List ℕ). view x (s .count)) (y .leaves) ∙ view-written ws m s room (g .padded .passes .inside) (kept .bounded)
 
-  module _ (ws : List ℕ) (m i at : ℕ) (g : Going ws m i at) (over : n ≤ i) where
+  module _ (ws : List ℕ) (m i at : ℕ) (g : ReadingTo ws m i at) (over : n ≤ i) where
     last : whole ≡ choose (ltb at (length sheet)) (refused BytesRemain i) (Answer.done i (view ws m))
     unfolding records
     last = g .decides ∙ ap (λ (x : ℕ). records E sheet x i at (view ws m)) (let e : n - i ≡ 0 = omega arith in e)
@@ -197,8 +197,8 @@ came-refused a res res' e k l q = record {
   leaves = λ k' s p. let r : refused e k ≡ Answer.done k' s = sym q ∙ p in absurd (let z : _≡_ {A = ℕ} 0 1 = cc in omega arith);
 }
 
-pub came-done : (a : Answer Bits) (res ws : List ℕ) (k m : ℕ) → length ws ≡ length res → Fit ws → Padded ws (fresh m) → a ≡ Answer.done k (view ws m)
-    → Came a res (reading.Done k (fresh m)) ws
+pub came-done : (a : Answer Bits) (res ws : List ℕ) (k m : ℕ) → length ws ≡ length res → Fit ws → Padded ws (bitmapOf m) → a ≡ Answer.done k (view ws m)
+    → Came a res (reading.Done k (bitmapOf m)) ws
 unfolding view
 came-done a res ws k m l f p q = record {
   long = l;

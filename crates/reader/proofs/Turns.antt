@@ -17,7 +17,7 @@ use Rattle.storage.proofs.Stores.{leaves-refused, outcome-ok, written-view}
 use Rattle.sheet.specs.Kinds.{sizeIn, ruleOf}
 use Rattle.sheet.specs.Frames.{Item, sizeAt, endAt, itemAt}
 use Rattle.sheet.specs.Reader.{Turn, stop, next, asking, taken}
-use Rattle.sheet.specs.Reads.{step, made, editionOf}
+use Rattle.sheet.specs.Reads.{step, turnOf, editionOf}
 use Rattle.sheet.specs.declared.Edit.{Edit}
 use Rattle.decode.specs.declared.Asked.{Asked}
 use Rattle.decode.specs.declared.Asked.the-variants.{For, Refused}
@@ -34,7 +34,7 @@ comes c b (Asked.Refused e) = refused e
 comes c b (For e) = step e c b
 
 module _ (edition kind : ℕ) (payload : List ℕ) (c : ℕ) (b : Bits) where
-  step-comes : (o : Outcome) → outcomeOf (made o) ≡ o
+  step-comes : (o : Outcome) → outcomeOf (turnOf o) ≡ o
   step-comes (refused x) = refl
   step-comes (done s) = refl
 

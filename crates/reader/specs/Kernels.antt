@@ -4,7 +4,7 @@ use mathlib.Core.Path.{_≡_}
 use mathlib.Core.Bool.{true}
 use mathlib.Core.List.{List}
 use lib.ListN.{length, getD}
-use Rattle.storage.specs.Stores.{Bits, Outcome, refused, done, Space, noWords, withCount, written}
+use Rattle.storage.specs.Stores.{Bits, Outcome, refused, done, Space, written}
 use Rattle.storage.specs.Guards.{Passed}
 use Rattle.storage.specs.declared.Bitmap.{Bitmap}
 use Rattle.sheet.specs.Frames.{Item}
@@ -16,10 +16,6 @@ use Rattle.sheet.specs.declared.Reading.{Reading}
 pub record Padded (ws : List ℕ) (b : Bitmap) : Type 0 where
   pub passes : Passed ws b
   pub zeros : (k : ℕ) → b .count ≤ k → getD ws k 0 ≡ 0
-
--- the record of the first n words of the result store, which has no earlier one
-abbrev pub fresh : ℕ → Bitmap
-fresh n = withCount noWords n
 
 -- what a record comes to, as an operation does
 abbrev pub outcomeOf : Turn Bits → Outcome

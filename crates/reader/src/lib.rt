@@ -11,12 +11,12 @@ use storage::Refusal;
 ghost use mathlib.Core.Path.{_≡_};
 ghost use Prim.Native.Nat.{_≤_};
 ghost use lib.ListN.{length};
-ghost use Rattle.storage.specs.Stores.{noWords, spaceOf, view, held, written, Leaves, Changes};
+ghost use Rattle.storage.specs.Stores.{noWords, spaceOf, view, held, written, Leaves, Changes, bitmapOf};
 ghost use Rattle.storage.specs.Guards.{Passed};
 ghost use Rattle.sheet.specs.Frames.{endAt, itemAt};
 ghost use Rattle.sheet.specs.Reader.{records, read};
 ghost use Rattle.sheet.specs.Reads.{step, editionOf, fitting, Reads};
-ghost use Rattle.reader.specs.Kernels.{Padded, fresh, dutyItem, turned, Came};
+ghost use Rattle.reader.specs.Kernels.{Padded, dutyItem, turned, Came};
 
 // What an edit does to a bitmap.
 fn apply(words: &mut [u64], b: Bitmap, e: Edit) -> Change
@@ -74,7 +74,7 @@ fn turn(edition: usize, sheet: &[u8], at: usize, end: usize, words: &mut [u64], 
 
 // The n records from the fifth byte on. Where one is refused the store is left as it is then.
 fn each_record(edition: usize, sheet: &[u8], n: usize, words: &mut [u64], old: usize) -> Reading
-    requires { ⌜ (4 ≤ length (now sheet)) × Padded (now words) (fresh old) ⌝ }
+    requires { ⌜ (4 ≤ length (now sheet)) × Padded (now words) (bitmapOf old) ⌝ }
     ensures { λ r. ⌜ Came (records (editionOf (spaceOf (now (words .entry))) edition) (now (sheet .entry)) n 0 4
         (view (now (words .entry)) old)) (now (words .entry)) r (now (words .exit)) ⌝ }
 {
@@ -112,7 +112,7 @@ fn load(result: &mut [u64], words: &[u64], n: usize)
         k += 1;
     }
     let end = result.len();
-    storage::grow(result, n, end);
+    storage::zero_words(result, n, end);
 }
 
 // 9, then 6 where the old bitmap has no space, then the records. A refusal leaves the store as it is then.
@@ -152,7 +152,7 @@ pub fn read(edition: usize, sheet: &[u8], words: &[u64], b: Bitmap, result: &mut
     match read_into(edition, sheet, words, b, result) {
         Reading::Done(n, after) => Reading::Done(n, after),
         Reading::Refused(why, k) => {
-            storage::grow(result, 0, end);
+            storage::zero_words(result, 0, end);
             Reading::Refused(why, k)
         }
     }

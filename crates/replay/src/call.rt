@@ -35,9 +35,9 @@ fn read(h: Head, words: &[u64], other: &[u64]) -> Told {
         0 => kernels::of_word(op, h.x as u64, h.y as u64),
         1 => kernels::scan(op, words),
         3 => told::found(reading::search(op, words, h.b, h.x)),
-        4 => told::number(reading::count(op, words, h.b, h.x, h.y)),
+        4 => told::amount(reading::count(op, words, h.b, h.x, h.y)),
         5 => told::truth(reading::test(op, words, h.b, other, h.o, h.x)),
-        6 => told::number(reading::pair_count(op, words, h.b, other, h.o)),
+        6 => told::amount(reading::pair_count(op, words, h.b, other, h.o)),
         7 => told::found(reading::walk(op, words, h.b, other, h.o, h.x)),
         _ => told::field(slice::get_field(words, h.b, h.x, h.y)),
     }

@@ -48,7 +48,7 @@ pub(crate) fn sound(line: &[u64; 1024], count: usize) -> bool {
 
 // Whether the answer is the line's.
 fn answered(line: &[u64; 1024], got: Told) -> bool {
-    got.number == store::at(line, 5)
+    got.number as u64 == store::at(line, 5)
         && got.tag == store::at(line, 6)
         && got.value == store::at(line, 7)
         && got.also == store::at(line, 8)
@@ -80,7 +80,7 @@ fn write_list(line: &[u64; 1024], words: &[u64]) -> u64 {
     let mut bytes = store::bytes(line, 0);
     let n = store::at_most(store::at(line, 2), 512);
     let got = print::write_list(words, store::bitmap_at(line, 10), &mut bytes[0..n]);
-    shown_text(line, told::number(got), &bytes)
+    shown_text(line, told::amount(got), &bytes)
 }
 
 // Reads the bytes of the list.

@@ -58,7 +58,7 @@ pub(crate) fn kernel(op: u64, words: &mut [u64], x: usize, y: usize, z: u64) -> 
             told::changed()
         }
         _ => {
-            storage::grow(words, x, y);
+            storage::zero_words(words, x, y);
             told::changed()
         }
     }

@@ -1,7 +1,7 @@
 // The calls that change nothing: kinds 3 to 7.
+use storage::Amount;
 use storage::Bitmap;
 use storage::Found;
-use storage::Number;
 use storage::Truth;
 
 pub(crate) fn search(op: u64, words: &[u64], b: Bitmap, x: usize) -> Found {
@@ -13,7 +13,7 @@ pub(crate) fn search(op: u64, words: &[u64], b: Bitmap, x: usize) -> Found {
     }
 }
 
-pub(crate) fn count(op: u64, words: &[u64], b: Bitmap, x: usize, y: usize) -> Number {
+pub(crate) fn count(op: u64, words: &[u64], b: Bitmap, x: usize, y: usize) -> Amount {
     match op {
         0x40 => slice::first_clear(words, b),
         0x41 => slice::next_clear(words, b, x),
@@ -33,7 +33,7 @@ pub(crate) fn test(op: u64, words: &[u64], b: Bitmap, other: &[u64], o: Bitmap, 
     }
 }
 
-pub(crate) fn pair_count(op: u64, words: &[u64], b: Bitmap, other: &[u64], o: Bitmap) -> Number {
+pub(crate) fn pair_count(op: u64, words: &[u64], b: Bitmap, other: &[u64], o: Bitmap) -> Amount {
     match op {
         0x60 => algebra::and_count(words, b, other, o),
         0x61 => algebra::or_count(words, b, other, o),

@@ -1,275 +1,191 @@
--- The set operations in place, over the truth table of two bits. Assumes nothing.
-use mathlib.Core.Path.{_≡_, refl, sym, ap, ap₂, _∙_, subst}
-use mathlib.Core.Bool.{Bool, false, not, _&&_, _||_}
+-- The set operations in place, by the words that an operation makes. Assumes nothing.
+use mathlib.Core.Path.{_≡_, refl, sym, ap, _∙_, subst}
 use mathlib.Core.List.{List}
 use mathlib.Core.Logic.{_⊎_, inl, inr}
-use Prim.Native.Nat.{ℕ, suc, _+_, _-_, _*_, _/_, _%_, _^_, _≤_, _<_, min, max}
+use Prim.Native.Nat.{ℕ, suc, _-_, _^_, _≤_, _<_, min, max}
+use native.Mathlib.Nat.{le-antisymm}
 use native.Mathlib.Omega.{arith}
 use lib.ListN.{length, getD, take}
 use lib.Seq.{length-take-le, getD-take}
-use lib.Bits.{bitAnd, bitOr, bitXor, xor-zero-l}
-use Rattle.word.specs.Sets.{xorb}
-use Rattle.word.specs.Bits.{bit}
-use Rattle.word.proofs.Cases.{by-lt, and-false, and-keep, or-false, xor-false}
-use Rattle.word.proofs.Bits.{bit-zero}
-use Rattle.word.proofs.Lists.{Fit, past, at-place}
-use Rattle.word.proofs.Sweep.{Swept}
-use Rattle.arch.specs.Scans.{filledWords, nonzeroLen}
-use Rattle.arch.proofs.Scans.{nonzero-le}
-use Rattle.arch.proofs.Regions.{length-filled-words, filled-in, filled-below, filled-above}
-use Rattle.storage.specs.Stores.{Bits, withCount, view, beside, trimmedCount, trimmed, combined, andNot, zeroed, Changes}
-use Rattle.storage.specs.Guards.{Passed}
-use Rattle.storage.specs.Kernels.{wordAndNot}
+use Rattle.word.proofs.Cases.{by-lt}
+use Rattle.word.proofs.Lists.{Fit, past}
+use Rattle.arch.specs.Scans.{nonzeroLen}
+use Rattle.arch.proofs.Scans.{nonzero-le, nonzero-past, nonzero-last}
+use Rattle.pairs.specs.Pairs.{wordBy, wordsBy}
+use Rattle.pairs.specs.Pairs.{endBy}
+use Rattle.pairs.specs.declared.SetOp.{SetOp}
+use Rattle.pairs.specs.declared.SetOp.the-variants.{And, AndNot, Or, Xor}
+use Rattle.pairs.proofs.Tables.{end-top, end-first, end-second, by-at, by-fit, by-nonzero}
+use Rattle.storage.specs.Stores.{Bits, Op, Outcome, withCount, view, held, beside, within, zeroed, Leaves, Changes}
+use Rattle.storage.specs.Guards.{PassedTwo}
+use Rattle.storage.specs.Kernels.{Put}
 use Rattle.storage.specs.declared.Bitmap.{Bitmap}
 use Rattle.storage.specs.declared.Refusal.the-variants.{NoSpace}
+use Rattle.storage.specs.declared.Change.{Change}
 use Rattle.storage.specs.declared.Change.the-variants.{Done, Refused}
-use Rattle.storage.proofs.Operations.{WordOp, word-and, word-or, word-xor, word-andnot}
-use Rattle.storage.proofs.Checks.{beside-ok, within-ok, within-no}
-use Rattle.storage.proofs.Views.{view-count, view-in, view-out}
-use Rattle.storage.proofs.Stores.{changes-done, changes-refused, length-zeroed, zeroed-in, zeroed-out, zeroed-fit, grown-bit}
-use Rattle.storage.proofs.Trims.{trimmed-holds, trimmed-least, trimmed-view, trimmed-length, trimmed-stored, front-none, front-last, front-zero}
+use Rattle.storage.proofs.Checks.{beside-ok}
+use Rattle.storage.proofs.Stores.{outcome-ok, length-zeroed, zeroed-in, zeroed-out, zeroed-fit}
+use Rattle.storage.proofs.Combined.{madeWords, fewest-words, all-words, all-hold, put-leaves, put-lacks}
 use Rattle.setops.specs.Setops.{combining, uniting}
-use Rattle.setops.specs.Kernels.{Zipped}
 
--- ---- the call with a second bitmap, done: the store afterwards holds the combined set in its first u words
-
-module _ (f : Bool → Bool → Bool) (ws os ws' : List ℕ) (b o : Bitmap) (p : Passed ws b) (q : Passed os o) where
-  set : Bits
-  set = combined f (view ws (b .count)) (view os (o .count))
-
-  set-count : combined f (view ws (b .count)) (view os (o .count)) .count ≡ max (b .count) (o .count)
-  unfolding combined
-  set-count = ap₂ max (view-count ws (b .count)) (view-count os (o .count))
-
-  pub combined-at : (i : ℕ) → combined f (view ws (b .count)) (view os (o .count)) .members i ≡ f (view ws (b .count) .members i) (view os (o .count) .members i)
-  unfolding combined
-  combined-at i = refl
-
-  pub combine-changes : (u r : ℕ) → Fit ws' → length ws' ≡ length ws → b .count ≤ u → u ≤ length ws → u ≤ max (b .count) (o .count)
-      → ((k j : ℕ) → k < u → j < 64 → bit (getD ws' k 0) j ≡ f (view ws (b .count) .members (64 * k + j)) (view os (o .count) .members (64 * k + j)))
-      → ((i : ℕ) → 64 * u ≤ i → f (view ws (b .count) .members i) (view os (o .count) .members i) ≡ false)
-      → r ≡ nonzeroLen (take u ws') → ((k : ℕ) → nonzeroLen (take u ws') ≤ k → b .count ≤ k → getD ws' k 0 ≡ getD ws k 0)
-      → Changes (beside os o (combining f)) ws b (Done (withCount b r)) ws'
-  unfolding combining set
-  combine-changes u r fit e l h low bits none er keep =
-      changes-done (beside os o (combining f)) ws b ws' (trimmed set) r p
-      (beside-ok os o (combining f) (length ws) (view ws (b .count)) q ∙ within-ok (length ws) (trimmed set) (room count))
-      (trimmed-stored ws' u set fit (omega arith) (omega (arith, set-count)) (λ k j a c. bits k j a c ∙ sym (combined-at (64 * k + j))) (λ i a c. combined-at i ∙ none i a)
-      ws (b .count) l e keep)
-      (er ∙ count)
-    where
-      count : nonzeroLen (take u ws') ≡ trimmedCount (set .members) (set .count)
-      count =
-          trimmed-length ws' u set fit (omega arith) (omega (arith, set-count)) (λ k j a c. bits k j a c ∙ sym (combined-at (64 * k + j))) (λ i a c. combined-at i ∙ none i a)
-
-      room : nonzeroLen (take u ws') ≡ trimmedCount (set .members) (set .count) → trimmedCount (set .members) (set .count) ≤ length ws
-      room c = omega (arith, nonzero-le (take u ws'), length-take-le u ws' (omega arith))
-
--- ---- what a loop over the common words leaves
-
-pub zipped : (op : ℕ → ℕ → ℕ) (ws os : List ℕ) (e k : ℕ) (ws' : List ℕ) → Swept ws (λ k. op (getD ws k 0) (getD os k 0)) 0 k ws' → k ≤ e → e ≤ k → Zipped op ws os e ws'
-zipped op ws os e k ws' s p q = record {
-  long = s .long;
-  below = λ i l. s .fresh i (omega arith) (omega arith);
-  above = λ i l. s .above i (omega arith);
-}
-
-module _ {f : Bool → Bool → Bool} {op : ℕ → ℕ → ℕ} (w : WordOp f op) (z os : List ℕ) (fz : Fit z) (fo : Fit os) where
-  pub op-bit : (e : ℕ) (ws' : List ℕ) → Zipped op z os e ws'
-      → (k j : ℕ) → k < e → j < 64 → bit (getD ws' k 0) j ≡ f (bit (getD z k 0) j) (bit (getD os k 0) j)
-  op-bit e ws' s k j l h = ap (λ (x : ℕ). bit x j) (s .below k l) ∙ w .bits (getD z k 0) (getD os k 0) j (fo k) h
-
-  pub op-fit : (e : ℕ) (ws' : List ℕ) → Zipped op z os e ws' → Fit ws'
-  op-fit e ws' s k =
+-- a store that has grown to m words, zipped with the other's: its first m words are those that the operation makes
+pub zip-put : (op : SetOp) (ws z os w : List ℕ) (n m e : ℕ) → Fit ws → n ≤ length ws → m ≤ endBy op n (length os) → z ≡ zeroed n m ws → e ≡ min m (length os)
+    → Put (λ k. wordBy op (getD z k 0) (getD os k 0)) 0 e z w → Put (λ k. getD (wordsBy op (take n ws) os) k 0) 0 m ws w
+zip-put op ws z os w n m e fit hn h ez ee p = record {
+  long = p .long ∙ ap length ez ∙ length-zeroed n m ws;
+  fresh = λ k a l.
       by-lt k e
-      (λ l. subst (λ (x : ℕ). x < 2 ^ 64) (sym (s .below k l)) (w .fits (getD z k 0) (getD os k 0) (fz k) (fo k)))
-      (λ l. subst (λ (x : ℕ). x < 2 ^ 64) (sym (s .above k l)) (fz k))
+      (λ c. p .fresh k a c)
+      (λ c. p .others k (inr c) ∙ sym (end-first op n (length os) k (getD z k 0) (getD os k 0) (fit-z k) (past os k (omega arith)) (omega arith) (omega arith)))
+      ∙ ap (λ (x : ℕ). wordBy op x (getD os k 0)) (old k l) ∙ sym (by-at op (take n ws) os k);
+  others = λ k c. out k c;
+}
+  where
+    at : (k : ℕ) → getD z k 0 ≡ getD (zeroed n m ws) k 0
+    at k = ap (λ (y : List ℕ). getD y k 0) ez
 
--- a store in which words are zeroed still has 64-bit words
-filled-fit : (a e : ℕ) (ws : List ℕ) → Fit ws → Fit (filledWords a e 0 ws)
-filled-fit a e ws f k =
-    by-lt k a
-    (λ l. subst (λ (x : ℕ). x < 2 ^ 64) (sym (filled-below a e 0 ws k l)) (f k))
-    (λ l. by-lt k e
-    (λ q. by-lt k (length ws)
-    (λ h. subst (λ (x : ℕ). x < 2 ^ 64) (sym (filled-in a e 0 ws k h l q)) (omega arith))
-    (λ h. subst (λ (x : ℕ). x < 2 ^ 64) (sym (past (filledWords a e 0 ws) k (omega (arith, length-filled-words a e 0 ws)))) (omega arith)))
-    (λ q. subst (λ (x : ℕ). x < 2 ^ 64) (sym (filled-above a e 0 ws k q)) (f k)))
+    fit-z : Fit z
+    fit-z = subst Fit (sym ez) (zeroed-fit n m ws fit)
 
-module _ (ws os : List ℕ) (b o : Bitmap) (p : Passed ws b) (q : Passed os o) (fw : Fit ws) (fo : Fit os) where
-  abbrev m : ℕ
-  m = o .count
+    old : (k : ℕ) → k < m → getD z k 0 ≡ getD (take n ws) k 0
+    old k l =
+        at k
+        ∙ by-lt k n
+        (λ c. zeroed-out n m ws k (inl c) ∙ sym (getD-take n ws k 0 c))
+        (λ c. zeroed-in n m ws k c l ∙ sym (past (take n ws) k (omega (arith, length-take-le n ws hn))))
 
-  -- no member of the second past its words
-  out : (k j : ℕ) → m ≤ k → j < 64 → view os m .members (64 * k + j) ≡ false
-  out k j h l = view-out os m (64 * k + j) (omega arith)
+    out : (k : ℕ) → (k < 0) ⊎ (m ≤ k) → getD w k 0 ≡ getD ws k 0
+    out k (inl c) = absurd (omega arith)
+    out k (inr c) = p .others k (inr (omega arith)) ∙ at k ∙ zeroed-out n m ws k (inr c)
 
-  -- `and`: what only the first has goes
-  pub and-changes : (e r : ℕ) (w1 ws' : List ℕ) → e ≡ min (b .count) m → Zipped bitAnd ws os e w1
-      → ws' ≡ filledWords e (b .count) 0 w1 → r ≡ nonzeroLen (take (b .count) ws')
-      → Changes (beside os o (combining _&&_)) ws b (Done (withCount b r)) ws'
-  and-changes e r w1 ws' ee s ew er =
-      combine-changes _&&_ ws os ws' b o p q (b .count) r (subst Fit (sym ew) (filled-fit e (b .count) w1 (op-fit word-and ws os fw fo e w1 s)))
-      (ap length ew ∙ length-filled-words e (b .count) 0 w1 ∙ s .long) (omega arith) (p .inside) (omega arith) bits
-      (λ i h. ap (λ (t : Bool). t && view os m .members i) (view-out ws (b .count) i h)) er keep
-    where
-      at : (k : ℕ) → getD ws' k 0 ≡ getD (filledWords e (b .count) 0 w1) k 0
-      at k = ap (λ (y : List ℕ). getD y k 0) ew
+nonzero-same : (xs ys : List ℕ) → ((k : ℕ) → getD xs k 0 ≡ getD ys k 0) → nonzeroLen xs ≡ nonzeroLen ys
+nonzero-same xs ys f = le-antisymm (le xs ys f) (le ys xs (λ k. sym (f k)))
+  where
+    le : (xs ys : List ℕ) → ((k : ℕ) → getD xs k 0 ≡ getD ys k 0) → nonzeroLen xs ≤ nonzeroLen ys
+    le xs ys f =
+        by-lt (nonzeroLen ys) (nonzeroLen xs)
+        (λ l. absurd (nonzero-last xs (nonzeroLen xs - 1) (omega arith) (f (nonzeroLen xs - 1) ∙ nonzero-past ys (nonzeroLen xs - 1) (omega arith))))
+        (λ l. l)
 
-      bits : (k j : ℕ) → k < b .count → j < 64 → bit (getD ws' k 0) j ≡ view ws (b .count) .members (64 * k + j) && view os m .members (64 * k + j)
-      bits k j l h =
-          by-lt k e
-          (λ c.
-          ap (λ (x : ℕ). bit x j) (at k ∙ filled-below e (b .count) 0 w1 k c) ∙ op-bit word-and ws os fw fo e w1 s k j c h
-          ∙ ap₂ (λ (x y : Bool). x && y) (sym (view-in ws (b .count) k j l h)) (sym (view-in os m k j (omega arith) h)))
-          (λ c.
-          ap (λ (x : ℕ). bit x j) (at k ∙ filled-in e (b .count) 0 w1 k (omega (arith, s .long, p .inside)) c l) ∙ bit-zero j
-          ∙ sym (ap (λ (y : Bool). view ws (b .count) .members (64 * k + j) && y) (out k j (omega arith) h) ∙ and-false (view ws (b .count) .members (64 * k + j))))
+-- past its end the operation makes only 0
+pub end-holds : (op : SetOp) (ws os : List ℕ) (n end : ℕ) → n ≤ length ws → end ≡ endBy op n (length os) → nonzeroLen (wordsBy op (take n ws) os) ≤ end
+end-holds op ws os n end h e =
+    omega (arith, by-nonzero op (take n ws) os n (length os) (nonzeroLen (wordsBy op (take n ws) os)) (λ k l. past (take n ws) k (omega (arith, length-take-le n ws h))) (past os) refl)
 
-      keep : (k : ℕ) → nonzeroLen (take (b .count) ws') ≤ k → b .count ≤ k → getD ws' k 0 ≡ getD ws k 0
-      keep k c d = at k ∙ filled-above e (b .count) 0 w1 k d ∙ s .above k (omega arith)
+-- ---- the calls, past the guard
 
-  -- `andnot`: what only the first has stays
-  pub andnot-changes : (e r : ℕ) (ws' : List ℕ) → e ≡ min (b .count) m → Zipped wordAndNot ws os e ws'
-      → r ≡ nonzeroLen (take (b .count) ws') → Changes (beside os o (combining andNot)) ws b (Done (withCount b r)) ws'
-  andnot-changes e r ws' ee s er =
-      combine-changes andNot ws os ws' b o p q (b .count) r (op-fit word-andnot ws os fw fo e ws' s) (s .long) (omega arith) (p .inside) (omega arith) bits
-      (λ i h. ap (λ (t : Bool). t && not (view os m .members i)) (view-out ws (b .count) i h)) er (λ k c d. s .above k (omega arith))
-    where
-      bits : (k j : ℕ) → k < b .count → j < 64 → bit (getD ws' k 0) j ≡ view ws (b .count) .members (64 * k + j) && not (view os m .members (64 * k + j))
-      bits k j l h =
-          by-lt k e
-          (λ c.
-          op-bit word-andnot ws os fw fo e ws' s k j c h
-          ∙ ap₂ (λ (x y : Bool). x && not y) (sym (view-in ws (b .count) k j l h)) (sym (view-in os m k j (omega arith) h)))
-          (λ c.
-          ap (λ (x : ℕ). bit x j) (s .above k c) ∙ sym (view-in ws (b .count) k j l h)
-          ∙ sym (ap (λ (y : Bool). view ws (b .count) .members (64 * k + j) && not y) (out k j (omega arith) h) ∙ and-keep (view ws (b .count) .members (64 * k + j))))
+part-fit : (ws : List ℕ) (n : ℕ) → n ≤ length ws → Fit ws → Fit (take n ws)
+part-fit ws n h f k =
+    by-lt k n
+    (λ l. subst (λ (x : ℕ). x < 2 ^ 64) (sym (getD-take n ws k 0 l)) (f k))
+    (λ l. subst (λ (x : ℕ). x < 2 ^ 64) (sym (past (take n ws) k (omega (arith, length-take-le n ws h)))) (omega arith))
 
-  -- `or`: grows to the longer, and drops nothing
-  pub or-changes : (r : ℕ) (z ws' : List ℕ) → m ≤ length ws → z ≡ zeroed (b .count) m ws → Zipped bitOr z os m ws'
-      → r ≡ max (b .count) m → Changes (beside os o uniting) ws b (Done (withCount b r)) ws'
-  unfolding uniting combined
-  or-changes r z ws' h ez s er =
-      changes-done (beside os o uniting) ws b ws' (combined _||_ (view ws (b .count)) (view os m)) r p
-      (beside-ok os o uniting (length ws) (view ws (b .count)) q
-      ∙ within-ok (length ws) (combined _||_ (view ws (b .count)) (view os m)) (omega (arith, view-count ws (b .count), view-count os m, p .inside)))
-      (record {
-        long = s .long ∙ ap length ez ∙ length-zeroed (b .count) m ws;
-        fits = λ k a. op-fit word-or z os fz fo m ws' s k;
-        used = λ k j a l.
-            by-lt k m
-            (λ c. op-bit word-or z os fz fo m ws' s k j c l ∙ ap₂ (λ (x y : Bool). x || y) (grown k j (inr c) l) (sym (view-in os m k j c l)))
-            (λ c.
-            ap (λ (x : ℕ). bit x j) (s .above k c) ∙ grown k j (inl (omega (arith, view-count ws (b .count), view-count os m))) l
-            ∙ sym (ap (λ (y : Bool). view ws (b .count) .members (64 * k + j) || y) (out k j c l) ∙ or-false (view ws (b .count) .members (64 * k + j))));
-        dropped = λ k a c. absurd (omega (arith, view-count ws (b .count), view-count os m));
-        kept = λ k a c.
-            s .above k (omega (arith, view-count ws (b .count), view-count os m))
-            ∙ ap (λ (y : List ℕ). getD y k 0) ez ∙ zeroed-out (b .count) m ws k (inr (omega (arith, view-count ws (b .count), view-count os m)));
-      })
-      (er ∙ sym (ap₂ max (view-count ws (b .count)) (view-count os m)))
-    where
-      fz : Fit z
-      fz = subst Fit (sym ez) (zeroed-fit (b .count) m ws fw)
+module _ (ws os : List ℕ) (b o : Bitmap) (p : PassedTwo ws b os o) where
+  abbrev n : ℕ
+  n = b .count
 
-      grown : (k j : ℕ) → (k < b .count) ⊎ (k < m) → j < 64 → bit (getD z k 0) j ≡ view ws (b .count) .members (64 * k + j)
-      grown k j c l = ap (λ (y : List ℕ). bit (getD y k 0) j) ez ∙ grown-bit ws (b .count) m k j c l
+  comes-to : {a : Change} {ws' : List ℕ} (op : Bits → Op) (s : Bits) → op (held os o) (length ws) (held ws b) ≡ within (length ws) s
+      → Leaves (within (length ws) s) ws b a ws' → Changes (beside os o op) ws b a ws'
+  comes-to {a} {ws'} op s e =
+      subst (λ (x : Outcome). Leaves x ws b a ws')
+      (sym (outcome-ok (beside os o op) ws b (p .own) ∙ beside-ok os o op (length ws) (held ws b) (p .other) ∙ e))
 
-  pub or-refused : length ws < m → Changes (beside os o uniting) ws b (Refused NoSpace b) ws
-  unfolding uniting combined
-  or-refused h =
-      changes-refused (beside os o uniting) ws b NoSpace p
-      (beside-ok os o uniting (length ws) (view ws (b .count)) q
-      ∙ within-no (length ws) (combined _||_ (view ws (b .count)) (view os m)) (omega (arith, view-count ws (b .count), view-count os m)))
+  -- `and`, `andnot`, `xor`, where the other's words from `last` on are 0
+  module _ (op : SetOp) (last end : ℕ) (low : last ≤ o .count) (rest : nonzeroLen (take (o .count) os) ≤ last) (ee : end ≡ endBy op n last) where
+    abbrev words : List ℕ
+    words = madeWords op ws b os o
 
-  -- `xor`: grows to the other's last nonzero word, no further
-  module _ (e : ℕ) (ee : e ≡ nonzeroLen (take m os)) where
-    e-le : e ≤ m
-    e-le = omega (arith, nonzero-le (take m os), length-take-le m os (q .inside))
+    front : (k : ℕ) → getD (take last os) k 0 ≡ getD (take (o .count) os) k 0
+    front k =
+        by-lt k last
+        (λ l. getD-take last os k 0 l ∙ sym (getD-take (o .count) os k 0 (omega arith)))
+        (λ l. past (take last os) k (omega (arith, length-take-le last os (omega (arith, p .other .inside)))) ∙ sym (nonzero-past (take (o .count) os) k (omega arith)))
 
-    none : (k j : ℕ) → e ≤ k → j < 64 → view os m .members (64 * k + j) ≡ false
-    none k j h l = front-none os m k j (q .inside) (omega arith) l
+    made-put : {u : ℕ} {ws' : List ℕ} → Put (λ k. getD (wordsBy op (take n ws) (take last os)) k 0) 0 u ws ws' → Put (λ k. getD words k 0) 0 u ws ws'
+    made-put q = record {
+      long = q .long;
+      fresh = λ k a l.
+          q .fresh k a l ∙ by-at op (take n ws) (take last os) k ∙ ap (wordBy op (getD (take n ws) k 0)) (front k) ∙ sym (by-at op (take n ws) (take (o .count) os) k);
+      others = q .others;
+    }
 
-    none-at : (i : ℕ) → 64 * e ≤ i → view os m .members i ≡ false
-    none-at i h = ap (view os m .members) (sym (at-place i)) ∙ none (i / 64) (i % 64) (omega arith) (omega arith)
+    out-of-use : (k : ℕ) → n ≤ k → getD (take n ws) k 0 ≡ 0
+    out-of-use k h = past (take n ws) k (omega (arith, length-take-le n ws (p .own .inside)))
 
-    pub xor-changes : (r : ℕ) (z ws' : List ℕ) → e ≤ length ws → z ≡ zeroed (b .count) e ws → Zipped bitXor z os e ws'
-        → r ≡ nonzeroLen (take (max (b .count) e) ws') → Changes (beside os o (combining xorb)) ws b (Done (withCount b r)) ws'
-    xor-changes r z ws' h ez s er =
-        combine-changes xorb ws os ws' b o p q (max (b .count) e) r (op-fit word-xor z os fz fo e ws' s) long (omega arith) (omega (arith, p .inside)) (omega (arith, e-le)) bits
-        (λ i c. ap₂ xorb (view-out ws (b .count) i (omega arith)) (none-at i (omega arith))) er keep
+    holds : nonzeroLen words ≤ end
+    holds = omega (arith, by-nonzero op (take n ws) (take (o .count) os) n last (nonzeroLen words) out-of-use (λ k h. nonzero-past (take (o .count) os) k (omega arith)) refl)
+
+    fewest-changes : {a : Change} {ws' : List ℕ} → Leaves (within (length ws) (view words (nonzeroLen words))) ws b a ws' → Changes (beside os o (combining op)) ws b a ws'
+    unfolding combining
+    fewest-changes = comes-to (combining op) (view words (nonzeroLen words)) (ap (within (length ws)) (fewest-words op ws b os o p))
+
+    -- the words up to the end, counted after they were written
+    count : {u : ℕ} (r : ℕ) (ws' : List ℕ) → Put (λ k. getD words k 0) 0 u ws ws' → end ≤ u → end ≤ length ws → r ≡ nonzeroLen (take end ws') → r ≡ nonzeroLen words
+    count r ws' q h l e =
+        e
+        ∙ nonzero-same (take end ws') words
+        (λ k. by-lt k end
+        (λ c. getD-take end ws' k 0 c ∙ q .fresh k (omega arith) (omega arith))
+        (λ c. past (take end ws') k (omega (arith, q .long, length-take-le end ws' (omega (arith, q .long)))) ∙ sym (nonzero-past words k (omega (arith, holds)))))
+
+    fewest-done : (r : ℕ) (ws' : List ℕ) → (n < end → nonzeroLen words ≡ end) → end ≤ length ws
+        → Put (λ k. getD (wordsBy op (take n ws) (take last os)) k 0) 0 (max n end) ws ws' → r ≡ nonzeroLen (take end ws')
+        → Changes (beside os o (combining op)) ws b (Done (withCount b r)) ws'
+    fewest-done r ws' g h q e =
+        subst (λ (x : ℕ). Changes (beside os o (combining op)) ws b (Done (withCount b x)) ws')
+        (sym (count r ws' (made-put q) (omega arith) h e))
+        (fewest-changes
+        (put-leaves words ws b (nonzeroLen words) (max n end) ws' (by-fit op (take n ws) (take (o .count) os)) (omega arith) (omega (arith, holds)) used (made-put q)))
       where
-        n : ℕ
-        n = b .count
+        used : max n end ≡ max n (nonzeroLen words)
+        used = by-lt n end (λ l. ap (max n) (sym (g l))) (λ l. omega (arith, holds))
 
-        fz : Fit z
-        fz = subst Fit (sym ez) (zeroed-fit (b .count) e ws fw)
-
-        long : length ws' ≡ length ws
-        long = s .long ∙ ap length ez ∙ length-zeroed (b .count) e ws
-
-        grown : (k j : ℕ) → (k < b .count) ⊎ (k < e) → j < 64 → bit (getD z k 0) j ≡ view ws (b .count) .members (64 * k + j)
-        grown k j c l = ap (λ (y : List ℕ). bit (getD y k 0) j) ez ∙ grown-bit ws (b .count) e k j c l
-
-        bits : (k j : ℕ) → k < max (b .count) e → j < 64 → bit (getD ws' k 0) j ≡ xorb (view ws (b .count) .members (64 * k + j)) (view os m .members (64 * k + j))
-        bits k j a l =
-            by-lt k e
-            (λ c. op-bit word-xor z os fz fo e ws' s k j c l ∙ ap₂ xorb (grown k j (inr c) l) (sym (view-in os m k j (omega (arith, e-le)) l)))
-            (λ c.
-            ap (λ (x : ℕ). bit x j) (s .above k c) ∙ grown k j (inl (omega arith)) l
-            ∙ sym (ap (xorb (view ws (b .count) .members (64 * k + j))) (none k j c l) ∙ xor-false (view ws (b .count) .members (64 * k + j))))
-
-        -- a grown word at the top is the other's, and that is not 0
-        top-word : (k : ℕ) → suc k ≡ e → b .count ≤ k → getD ws' k 0 ≡ getD os k 0
-        top-word k c d =
-            s .below k (omega arith)
-            ∙ ap (λ (x : ℕ). bitXor x (getD os k 0)) (ap (λ (y : List ℕ). getD y k 0) ez ∙ zeroed-in (b .count) e ws k d (omega arith))
-            ∙ xor-zero-l (getD os k 0)
-
-        keep : (k : ℕ) → nonzeroLen (take (max (b .count) e) ws') ≤ k → b .count ≤ k → getD ws' k 0 ≡ getD ws k 0
-        keep k a d =
-            by-lt k e
-            (λ c. absurd (grew k a d c (e - 1) (omega arith)))
-            (λ c. s .above k c ∙ ap (λ (y : List ℕ). getD y k 0) ez ∙ zeroed-out (b .count) e ws k (inr c))
-          where
-            grew : (k : ℕ) → nonzeroLen (take (max (b .count) e) ws') ≤ k → b .count ≤ k → k < e → (t : ℕ) → suc t ≡ e → ⊥
-            grew k a d c t et =
-                front-last os m t (q .inside) (et ∙ ee)
-                (sym (top-word t et (omega arith))
-                ∙ front-zero ws' (max (b .count) e) t (omega (arith, long, p .inside)) (omega arith) (omega arith))
-
-    pub xor-refused : length ws < e → Changes (beside os o (combining xorb)) ws b (Refused NoSpace b) ws
-    unfolding combining combined
-    xor-refused h =
-        changes-refused (beside os o (combining xorb)) ws b NoSpace p
-        (beside-ok os o (combining xorb) (length ws) (view ws (b .count)) q
-        ∙ within-no (length ws) (trimmed (combined xorb (view ws (b .count)) (view os m))) big)
+    -- a store grows only to the other's last word that is not 0, which the result has
+    grown : Fit os → last ≡ nonzeroLen (take (o .count) os) → n < end → nonzeroLen words ≡ end
+    grown fo el l = by-lt (nonzeroLen words) end (λ c. absurd (lost (end - 1) (omega arith) (omega arith))) (λ c. omega (arith, holds))
       where
-        s : ℕ → Bool
-        s i = xorb (view ws (b .count) .members i) (view os m .members i)
+        lost : (k : ℕ) → suc k ≡ end → nonzeroLen words ≤ k → ⊥
+        lost k e c =
+            nonzero-last (take (o .count) os) k (omega (arith, end-top op n last (omega arith)))
+            (sym (end-second op n last k (getD (take n ws) k 0) (getD (take (o .count) os) k 0) (part-fit os (o .count) (p .other .inside) fo k) (out-of-use k (omega arith))
+            (omega arith) (omega arith))
+            ∙ sym (by-at op (take n ws) (take (o .count) os) k) ∙ nonzero-past words k c)
 
-        cnt : ℕ
-        cnt = max (view ws (b .count) .count) (view os m .count)
+    fewest-refused : Fit os → last ≡ nonzeroLen (take (o .count) os) → length ws < end → Changes (beside os o (combining op)) ws b (Refused NoSpace b) ws
+    fewest-refused fo el h = fewest-changes (put-lacks words ws b (nonzeroLen words) (omega (arith, grown fo el (omega (arith, p .own .inside)))))
 
-        other : trimmedCount (view os m .members) m ≡ e
-        other =
-            trimmed-view os m (q .inside)
-            (λ k. by-lt k m (λ l. subst (λ (x : ℕ). x < 2 ^ 64) (sym (getD-take m os k 0 l)) (fo k))
-            (λ l. subst (λ (x : ℕ). x < 2 ^ 64) (sym (past (take m os) k (omega (arith, length-take-le m os (q .inside))))) (omega arith)))
-            ∙ sym ee
+  short : nonzeroLen (take (o .count) os) ≤ o .count
+  short = omega (arith, nonzero-le (take (o .count) os), length-take-le (o .count) os (p .other .inside))
 
-        -- were the result to fit, the other's members would all lie within the store
-        fits-not : trimmedCount s cnt ≤ length ws → e ≤ length ws
-        fits-not c =
-            subst (λ (x : ℕ). x ≤ length ws) other
-            (trimmed-least (view os m .members) m (length ws)
-            (λ i l t. by-lt i (64 * b .count)
-            (λ a. omega (arith, p .inside))
-            (λ a.
-            let k : i < 64 * trimmedCount s cnt =
-            trimmed-holds s cnt i (omega (arith, view-count ws (b .count), view-count os m)) (ap₂ xorb (view-out ws (b .count) i a) t) in
-            omega arith)))
+  pub and-done : (end r : ℕ) (ws' : List ℕ) → end ≡ min n (o .count) → Put (λ k. getD (madeWords And ws b os o) k 0) 0 (max n end) ws ws' → r ≡ nonzeroLen (take end ws')
+      → Changes (beside os o (combining And)) ws b (Done (withCount b r)) ws'
+  and-done end r ws' ee = fewest-done And (o .count) end (omega arith) short ee r ws' (λ l. absurd (omega arith)) (omega (arith, p .own .inside))
 
-        big : length ws < trimmedCount s cnt
-        big = by-lt (length ws) (trimmedCount s cnt) (λ l. l) (λ l. absurd (omega (arith, fits-not l)))
+  pub andnot-done : (r : ℕ) (ws' : List ℕ) → Put (λ k. getD (madeWords AndNot ws b os o) k 0) 0 (max n n) ws ws' → r ≡ nonzeroLen (take n ws')
+      → Changes (beside os o (combining AndNot)) ws b (Done (withCount b r)) ws'
+  andnot-done r ws' = fewest-done AndNot (o .count) n (omega arith) short refl r ws' (λ l. absurd (omega arith)) (p .own .inside)
+
+  module _ (fo : Fit os) (last end : ℕ) (el : last ≡ nonzeroLen (take (o .count) os)) (ee : end ≡ max n last) where
+    pub xor-refused : length ws < end → Changes (beside os o (combining Xor)) ws b (Refused NoSpace b) ws
+    xor-refused = fewest-refused Xor last end (omega (arith, short)) (omega arith) ee fo el
+
+    pub xor-done : (r : ℕ) (ws' : List ℕ) → end ≤ length ws → Put (λ k. getD (wordsBy Xor (take n ws) (take last os)) k 0) 0 (max n end) ws ws'
+        → r ≡ nonzeroLen (take end ws') → Changes (beside os o (combining Xor)) ws b (Done (withCount b r)) ws'
+    xor-done r ws' = fewest-done Xor last end (omega (arith, short)) (omega arith) ee r ws' (grown Xor last end (omega (arith, short)) (omega arith) ee fo el)
+
+    pub xor-front : last ≤ length os
+    xor-front = omega (arith, short, p .other .inside)
+
+  -- `or`
+  module _ (end : ℕ) (ee : end ≡ max n (o .count)) where
+    union-changes : {a : Change} {ws' : List ℕ} → Leaves (within (length ws) (view (madeWords Or ws b os o) end)) ws b a ws' → Changes (beside os o uniting) ws b a ws'
+    unfolding uniting
+    union-changes = comes-to uniting (view (madeWords Or ws b os o) end) (ap (within (length ws)) (all-words Or ws b os o p end ee))
+
+    pub union-refused : length ws < end → Changes (beside os o uniting) ws b (Refused NoSpace b) ws
+    union-refused h = union-changes (put-lacks (madeWords Or ws b os o) ws b end h)
+
+    pub union-done : (ws' : List ℕ) → end ≤ length ws → Put (λ k. getD (madeWords Or ws b os o) k 0) 0 (max n end) ws ws'
+        → Changes (beside os o uniting) ws b (Done (withCount b end)) ws'
+    union-done ws' h q =
+        union-changes (put-leaves (madeWords Or ws b os o) ws b end (max n end) ws' (by-fit Or (take n ws) (take (o .count) os)) (all-hold Or ws b os o p end ee) h (omega arith) q)

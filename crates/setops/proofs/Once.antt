@@ -10,7 +10,7 @@ use Rattle.setops.proofs.Promises.{combines, unites}
 
 pub calls-exact : CallsExact
 calls-exact = record {
-  combine = λ f e o h. once-exact (combining f o) _ _ (combines f e o h) (λ c b g l k. once-lacks-result c b (Combines f o) (one-combined f o b));
+  combine = λ op o h. once-exact (combining op o) _ _ (combines op o h) (λ c b g l k. once-lacks-result c b (Combines op o) (one-combined op o b));
   unite = λ o h. once-exact (uniting o) _ _ (unites o h)
       (λ c b g l k. once-lacks c b (Unites o b) (λ b. max (b .count) (o .count)) (one-united o b) (λ s p. p .count));
 }

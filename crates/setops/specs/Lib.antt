@@ -1,3 +1,2 @@
 pub mod Setops
-pub mod Kernels
 pub mod Promises

@@ -11,10 +11,10 @@ use lib.Dec.{leb, ltb, eqb}
 use lib.Bits.{bitXor, xor-lt}
 use borrow.Author.Tests.{le-ltb, lt-ltb, le-leb, lt-leb, eq-eqb, ne-eqb, ltb-true, ltb-false, not-true}
 use Rattle.word.specs.Sets.{xorb}
-use Rattle.word.specs.Bits.{bit, wordOf, member, wordsOf}
+use Rattle.word.specs.Places.{bit, wordOf, member, wordsOf}
 use Rattle.word.specs.Words.{lowMask}
 use Rattle.word.proofs.Cases.{by-lt, by-eq, xor-false, and-false}
-use Rattle.word.proofs.Bits.{bit-xor, bit-not, bit-pack, pack-lt}
+use Rattle.word.proofs.Places.{bit-xor, bit-not, bit-pack, pack-lt}
 use Rattle.word.proofs.Lists.{Fit, member-at, length-words, word-at}
 use Rattle.word.proofs.Sweep.{getD-set, Swept, part-at, part-long, part-swept}
 use Rattle.shape.specs.Kernels.{Flipped}

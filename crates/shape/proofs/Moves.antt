@@ -6,7 +6,7 @@ use Prim.Native.Nat.{ℕ, suc, _+_, _/_, _^_, _≤_, _<_, max}
 use native.Mathlib.Omega.{arith}
 use lib.ListN.{length, take, drop}
 use borrow.Author.Tests.{le-ltb, lt-ltb, eq-eqb, ne-eqb}
-use Rattle.word.specs.Bits.{member, wordsOf}
+use Rattle.word.specs.Places.{member, wordsOf}
 use Rattle.word.proofs.Lists.{Fit}
 use Rattle.arch.specs.Scans.{nonzeroLen}
 use Rattle.storage.specs.Stores.{Bits, refused, done, Space, withCount, view, held, within, wordsFor, trimmed, zeroed, Changes}

@@ -11,16 +11,16 @@ use Rattle.word.proofs.Cases.{by-lt, by-eq, or-false, and-false, xor-true, xor-
 use Rattle.word.proofs.Sets.{top, top-is}
 use Rattle.storage.specs.Refusals.{numberOf}
 use Rattle.storage.specs.Stores.{Bits, Bounded, refused, done, within, flipped, wordsFor}
-use Rattle.storage.specs.Promises.{Sound}
+use Rattle.storage.specs.Promises.{Contained}
 use Rattle.storage.specs.declared.Refusal.{Refusal}
 use Rattle.storage.proofs.Checks.{within-done}
-use Rattle.storage.proofs.Outcomes.{same, never, which, lacks, bounded-flipped, sound-within, sound-done, meets-nothing}
+use Rattle.storage.proofs.Outcomes.{same, never, which, lacks, bounded-flipped, contained-within, contained-done, meets-nothing}
 use Rattle.storage.proofs.Trims.{bounded-trimmed}
 use Rattle.storage.proofs.Promises.{least-count}
 use Rattle.shift.specs.Shifts.{movedDown}
 use Rattle.shift.proofs.Moves.{moved-up, moved-in}
 use Rattle.shape.specs.Shapes.{topOf, cutAt, toggling, togglingRegion, raising, lowered, lowering, truncated, truncating, resizing, joined, appending}
-use Rattle.shape.specs.Promises.{FlippedFrom, Toggles, TogglesRegion, RegionUnchanged, IsTop, RaisedBy, TopPasses, Raises, LoweredBy, Lowers}
+use Rattle.shape.specs.Promises.{FlippedFrom, Toggles, TogglesRegion, TogglesNoRegion, IsTop, RaisedBy, TopPasses, Raises, LoweredBy, Lowers}
 use Rattle.shape.specs.Promises.{CutBelow, TruncatedTo, Truncates, ResizedTo, Resizes, JoinedWith, Joins}
 use Rattle.shape.proofs.Toggles.{flippedRegion, region-none, region-over, region-put}
 use Rattle.shape.proofs.Moves.{raised, raise-none, raise-over, raise-put}
@@ -40,16 +40,16 @@ flips i k some b = record {
   count = λ last e. ap (λ (x : ℕ). max (b .count) (x / 64 + 1)) (omega arith);
 }
 
-pub region-sound : (i k : ℕ) → Sound (togglingRegion i k)
-region-sound i k =
+pub contained-toggling-region : (i k : ℕ) → Contained (togglingRegion i k)
+contained-toggling-region i k =
     by-eq k 0
-    (λ z. sound-done (togglingRegion i k) (λ b. b) (λ c b. region-none i k c b z) (λ b. omega arith) (λ b h. h))
+    (λ z. contained-done (togglingRegion i k) (λ b. b) (λ c b. region-none i k c b z) (λ b. omega arith) (λ b h. h))
     (λ some. by-lt (2 ^ 64) (i + k)
     (λ l. record {
       space = λ c b s h m q. absurd (never (sym q ∙ region-over i k c b some l));
       bound = λ c b s h m q. absurd (never (sym q ∙ region-over i k c b some l));
     })
-    (λ l. sound-within (togglingRegion i k) (flippedRegion i k) (λ c b. region-put i k c b some l) (bounded-region i k some)))
+    (λ l. contained-within (togglingRegion i k) (flippedRegion i k) (λ c b. region-put i k c b some l) (bounded-region i k some)))
 
 pub toggles-region : TogglesRegion
 toggles-region i k some = record {
@@ -57,7 +57,7 @@ toggles-region i k some = record {
       by-lt (2 ^ 64) (i + k)
       (λ h. absurd (never (sym e ∙ region-over i k c b some h)))
       (λ h. (h, subst (FlippedFrom i k b) (within-done c (flippedRegion i k b) s (sym (region-put i k c b some h) ∙ e) .0) (flips i k some b)));
-  sound = region-sound i k;
+  contained = contained-toggling-region i k;
   why = λ c b e q.
       by-lt (2 ^ 64) (i + k)
       (λ h. inl (ap numberOf (which (sym q ∙ region-over i k c b some h)), h))
@@ -67,14 +67,14 @@ toggles-region i k some = record {
 pub region-nothing : (i c : ℕ) (b : Bits) → togglingRegion i 0 c b ≡ done b
 region-nothing i c b = region-none i 0 c b refl
 
-pub region-unchanged : RegionUnchanged
+pub region-unchanged : TogglesNoRegion
 region-unchanged i = meets-nothing (togglingRegion i 0) (region-nothing i)
 
 pub toggles : Toggles
 unfolding toggling
 toggles i = record {
   made = λ c b s e. subst (FlippedFrom i 1 b) (within-done c _ s e .0) (one b);
-  sound = sound-within (toggling i) (flipped i) (λ c b. refl) (bounded-flipped i);
+  contained = contained-within (toggling i) (flipped i) (λ c b. refl) (bounded-flipped i);
   why = λ c b e q. lacks c _ e q;
 }
   where
@@ -130,8 +130,8 @@ bounded-raised k b h = record {
       (λ q. moved-up k (b .members) i q ∙ by-lt (i - k) (64 * b .count) (λ r. t b h .over (i - k) (omega arith) r) (λ r. h .past (i - k) r));
 }
 
-pub raising-sound : (k : ℕ) → Sound (raising k)
-raising-sound k = record {
+pub contained-raising : (k : ℕ) → Contained (raising k)
+contained-raising k = record {
   space = λ c b s h l q. each c b s h l q .0;
   bound = λ c b s h l q. each c b s h l q .1;
 }
@@ -148,7 +148,7 @@ raising-sound k = record {
 pub raises : Raises
 raises k = record {
   made = λ c b s e h. made c b s e h;
-  sound = raising-sound k;
+  contained = contained-raising k;
   why = λ c b e q h. why c b e q h;
 }
   where
@@ -213,7 +213,7 @@ pub lowers : Lowers
 unfolding lowering
 lowers k = record {
   made = λ c b s e. subst (LoweredBy k b) (same e) (lowers-by k b);
-  sound = sound-done (lowering k) (lowered k) (λ c b. refl) (lowered-le k) (bounded-lowered k);
+  contained = contained-done (lowering k) (lowered k) (λ c b. refl) (lowered-le k) (bounded-lowered k);
   why = λ c b e q. never q;
 }
 
@@ -237,7 +237,7 @@ pub truncates : Truncates
 unfolding truncating
 truncates k = record {
   made = λ c b s e. subst (TruncatedTo k b) (same e) (truncates-to k b);
-  sound = sound-done (truncating k) (truncated k) (λ c b. refl) (λ b. truncates-to k b .count .low) (bounded-truncated k);
+  contained = contained-done (truncating k) (truncated k) (λ c b. refl) (λ b. truncates-to k b .count .low) (bounded-truncated k);
   why = λ c b e q. never q;
 }
 
@@ -245,8 +245,8 @@ pub resizes : Resizes
 unfolding resizing wordsFor
 resizes k = record {
   made = λ c b s e. subst (ResizedTo k b) (within-done c _ s e .0) (record { cut = cuts k ((k + 63) / 64) b; holds = omega arith; least = λ n l. omega arith });
-  sound =
-      sound-within (resizing k) (λ b. record { members = cutAt k b .members; count = wordsFor k }) (λ c b. refl)
+  contained =
+      contained-within (resizing k) (λ b. record { members = cutAt k b .members; count = wordsFor k }) (λ c b. refl)
       (λ b h. record { past = λ i l. ap (λ (t : Bool). t && b .members i) (le-ltb i k (omega arith)) });
   why = λ c b e q. lacks c _ e q;
 }
@@ -263,8 +263,8 @@ joins o k = record {
         ∙ ap (o .members) (omega arith);
     count = refl;
   });
-  sound =
-      sound-within (appending o) (joined o) (λ c b. refl)
+  contained =
+      contained-within (appending o) (joined o) (λ c b. refl)
       (λ b h. record { past = λ i l. ap₂ (λ (s t : Bool). s || t) (h .past i (omega arith)) (moved-up (64 * b .count) (o .members) i (omega arith) ∙ k .past (i - 64 * b .count) (omega arith)) });
   why = λ c b e q. lacks c _ e q;
 }

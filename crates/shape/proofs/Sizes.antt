@@ -9,7 +9,7 @@ use lib.Seq.{getD-set-other}
 use lib.Dec.{leb, ltb}
 use borrow.Author.Tests.{lt-ltb, le-ltb, le-leb, lt-leb}
 use Rattle.word.specs.Sets.{choose}
-use Rattle.word.specs.Bits.{bit, wordsOf}
+use Rattle.word.specs.Places.{bit, wordsOf}
 use Rattle.word.proofs.Cases.{by-lt, by-eq, or-false}
 use Rattle.word.proofs.Lists.{Fit}
 use Rattle.word.proofs.Sweep.{getD-set}

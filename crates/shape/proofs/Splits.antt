@@ -7,11 +7,11 @@ use native.Mathlib.Omega.{arith}
 use lib.ListN.{length, getD, set, take, drop, length-set}
 use lib.Seq.{getD-set-other}
 use Rattle.word.specs.Sets.{topBelow, Top}
-use Rattle.word.specs.Bits.{bit, wordOf, member}
+use Rattle.word.specs.Places.{bit, wordOf, member}
 use Rattle.word.specs.Words.{funneled}
 use Rattle.word.proofs.Cases.{by-lt, by-eq}
 use Rattle.word.proofs.Sets.{top, top-is}
-use Rattle.word.proofs.Bits.{bit-pack, pack-lt}
+use Rattle.word.proofs.Places.{bit-pack, pack-lt}
 use Rattle.word.proofs.Lists.{Fit}
 use Rattle.word.proofs.Sweep.{getD-set}
 use Rattle.arch.specs.Scans.{nonzeroLen, filled}
@@ -20,8 +20,8 @@ use Rattle.storage.specs.Guards.{Passed}
 use Rattle.storage.specs.declared.Bitmap.{Bitmap}
 use Rattle.storage.specs.declared.Refusal.{Refusal}
 use Rattle.storage.specs.declared.Refusal.the-variants.{NoSpace}
-use Rattle.storage.specs.declared.Number.{Number}
-use Rattle.storage.specs.declared.Number.the-variants.{Is}
+use Rattle.storage.specs.declared.Amount.{Amount}
+use Rattle.storage.specs.declared.Amount.the-variants.{Is}
 use Rattle.storage.specs.declared.Guard.the-variants.{Pass, Stop}
 use Rattle.storage.proofs.Checks.{checked-ok, stopped, reading-ok, reading-stopped, told, told-refused, within-ok, within-no}
 use Rattle.storage.proofs.Views.{view-count, view-out, view-whole}
@@ -65,23 +65,23 @@ unfolding wordsFor
 tail-some s at p e h = omega arith
 
 module _ (ws : List ℕ) (b : Bitmap) (at : ℕ) where
-  pub tail-refused : (e : Refusal) → Stop e ≡ checked ws b Stop Pass → Number.Refused e ≡ reading ws b Number.Refused (λ s. Number.Is (lowered at s .count))
-  tail-refused e p = sym (reading-stopped ws b e Number.Refused (λ s. Number.Is (lowered at s .count)) p)
+  pub tail-refused : (e : Refusal) → Stop e ≡ checked ws b Stop Pass → Amount.Refused e ≡ reading ws b Amount.Refused (λ s. Amount.Is (lowered at s .count))
+  tail-refused e p = sym (reading-stopped ws b e Amount.Refused (λ s. Amount.Is (lowered at s .count)) p)
 
-  pub tail-is : (m : ℕ) → Passed ws b → m ≡ wordsFor (topOf (held ws b) - at) → Number.Is m ≡ reading ws b Number.Refused (λ s. Number.Is (lowered at s .count))
-  tail-is m p e = ap Number.Is (e ∙ sym (lowered-count at ws b)) ∙ sym (reading-ok ws b Number.Refused (λ s. Number.Is (lowered at s .count)) p)
+  pub tail-is : (m : ℕ) → Passed ws b → m ≡ wordsFor (topOf (held ws b) - at) → Amount.Is m ≡ reading ws b Amount.Refused (λ s. Amount.Is (lowered at s .count))
+  tail-is m p e = ap Amount.Is (e ∙ sym (lowered-count at ws b)) ∙ sym (reading-ok ws b Amount.Refused (λ s. Amount.Is (lowered at s .count)) p)
 
   -- what the answer tells
-  pub tail-told-refused : (e : Refusal) → Number.Refused e ≡ reading ws b Number.Refused (λ s. Number.Is (lowered at s .count)) → Stop e ≡ checked ws b Stop Pass
+  pub tail-told-refused : (e : Refusal) → Amount.Refused e ≡ reading ws b Amount.Refused (λ s. Amount.Is (lowered at s .count)) → Stop e ≡ checked ws b Stop Pass
   tail-told-refused e q =
-      told-refused ws b Number.Refused (λ s. Number.Is (lowered at s .count)) e (λ d r. cc) (λ s r. absurd (let y : _≡_ {A = ℕ} 0 1 = cc in omega arith)) q
+      told-refused ws b Amount.Refused (λ s. Amount.Is (lowered at s .count)) e (λ d r. cc) (λ s r. absurd (let y : _≡_ {A = ℕ} 0 1 = cc in omega arith)) q
 
-  pub tail-told : (m : ℕ) → Number.Is m ≡ reading ws b Number.Refused (λ s. Number.Is (lowered at s .count)) → Passed ws b × (m ≡ lowered at (held ws b) .count)
+  pub tail-told : (m : ℕ) → Amount.Is m ≡ reading ws b Amount.Refused (λ s. Amount.Is (lowered at s .count)) → Passed ws b × (m ≡ lowered at (held ws b) .count)
   tail-told m q =
-      let a = told ws b Number.Refused (λ s. Number.Is (lowered at s .count)) (Number.Is m) (λ e r. absurd (let y : _≡_ {A = ℕ} 0 1 = cc in omega arith)) q in
+      let a = told ws b Amount.Refused (λ s. Amount.Is (lowered at s .count)) (Amount.Is m) (λ e r. absurd (let y : _≡_ {A = ℕ} 0 1 = cc in omega arith)) q in
       (a .0, same (lowered at (held ws b) .count) (a .1))
     where
-      same : (k : ℕ) → Number.Is m ≡ Number.Is k → m ≡ k
+      same : (k : ℕ) → Amount.Is m ≡ Amount.Is k → m ≡ k
       same k e = cc
 
   pub tail-inside : lowered at (held ws b) .count ≤ b .count - at / 64

@@ -6,7 +6,7 @@ use mathlib.Core.List.{List}
 use lib.ListN.{length, getD}
 use lib.Dec.{leb, ltb}
 use Rattle.word.specs.Sets.{xorb}
-use Rattle.word.specs.Bits.{bit, wordOf, member}
+use Rattle.word.specs.Places.{bit, wordOf, member}
 use Rattle.shift.specs.Shifts.{movedDown}
 
 -- the bits from i on, below end, are flipped, and words that have none are as they were

@@ -32,8 +32,8 @@ TogglesRegion =
     → Meets (togglingRegion i k) (λ c b s. (i + k ≤ 2 ^ 64) × FlippedFrom i k b s) (NotFlipped i k)
 
 -- and of 0 numbers nothing, whatever i
-abbrev pub RegionUnchanged : Type 0
-RegionUnchanged = (i : ℕ) → Meets (togglingRegion i 0) Unchanged Never
+abbrev pub TogglesNoRegion : Type 0
+TogglesNoRegion = (i : ℕ) → Meets (togglingRegion i 0) Unchanged Never
 
 -- t is the greatest member
 pub record IsTop (b : Bits) (t : ℕ) : Type 0 where

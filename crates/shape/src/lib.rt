@@ -1,9 +1,9 @@
 // Calls that flip, shift, resize, split and join a bitmap, growing and trimming it.
+use storage::Amount;
 use storage::Bitmap;
 use storage::Change;
 use storage::Found;
 use storage::Guard;
-use storage::Number;
 use storage::Refusal;
 use word::Word;
 ghost use mathlib.Core.Path.{_≡_};
@@ -32,7 +32,7 @@ pub fn toggle(words: &mut [u64], b: Bitmap, i: usize) -> Change
     if k >= words.len() {
         return Change::Refused(Refusal::NoSpace, b);
     }
-    storage::grow(words, n, k + 1);
+    storage::zero_words(words, n, k + 1);
     words[k] = words[k] ^ Word::bit(i);
     Change::Done(Bitmap {
         count: word::max(n, k + 1),
@@ -72,7 +72,7 @@ pub fn toggle_region(words: &mut [u64], b: Bitmap, i: usize, k: usize) -> Change
     if w >= words.len() {
         return Change::Refused(Refusal::NoSpace, b);
     }
-    storage::grow(words, n, w + 1);
+    storage::zero_words(words, n, w + 1);
     flip_region(words, i, last);
     Change::Done(Bitmap {
         count: word::max(n, w + 1),
@@ -97,7 +97,7 @@ pub fn shift_left(words: &mut [u64], b: Bitmap, k: usize) -> Change
     if w >= words.len() {
         return Change::Refused(Refusal::NoSpace, b);
     }
-    storage::grow(words, n, w + 1);
+    storage::zero_words(words, n, w + 1);
     let m = word::max(n, w + 1);
     shift::left_words(&mut words[..m], k);
     Change::Done(Bitmap { count: m, ..b })
@@ -148,24 +148,24 @@ pub fn resize_bits(words: &mut [u64], b: Bitmap, k: usize) -> Change
     if need > words.len() {
         return Change::Refused(Refusal::NoSpace, b);
     }
-    storage::grow(words, n, need);
+    storage::zero_words(words, n, need);
     let m = word::max(n, need);
     arch::fill_region(&mut words[..m], k, 64 * m, false);
     Change::Done(Bitmap { count: need, ..b })
 }
 
 // The words that the bits from `at` on need, counted from 0.
-fn tail_len(words: &[u64], b: Bitmap, at: usize) -> Number
-    ensures { λ r. ⌜ r ≡ reading (now (words .entry)) b Number.Refused (λ s. Number.Is (lowered at s .count)) ⌝ }
+fn tail_len(words: &[u64], b: Bitmap, at: usize) -> Amount
+    ensures { λ r. ⌜ r ≡ reading (now (words .entry)) b Amount.Refused (λ s. Amount.Is (lowered at s .count)) ⌝ }
 {
     match slice::last_set(words, b) {
-        Found::Refused(e) => Number::Refused(e),
-        Found::Nothing => Number::Is(0),
+        Found::Refused(e) => Amount::Refused(e),
+        Found::Nothing => Amount::Is(0),
         Found::At(p) => {
             if p < at {
-                return Number::Is(0);
+                return Amount::Is(0);
             }
-            Number::Is((p - at) / 64 + 1)
+            Amount::Is((p - at) / 64 + 1)
         }
     }
 }
@@ -196,8 +196,8 @@ pub fn split_off(words: &mut [u64], b: Bitmap, at: usize, tail: &mut [u64]) -> S
 {
     let n = b.count;
     let m = match tail_len(words, b, at) {
-        Number::Refused(e) => return Split::Refused(e, b),
-        Number::Is(m) => m,
+        Amount::Refused(e) => return Split::Refused(e, b),
+        Amount::Is(m) => m,
     };
     match storage::check(tail, storage::EMPTY) {
         Guard::Stop(e) => return Split::Refused(e, b),

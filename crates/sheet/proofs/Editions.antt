@@ -18,7 +18,7 @@ use Rattle.sheet.specs.Frames.{Item, endAt}
 use Rattle.sheet.specs.Reader.{Edition, Answer, refused, done, Turn, stop, next, act, then, records, copied, read}
 use Rattle.sheet.specs.Meaning.{Header, total, start, Whole, effect, begin, AtRecord, Newer, newer, Holds}
 use Rattle.sheet.specs.Promises.{AnyTwo}
-use Rattle.sheet.proofs.Turns.{take-true, take-false, header?, headed-true, headed-false, record-whole, record-cut, edit, edited, known}
+use Rattle.sheet.proofs.Turns.{take-true, take-false, header?, headed-true, headed-false, record-whole, record-cut, edit, edited, takenOf}
 use Rattle.sheet.proofs.Stands.{stands, item}
 use Rattle.sheet.proofs.Exact.{Reaches, reaches-next, exact}
 
@@ -42,10 +42,10 @@ module _ {A S : Type 0} (E F : Edition A S) (h : Holds E F) where
   act-kept k r s = go (r .duty) refl (E .size (r .kind)) refl
     where
       go : (d : Bool) → r .duty ≡ d → (o : Option ℕ) → E .size (r .kind) ≡ o
-          → (choose d (known E k r o s) (next s) ≡ choose d (known F k r (F .size (r .kind)) s) (next s)) ⊎ ((r .duty ≡ true) × (E .size (r .kind) ≡ none))
+          → (choose d (takenOf E k r o s) (next s) ≡ choose d (takenOf F k r (F .size (r .kind)) s) (next s)) ⊎ ((r .duty ≡ true) × (E .size (r .kind) ≡ none))
       go false d o p = inl refl
       go true d none p = inr (d, p)
-      go true d (some n) p = inl (edited-kept k r n s p ∙ ap (λ (o : Option ℕ). known F k r o s) (sym (h .size-kept (r .kind) n p)))
+      go true d (some n) p = inl (edited-kept k r n s p ∙ ap (λ (o : Option ℕ). takenOf F k r o s) (sym (h .size-kept (r .kind) n p)))
 
   module _ (sheet : List ℕ) (old : Turn S) where
     -- E's answer is F's, or some record is newer

@@ -11,7 +11,7 @@ use Rattle.sheet.specs.Bytes.{bytes}
 use Rattle.sheet.specs.Kinds.{payloadOf}
 use Rattle.sheet.specs.Frames.{Item, countIn}
 use Rattle.sheet.specs.Meaning.{Stands, Header, total, past, start, Whole, Is}
-use Rattle.sheet.specs.Writer.{most, Request, duty, remark, Entry, edit, note, bytesOf, raised}
+use Rattle.sheet.specs.Writer.{most, Request, duty, remark, Entry, edit, note, bytesOf, countRaised}
 use Rattle.sheet.specs.Plain.{refusalOf, editFor, entryOf}
 use Rattle.sheet.specs.Promises.{Laid, Wanted, Grows}
 use Rattle.sheet.proofs.Laid.{itemOf, two-bytes}
@@ -50,17 +50,17 @@ module _ (buf : List ℕ) (x : ℕ) where
 
 -- R raised: one more, and no other byte changes
 module _ (buf : List ℕ) where
-  pub length-raised : length (raised buf) ≡ length buf
+  pub length-raised : length (countRaised buf) ≡ length buf
   unfolding bytes
   length-raised = simp length-set
 
-  other-raised : (j : ℕ) → (j ≡ 2 → ⊥) → (j ≡ 3 → ⊥) → getD (raised buf) j 0 ≡ getD buf j 0
+  other-raised : (j : ℕ) → (j ≡ 2 → ⊥) → (j ≡ 3 → ⊥) → getD (countRaised buf) j 0 ≡ getD buf j 0
   other-raised j a b = two-other buf _ j a b
 
-  count-raised : 4 ≤ length buf → countIn buf < most → countIn (raised buf) ≡ countIn buf + 1
+  count-raised : 4 ≤ length buf → countIn buf < most → countIn (countRaised buf) ≡ countIn buf + 1
   count-raised h l = two-count buf (countIn buf + 1) h (omega arith)
 
-  pub past-raised : (n : ℕ) → 4 ≤ n → drop n (raised buf) ≡ drop n buf
+  pub past-raised : (n : ℕ) → 4 ≤ n → drop n (countRaised buf) ≡ drop n buf
   past-raised n h = two-past buf _ n h
 
 -- the count stands in the first four bytes
@@ -123,21 +123,21 @@ module _ (buf : List ℕ) (len : ℕ) (x : Entry) where
   front = take len buf
 
   abbrev after : List ℕ
-  after = take len (raised buf) ++ bytesOf x
+  after = take len (countRaised buf) ++ bytesOf x
 
   module _ (fits : len ≤ length buf) (head : Header front) (whole : (j : ℕ) → j < total front → Whole front j) (ends : start front (total front) ≡ length front)
       (few : total front < most) (framed : Framed x) where
     front-long : length front ≡ len
     front-long = length-take-le len buf fits
 
-    raised-long : length (take len (raised buf)) ≡ len
-    raised-long = length-take-le len (raised buf) (omega (arith, length-raised buf))
+    raised-long : length (take len (countRaised buf)) ≡ len
+    raised-long = length-take-le len (countRaised buf) (omega (arith, length-raised buf))
 
     counted : total front ≡ countIn buf
     counted = count-front buf len (head .0)
 
-    at-front : (j : ℕ) → j < len → getD after j 0 ≡ getD (raised buf) j 0
-    at-front j l = List·getD-append (take len (raised buf)) (bytesOf x) 0 j (omega (arith, raised-long)) ∙ getD-take len (raised buf) j 0 l
+    at-front : (j : ℕ) → j < len → getD after j 0 ≡ getD (countRaised buf) j 0
+    at-front j l = List·getD-append (take len (countRaised buf)) (bytesOf x) 0 j (omega (arith, raised-long)) ∙ getD-take len (countRaised buf) j 0 l
 
     -- only bytes 2 and 3 are others
     others : (j : ℕ) → (j ≡ 2 → ⊥) → (j ≡ 3 → ⊥) → j < length front → getD front j 0 ≡ getD after j 0
@@ -147,7 +147,7 @@ module _ (buf : List ℕ) (len : ℕ) (x : Entry) where
     agree j a l = others j (λ e. omega arith) (λ e. omega arith) l
 
     after-long : length after ≡ len + length (bytesOf x)
-    after-long = omega (arith, length-append (take len (raised buf)) (bytesOf x), raised-long)
+    after-long = omega (arith, length-append (take len (countRaised buf)) (bytesOf x), raised-long)
 
     more : total after ≡ total front + 1
     more =
@@ -159,8 +159,8 @@ module _ (buf : List ℕ) (len : ℕ) (x : Entry) where
 
     stands-last : Stands after len (itemOf x)
     stands-last =
-        subst (λ (l : List ℕ). Stands (take len (raised buf) ++ l) len (itemOf x)) (append-nil (bytesOf x))
-        (subst (λ (n : ℕ). Stands (take len (raised buf) ++ (bytesOf x ++ [])) n (itemOf x)) raised-long (stands-there (take len (raised buf)) [] x framed))
+        subst (λ (l : List ℕ). Stands (take len (countRaised buf) ++ l) len (itemOf x)) (append-nil (bytesOf x))
+        (subst (λ (n : ℕ). Stands (take len (countRaised buf) ++ (bytesOf x ++ [])) n (itemOf x)) raised-long (stands-there (take len (countRaised buf)) [] x framed))
 
     last-start : start after (total front) ≡ len
     last-start = sym (same-start front after whole longer agree (total front) (omega arith)) ∙ ends ∙ front-long

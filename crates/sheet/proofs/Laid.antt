@@ -20,7 +20,7 @@ use Rattle.sheet.specs.Writer.{Entry, edit, note, laid, bytesOf}
 use Rattle.sheet.specs.Plain.{body, sheetOf, editsAfter, editsIn}
 use Rattle.sheet.specs.declared.Edit.{Edit}
 use Rattle.storage.specs.Stores.{Bits}
-use Rattle.sheet.proofs.Turns.{stop-next, next-inj, take-true, take-false, headed-true, act-remark, record-whole, all-read, edited, known}
+use Rattle.sheet.proofs.Turns.{stop-next, next-inj, take-true, take-false, headed-true, act-remark, record-whole, all-read, edited, takenOf}
 use Rattle.sheet.proofs.Payloads.{read-back, kind-small, payload-short, size-latest}
 
 -- a record that fits its frame
@@ -132,7 +132,7 @@ module _ (c n : ℕ) where
       → act (editionOf c n) k (itemOf (edit e)) s ≡ editionOf c n .step k e s
   unfolding act editionOf
   act-edit k e s h g =
-      ap (λ (o : Option ℕ). known (editionOf c n) k (itemOf (edit e)) o s) g
+      ap (λ (o : Option ℕ). takenOf (editionOf c n) k (itemOf (edit e)) o s) g
       ∙ ap (λ (o : Option Edit). edited (editionOf c n) k o s)
       (take-true _ _ (eq-eqb (length (payloadOf e)) (length (payloadOf e)) refl) ∙ read-back e h)
 

@@ -24,14 +24,14 @@ abbrev pub Fits : List Field → Type 0
 Fits [] = Unit {0}
 Fits (f ∷ fs) = (f .most < 2 ^ f .width) × Fits fs
 
-abbrev pub fitting : List Field → Bool
-fitting [] = true
-fitting (f ∷ fs) = ltb (f .most) (2 ^ f .width) && fitting fs
+abbrev pub fittingIn : List Field → Bool
+fittingIn [] = true
+fittingIn (f ∷ fs) = ltb (f .most) (2 ^ f .width) && fittingIn fs
 
-pub fitting-fits : (fs : List Field) → fitting fs ≡ true → Fits fs
+pub fitting-fits : (fs : List Field) → fittingIn fs ≡ true → Fits fs
 fitting-fits [] h = tt
 fitting-fits (f ∷ fs) h =
-    let (a, b) = and-true (ltb (f .most) (2 ^ f .width)) (fitting fs) h in
+    let (a, b) = and-true (ltb (f .most) (2 ^ f .width)) (fittingIn fs) h in
     (ltb-true (f .most) (2 ^ f .width) a, fitting-fits fs b)
 
 pub range-sized : (fs : List Field) (vs : List ℕ) → Fits fs → InRange fs vs → Sized fs vs

@@ -12,7 +12,7 @@ use Rattle.bitmap.proofs.Once.{one-region, one-field}
 use Rattle.shape.specs.Promises.{FlippedFrom}
 use Rattle.shape.proofs.Once.{one-flipped, one-raised, one-lowered, one-resized}
 use Rattle.gap.proofs.Once.{one-opened, one-closed}
-use Rattle.sheet.specs.Promises.{Means}
+use Rattle.sheet.specs.Promises.{Does}
 use Rattle.sheet.specs.declared.Edit.{Edit}
 use Rattle.sheet.specs.declared.Edit.the-variants.{Set, Unset, SetRegion, SetField, Shift, Rotate, Resize, Reverse, ToggleRegion, Open, Close}
 
@@ -22,7 +22,7 @@ module _ (b s t : Bits) where
       → (k ≡ 0 → t ≡ b) × ((k ≡ 0 → ⊥) → rule t) → s ≡ t
   one-or-none k rule f p q = by-eq k 0 (λ z. p .0 z ∙ sym (q .0 z)) (λ n. f n (p .1 n) (q .1 n))
 
-pub means-one : (e : Edit) (b s t : Bits) → Bounded b → Means e b s → Means e b t → s ≡ t
+pub means-one : (e : Edit) (b s t : Bits) → Bounded b → Does e b s → Does e b t → s ≡ t
 means-one (Set p) b s t h m n = same-bits (one-bit b s t p true (m .here) (n .here) (m .others) (n .others)) (m .count ∙ sym (n .count))
 means-one (Unset p) b s t h m n = same-bits (one-bit b s t p false (m .here) (n .here) (m .others) (n .others)) (m .count ∙ sym (n .count))
 means-one (SetRegion v p k) b s t h m n = one-or-none b s t k (λ x. WithRegion p v k b x) (one-region b s t p v k) m n

@@ -11,13 +11,13 @@ use lib.Pow.{pow-pos, split, high, mod-pow-add, shr-shr, shl-shr}
 use lib.Dec.{leb}
 use borrow.Author.Tests.{le-leb, lt-leb}
 use Rattle.word.specs.Sets.{choose, val}
-use Rattle.word.specs.Bits.{isOne}
+use Rattle.word.specs.Places.{isOne}
 use Rattle.word.proofs.Cases.{by-lt}
 use Rattle.sheet.specs.Bytes.{bytes}
 use Rattle.sheet.specs.Layout.{Field, widths, packed, InRange}
 use Rattle.sheet.specs.Kinds.{Row, bytesIn, numberIn, rowOf, sizeIn, known, knownNumber, knownBytes, kindOf, fieldsOf, numbered, bytesBy, fieldsBy, payloadOf, Ranged}
 use Rattle.sheet.specs.Reads.{editionOf}
-use Rattle.sheet.specs.Paper.{Cell, printed, Allowed, digits, cellDigits, byteDigits}
+use Rattle.sheet.specs.Paper.{Cell, paperLine, Allowed, digits, cellDigits, byteDigits}
 use Rattle.sheet.specs.Promises.{AsPrinted, TableAgrees, HasKind, KnownExact, Laid, PayloadsExact}
 use Rattle.sheet.specs.declared.Edit.{Edit}
 use Rattle.sheet.specs.declared.Edit.the-variants.{Set, Unset, SetRegion, SetField, Shift, Rotate, Resize, Reverse, ToggleRegion, Open, Close}
@@ -34,15 +34,15 @@ cells [] vs = []
 cells (f ∷ fs) [] = []
 cells (f ∷ fs) (v ∷ vs) = record { bits = f .width; least = f .least; most = f .most; value = v } ∷ cells fs vs
 
-pub record Line (e : Edit) : Type 0 where
-  pub kind : kindOf e ≡ printed e .kind
-  fields : cells (fieldsBy (rowOf (kindOf e))) (fieldsOf e) ≡ printed e .fields
-  size : (n : ℕ) → sizeIn n (kindOf e) ≡ choose (leb (printed e .edition) n) (some (printed e .bytes)) none
-  bytes : bytesBy (rowOf (kindOf e)) ≡ printed e .bytes
+pub record LineOf (e : Edit) : Type 0 where
+  pub kind : kindOf e ≡ paperLine e .kind
+  fields : cells (fieldsBy (rowOf (kindOf e))) (fieldsOf e) ≡ paperLine e .fields
+  size : (n : ℕ) → sizeIn n (kindOf e) ≡ choose (leb (paperLine e .edition) n) (some (paperLine e .bytes)) none
+  bytes : bytesBy (rowOf (kindOf e)) ≡ paperLine e .bytes
   many : length (fieldsBy (rowOf (kindOf e))) ≡ length (fieldsOf e)
 
-pub each-line : (e : Edit) → Line e
-unfolding sizeIn rowOf kindOf fieldsOf bytesIn printed
+pub each-line : (e : Edit) → LineOf e
+unfolding sizeIn rowOf kindOf fieldsOf bytesIn paperLine
 each-line (Set p) = record { kind = refl; fields = refl; size = λ n. refl; bytes = refl; many = refl }
 each-line (Unset p) = record { kind = refl; fields = refl; size = λ n. refl; bytes = refl; many = refl }
 each-line (SetRegion v p k) = record { kind = refl; fields = refl; size = λ n. refl; bytes = refl; many = refl }
@@ -126,7 +126,7 @@ as-printed e = record {
   digits-are = λ h. laid h;
 }
   where
-    its : Line e
+    its : LineOf e
     its = each-line e
 
     r : Row
@@ -138,7 +138,7 @@ as-printed e = record {
     vs : List ℕ
     vs = fieldsOf e
 
-    laid : Ranged e → byteDigits (payloadOf e) ≡ cellDigits (printed e .fields) ++ digits (r .spare) 0
+    laid : Ranged e → byteDigits (payloadOf e) ≡ cellDigits (paperLine e .fields) ++ digits (r .spare) 0
     laid h =
         let low : digits (r .spare) (packed (r .fields) vs * 2 ^ r .spare) ≡ digits (r .spare) 0 =
         ap (digits (r .spare)) (sym (add-zero (packed (r .fields) vs * 2 ^ r .spare))) ∙ digits-above (r .spare) (packed (r .fields) vs) 0 in
@@ -155,7 +155,7 @@ pub table-agrees : TableAgrees
 unfolding editionOf
 table-agrees = record { lines = as-printed; others = others }
   where
-    others : (n c k m : ℕ) → editionOf c n .size k ≡ some m → (e : Edit) × (printed e .kind ≡ k)
+    others : (n c k m : ℕ) → editionOf c n .size k ≡ some m → (e : Edit) × (paperLine e .kind ≡ k)
     others n c k m s =
         let a = held n k m s in
         let e : Edit = a .row .make [] in
@@ -164,20 +164,20 @@ table-agrees = record { lines = as-printed; others = others }
 -- ---- the kinds that an edition has
 
 -- a kind of the edition, by a line of the table, and a kind that it lacks
-pub has-size : (n k : ℕ) (e : Edit) → printed e .kind ≡ k → printed e .edition ≤ n → sizeIn n k ≡ some (printed e .bytes)
+pub has-size : (n k : ℕ) (e : Edit) → paperLine e .kind ≡ k → paperLine e .edition ≤ n → sizeIn n k ≡ some (paperLine e .bytes)
 has-size n k e q l =
     ap (sizeIn n) (sym (each-line e .kind ∙ q)) ∙ each-line e .size n
-    ∙ ap (λ (t : Bool). choose t (some (printed e .bytes)) none) (le-leb (printed e .edition) n l)
+    ∙ ap (λ (t : Bool). choose t (some (paperLine e .bytes)) none) (le-leb (paperLine e .edition) n l)
 
 pub size-has : (n k m : ℕ) → sizeIn n k ≡ some m → HasKind n k
 unfolding editionOf
 size-has n k m s =
     let (e, q) = table-agrees .others n 0 k m s in
-    by-lt n (printed e .edition)
+    by-lt n (paperLine e .edition)
     (λ l.
     let z : _≡_ {A = Option ℕ} none (some m) =
     sym (ap (sizeIn n) (sym (each-line e .kind ∙ q)) ∙ each-line e .size n
-    ∙ ap (λ (t : Bool). choose t (some (printed e .bytes)) none) (lt-leb (printed e .edition) n l)) ∙ s in
+    ∙ ap (λ (t : Bool). choose t (some (paperLine e .bytes)) none) (lt-leb (paperLine e .edition) n l)) ∙ s in
     absurd (none-some z))
     (λ l. (e, q, l))
 
@@ -253,7 +253,7 @@ payloads-exact n c m r e d s h = ((λ a. to (asks-lays n c m r e d s h .0 a)), (
     back : Laid (r .kind) (r .payload) e → Lays (r .kind) (r .payload) e
     back g =
         let ranged : Ranged e = its .ranges .1 (g .ranged) in
-        let cs : List Bool = cellDigits (printed e .fields) in
+        let cs : List Bool = cellDigits (paperLine e .fields) in
         let same : length (payloadOf e) ≡ length (r .payload) = its .bytes .0 ∙ sym (g .long) in
         let a : length (cs ++ digits (its .unused) 0) ≡ 8 * length (payloadOf e) = ap length (sym (its .digits-are ranged)) ∙ byte-digits-length (payloadOf e) in
         let b : length (cs ++ digits (g .unused) 0) ≡ 8 * length (r .payload) = ap length (sym (g .digits-are)) ∙ byte-digits-length (r .payload) in

@@ -12,11 +12,11 @@ use lib.Pow.{high, low, pow-pos, recompose, shl-lt}
 use lib.Dec.{leb, eqb}
 use borrow.Author.Tests.{le-leb, leb-true, eq-eqb, ne-eqb, eqb-true}
 use Rattle.word.specs.Sets.{choose, val}
-use Rattle.word.specs.Bits.{isOne}
+use Rattle.word.specs.Places.{isOne}
 use Rattle.word.proofs.Cases.{by-lt, and-true}
 use Rattle.sheet.specs.Bytes.{number, bytes}
 use Rattle.sheet.specs.Layout.{Field, widths, packed, unpacked, inRange, InRange}
-use Rattle.sheet.specs.Kinds.{Row, place, flag, width, word, size, nth, table, bytesIn, valuesIn, numberIn, parse, rowOf, sizeBy, sizeIn, parseBy, ruleOf}
+use Rattle.sheet.specs.Kinds.{Row, place, flag, width, word, sizeField, valueAt, table, bytesIn, valuesIn, numberIn, parsePayload, rowOf, sizeBy, sizeIn, parseBy, ruleOf}
 use Rattle.sheet.specs.Kinds.{kindOf, fieldsOf, numberBy, numbered, bytesBy, fieldsBy, payloadOf, Ranged}
 use Rattle.sheet.specs.Meaning.{Asks}
 use Rattle.sheet.specs.Reads.{latest, editionOf}
@@ -26,14 +26,14 @@ use Rattle.sheet.specs.declared.Edit.the-variants.{Set, Unset, SetRegion
 use Rattle.sheet.proofs.Tables.{past-end}
 use Rattle.sheet.proofs.Turns.{none-some, some-inj, take-true, take-false}
 use Rattle.sheet.proofs.Rules.{length-bytes, number-mod, AllBytes, number-fits, bytes-number, byte-bits}
-use Rattle.sheet.proofs.Layouts.{Sized, Fits, fitting, fitting-fits, range-sized, in-range, range-in, packed-small, unpacked-packed, packed-unpacked}
+use Rattle.sheet.proofs.Layouts.{Sized, Fits, fittingIn, fitting-fits, range-sized, in-range, range-in, packed-small, unpacked-packed, packed-unpacked}
 
 -- ---- a row's payload, as one number
 
 -- what a number asks for whose fields and unused bits are known
 pub parsed-as : (r : Row) (x : ℕ) (vs : List ℕ) (u : ℕ) → Sized (r .fields) vs → u < 2 ^ r .spare → x ≡ numberIn r vs + u
-    → parse r x ≡ choose (eqb u 0 && inRange (r .fields) vs) (some (r .make vs)) none
-unfolding parse numberIn
+    → parsePayload r x ≡ choose (eqb u 0 && inRange (r .fields) vs) (some (r .make vs)) none
+unfolding parsePayload numberIn
 parsed-as r x vs u h l e =
     ap₂ (λ (m : ℕ) (ws : List ℕ). choose (eqb m 0 && inRange (r .fields) ws) (some (r .make ws)) none)
     (ap (λ (y : ℕ). y % 2 ^ r .spare) e ∙ low (packed (r .fields) vs) (r .spare) l)
@@ -41,14 +41,14 @@ parsed-as r x vs u h l e =
     ∙ unpacked-packed (r .fields) vs h)
 
 -- values in their ranges are read back
-pub parsed-good : (r : Row) (vs : List ℕ) → Fits (r .fields) → InRange (r .fields) vs → parse r (numberIn r vs) ≡ some (r .make vs)
+pub parsed-good : (r : Row) (vs : List ℕ) → Fits (r .fields) → InRange (r .fields) vs → parsePayload r (numberIn r vs) ≡ some (r .make vs)
 parsed-good r vs t h =
     parsed-as r (numberIn r vs) vs 0 (range-sized (r .fields) vs t h) (pow-pos (r .spare)) (sym (add-zero (numberIn r vs)))
     ∙ take-true _ _ (in-range (r .fields) vs h)
 
 -- a number that asks for an edit asks for that of its values, which are in their ranges, and has no unused bit set
-pub parsed-values : (r : Row) (x : ℕ) (e : Edit) → parse r x ≡ some e → (r .make (valuesIn r x) ≡ e) × InRange (r .fields) (valuesIn r x) × (x % 2 ^ r .spare ≡ 0)
-unfolding parse
+pub parsed-values : (r : Row) (x : ℕ) (e : Edit) → parsePayload r x ≡ some e → (r .make (valuesIn r x) ≡ e) × InRange (r .fields) (valuesIn r x) × (x % 2 ^ r .spare ≡ 0)
+unfolding parsePayload
 parsed-values r x e q = go (eqb (x % 2 ^ r .spare) 0 && inRange (r .fields) (valuesIn r x)) refl q
   where
     go : (t : Bool) → eqb (x % 2 ^ r .spare) 0 && inRange (r .fields) (valuesIn r x) ≡ t → choose t (some (r .make (valuesIn r x))) none ≡ some e
@@ -69,7 +69,7 @@ parsed-number r x l z =
 
 -- a row whose fields fit their bits, that fills whole bytes, few enough, and that the latest edition has
 abbrev check : Row → Bool
-check r = fitting (r .fields) && (eqb (widths (r .fields) + r .spare) (8 * bytesIn r) && (leb (bytesIn r) 13 && leb (r .since) latest))
+check r = fittingIn (r .fields) && (eqb (widths (r .fields) + r .spare) (8 * bytesIn r) && (leb (bytesIn r) 13 && leb (r .since) latest))
 
 -- a row of kind k: its edits are of that kind, and have the values that they are made of
 pub record GoodRow (k : ℕ) (r : Row) : Type 0 where
@@ -79,13 +79,13 @@ pub record GoodRow (k : ℕ) (r : Row) : Type 0 where
 
 module _ {k : ℕ} {r : Row} (g : GoodRow k r) where
   later : eqb (widths (r .fields) + r .spare) (8 * bytesIn r) && (leb (bytesIn r) 13 && leb (r .since) latest) ≡ true
-  later = and-true (fitting (r .fields)) _ (g .checked) .1
+  later = and-true (fittingIn (r .fields)) _ (g .checked) .1
 
   last : leb (bytesIn r) 13 && leb (r .since) latest ≡ true
   last = and-true (eqb (widths (r .fields) + r .spare) (8 * bytesIn r)) _ later .1
 
   pub fits : Fits (r .fields)
-  fits = fitting-fits (r .fields) (and-true (fitting (r .fields)) _ (g .checked) .0)
+  fits = fitting-fits (r .fields) (and-true (fittingIn (r .fields)) _ (g .checked) .0)
 
   pub octets : widths (r .fields) + r .spare ≡ 8 * bytesIn r
   octets = eqb-true _ _ (and-true (eqb (widths (r .fields) + r .spare) (8 * bytesIn r)) _ later .0)
@@ -100,19 +100,19 @@ is-val : (t : Bool) → isOne (val t) ≡ t
 is-val true = refl
 is-val false = refl
 
-one-value : (a : Field) (vs : List ℕ) → InRange (a ∷ []) vs → nth vs 0 ∷ [] ≡ vs
+one-value : (a : Field) (vs : List ℕ) → InRange (a ∷ []) vs → valueAt vs 0 ∷ [] ≡ vs
 one-value a [] h = absurd h
 one-value a (x ∷ []) h = refl
 one-value a (x ∷ y ∷ vs) h = absurd (h .2)
 
-two-values : (a b : Field) (vs : List ℕ) → InRange (a ∷ b ∷ []) vs → nth vs 0 ∷ nth vs 1 ∷ [] ≡ vs
+two-values : (a b : Field) (vs : List ℕ) → InRange (a ∷ b ∷ []) vs → valueAt vs 0 ∷ valueAt vs 1 ∷ [] ≡ vs
 two-values a b [] h = absurd h
 two-values a b (x ∷ vs) h = rest vs (h .2)
   where
-    rest : (vs : List ℕ) → InRange (b ∷ []) vs → x ∷ nth vs 0 ∷ [] ≡ x ∷ vs
+    rest : (vs : List ℕ) → InRange (b ∷ []) vs → x ∷ valueAt vs 0 ∷ [] ≡ x ∷ vs
     rest vs h = ap (λ (l : List ℕ). x ∷ l) (one-value b vs h)
 
-three-values : (a b c : Field) (vs : List ℕ) → InRange (a ∷ b ∷ c ∷ []) vs → nth vs 0 ∷ nth vs 1 ∷ nth vs 2 ∷ [] ≡ vs
+three-values : (a b c : Field) (vs : List ℕ) → InRange (a ∷ b ∷ c ∷ []) vs → valueAt vs 0 ∷ valueAt vs 1 ∷ valueAt vs 2 ∷ [] ≡ vs
 three-values a b c [] h = absurd h
 three-values a b c (x ∷ vs) h = ap (λ (l : List ℕ). x ∷ l) (two-values b c vs (h .2))
 
@@ -120,7 +120,7 @@ no-values : (vs : List ℕ) → InRange [] vs → [] ≡ vs
 no-values [] h = refl
 no-values (x ∷ vs) h = absurd h
 
-flagged : (fs : List Field) (vs : List ℕ) → InRange (flag ∷ fs) vs → val (isOne (nth vs 0)) ≡ nth vs 0
+flagged : (fs : List Field) (vs : List ℕ) → InRange (flag ∷ fs) vs → val (isOne (valueAt vs 0)) ≡ valueAt vs 0
 flagged fs [] h = absurd h
 flagged fs (zero ∷ vs) h = refl
 flagged fs (suc zero ∷ vs) h = refl
@@ -137,19 +137,19 @@ unfolding bytesIn kindOf fieldsOf
 good-rows =
     record { checked = refl; kind = λ vs. refl; kept = one-value place }
     ▸ record { checked = refl; kind = λ vs. refl; kept = one-value place }
-    ▸ record { checked = refl; kind = λ vs. refl; kept = λ vs h. ap (λ (x : ℕ). x ∷ nth vs 1 ∷ nth vs 2 ∷ []) (flagged (place ∷ place ∷ []) vs h) ∙ three-values flag place place vs h }
+    ▸ record { checked = refl; kind = λ vs. refl; kept = λ vs h. ap (λ (x : ℕ). x ∷ valueAt vs 1 ∷ valueAt vs 2 ∷ []) (flagged (place ∷ place ∷ []) vs h) ∙ three-values flag place place vs h }
     ▸ record { checked = refl; kind = λ vs. refl; kept = three-values place width word }
     ▸ record { checked = refl; kind = λ vs. refl; kept = directed }
     ▸ record { checked = refl; kind = λ vs. refl; kept = directed }
-    ▸ record { checked = refl; kind = λ vs. refl; kept = one-value size }
+    ▸ record { checked = refl; kind = λ vs. refl; kept = one-value sizeField }
     ▸ record { checked = refl; kind = λ vs. refl; kept = no-values }
     ▸ record { checked = refl; kind = λ vs. refl; kept = two-values place place }
     ▸ record { checked = refl; kind = λ vs. refl; kept = two-values place place }
     ▸ record { checked = refl; kind = λ vs. refl; kept = two-values place place }
     ▸ none-left
   where
-    directed : (vs : List ℕ) → InRange (flag ∷ place ∷ []) vs → val (isOne (nth vs 0)) ∷ nth vs 1 ∷ [] ≡ vs
-    directed vs h = ap (λ (x : ℕ). x ∷ nth vs 1 ∷ []) (flagged (place ∷ []) vs h) ∙ two-values flag place vs h
+    directed : (vs : List ℕ) → InRange (flag ∷ place ∷ []) vs → val (isOne (valueAt vs 0)) ∷ valueAt vs 1 ∷ [] ≡ vs
+    directed vs h = ap (λ (x : ℕ). x ∷ valueAt vs 1 ∷ []) (flagged (place ∷ []) vs h) ∙ two-values flag place vs h
 
 good-at : (rs : List Row) (i k : ℕ) (r : Row) → GoodRows i rs → getElem? rs k ≡ some r → GoodRow (i + k) r
 good-at [] i k r g e = absurd (none-some e)
@@ -248,7 +248,7 @@ pub record Asked (k : ℕ) (r : Row) (x : ℕ) (e : Edit) : Type 0 where
   pub row-is : rowOf (kindOf e) ≡ some r
   pub ranged : Ranged e
 
-pub asked-of : (k : ℕ) (r : Row) → rowOf k ≡ some r → (x : ℕ) (e : Edit) → parse r x ≡ some e → Asked k r x e
+pub asked-of : (k : ℕ) (r : Row) → rowOf k ≡ some r → (x : ℕ) (e : Edit) → parsePayload r x ≡ some e → Asked k r x e
 unfolding Ranged
 asked-of k r at x e q =
     let (m, i, z) = parsed-values r x e q in
@@ -268,7 +268,7 @@ module _ (k : ℕ) (r : Row) (at : rowOf k ≡ some r) (p : List ℕ) (l : lengt
       subst (λ (n : ℕ). number p < n) (byte-bits (length p) ∙ ap (λ (n : ℕ). 2 ^ (8 * n)) l ∙ ap (λ (n : ℕ). 2 ^ n) (sym (octets (good-row k r at)))) (number-fits p h)
 
   -- a good payload is the layout of its edit
-  laid-again : (e : Edit) → parse r (number p) ≡ some e → Lays k p e
+  laid-again : (e : Edit) → parsePayload r (number p) ≡ some e → Lays k p e
   unfolding payloadOf numbered
   laid-again e q =
       let a : Asked k r (number p) e = asked-of k r at (number p) e q in

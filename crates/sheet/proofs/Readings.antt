@@ -12,7 +12,7 @@ use lib.Seq.{ext-getD}
 use lib.Dec.{ltb}
 use borrow.Author.Tests.{le-leb, lt-leb, lt-ltb}
 use Rattle.word.specs.Sets.{choose}
-use Rattle.word.specs.Bits.{member, wordOf, tabFrom}
+use Rattle.word.specs.Places.{member, wordOf, tabFrom}
 use Rattle.word.proofs.Cases.{by-lt}
 use Rattle.word.proofs.Lists.{past, length-tab, tab-at, tab-is}
 use Rattle.storage.specs.Refusals.{numberOf}
@@ -31,13 +31,13 @@ use Rattle.sheet.specs.Reader.{Turn, stop, next, Answer, refused, done, 
 use Rattle.sheet.specs.Meaning.{AtRecord, Newer, Fails, Applies, not-sheet, unfit, cut, newer, bad, fails, remain, Accepted, Due, Holds}
 use Rattle.sheet.specs.Paper.{IsEdition}
 use Rattle.sheet.specs.Reads.{editionOf, latest, isEdition, fitting, Course, stopped, went, course, readAnswer, readStore, Reads, readingNumber, readingRecord, readingCount}
-use Rattle.sheet.specs.Promises.{Passes, Stops, no-edition, old-stopped, result-stopped, Gets, stops, applies, accepted, NamesNewer, Made, ReadingMeans, ReadsMean, Alike, KeepsMeaning}
+use Rattle.sheet.specs.Promises.{Passes, Stops, no-edition, old-stopped, result-stopped, Gets, stops, applies, accepted, NamesNewer, MadeResult, ReadingMeans, ReadsMean, SameAnswer, KeepsMeaning}
 use Rattle.sheet.specs.declared.Reading.{Reading}
 use Rattle.sheet.proofs.Turns.{none-some, stop-next, stop-inj, next-inj, take-true, take-false}
 use Rattle.sheet.proofs.Exact.{refusal-of, exact}
 use Rattle.sheet.proofs.Editions.{any-two}
 use Rattle.sheet.proofs.Payloads.{asks-ranged}
-use Rattle.sheet.proofs.Effects.{Kept, effect-kept, step-stops}
+use Rattle.sheet.proofs.Effects.{KeptIn, effect-kept, step-stops}
 
 -- ---- 14, 1 and 2
 
@@ -124,11 +124,11 @@ fits-old ws m c l = take-true _ _ (le-leb (view ws m .count) c (subst (λ (x : �
 fits-not : (ws : List ℕ) (m c : ℕ) → c < m → fitting c (view ws m) ≡ stop NoSpace
 fits-not ws m c l = take-false _ _ (lt-leb (view ws m .count) c (subst (λ (x : ℕ). c < x) (sym (view-count ws m)) l))
 
-kept-start : (ws : List ℕ) (m c : ℕ) (s : Bits) → fitting c (view ws m) ≡ next s → Kept c s
+kept-start : (ws : List ℕ) (m c : ℕ) (s : Bits) → fitting c (view ws m) ≡ next s → KeptIn c s
 kept-start ws m c s q =
     by-lt c m
     (λ l. absurd (stop-next (sym (fits-not ws m c l) ∙ q)))
-    (λ l. subst (Kept c) (next-inj (sym (fits-old ws m c l) ∙ q))
+    (λ l. subst (KeptIn c) (next-inj (sym (fits-old ws m c l) ∙ q))
     (record { bounded = bounded-view ws m; space = subst (λ (x : ℕ). x ≤ c) (sym (view-count ws m)) l }))
 
 module _ (n : ℕ) (sheet ws : List ℕ) (b : Bitmap) (res : List ℕ) (r : Reading) (res' : List ℕ) (h : Reads n sheet ws b res r res') where
@@ -189,16 +189,16 @@ module _ (n : ℕ) (sheet ws : List ℕ) (b : Bitmap) (res : List ℕ) (r : Read
   answer-exact : (x k t : ℕ) → Says r x k t ↔ Gets n sheet ws b res x k t
   answer-exact x k t = ((λ q. rw (← (q .0), ← (q .1), ← (q .2)) due), said x k t)
 
-  makes : readingNumber r ≡ 0 → Made n sheet ws b res (readingRecord r) (readingCount r) res'
+  makes : readingNumber r ≡ 0 → MadeResult n sheet ws b res (readingRecord r) (readingCount r) res'
   makes q = go (which-way n ws b res)
     where
-      on : Passes n ws b res → (x : Answer Bits) → answer ≡ x → Made n sheet ws b res (readingRecord r) (readingCount r) res'
+      on : Passes n ws b res → (x : Answer Bits) → answer ≡ x → MadeResult n sheet ws b res (readingRecord r) (readingCount r) res'
       on p (refused e k) a = absurd (positive e (sym (says-refused e k p a .0) ∙ q))
       on p (done k s) a =
           let (u, v, w) = says-done k s p a in
           let t = exact _ _ (editionOf c n) sheet (fitting c (held ws b)) (done k s) .0 a in
           let start = kept-start ws (b .count) c (t .reached .from) (t .reached .fits) in
-          let kept : Kept c s = subst (Kept c) (t .makes) (effect-kept c n _ (t .reached .from) (t .reached .state) start (t .reached .applied)) in
+          let kept : KeptIn c s = subst (KeptIn c) (t .makes) (effect-kept c n _ (t .reached .from) (t .reached .state) start (t .reached .applied)) in
           let stored : res' ≡ written res c s = left p ∙ ap (λ (x : Answer Bits). readStore (went x) res) a in
           let rules = space-rules res c s (kept .space) (omega arith) in
           record {
@@ -216,7 +216,7 @@ module _ (n : ℕ) (sheet ws : List ℕ) (b : Bitmap) (res : List ℕ) (r : Read
                 (λ v. past res' j (omega (arith, ap length stored ∙ rules .long)));
           }
 
-      go : ((x : ℕ) × Stops n ws b res x) ⊎ Passes n ws b res → Made n sheet ws b res (readingRecord r) (readingCount r) res'
+      go : ((x : ℕ) × Stops n ws b res x) ⊎ Passes n ws b res → MadeResult n sheet ws b res (readingRecord r) (readingCount r) res'
       go (inl (x, s)) = absurd (omega (arith, stops-number n ws b res x s .0, halted x s .0))
       go (inr p) = on p answer refl
 
@@ -231,7 +231,7 @@ module _ (n : ℕ) (sheet ws : List ℕ) (b : Bitmap) (res : List ℕ) (r : Read
       step-fails p why a =
           let (q, _, e, asks, f) = a .here in
           let g = a .reached in
-          let kept : Kept c (g .state) = effect-kept c n (g .edits) (g .from) (g .state) (kept-start ws (b .count) c (g .from) (g .fits)) (g .applied) in
+          let kept : KeptIn c (g .state) = effect-kept c n (g .edits) (g .from) (g .state) (kept-start ws (b .count) c (g .from) (g .fits)) (g .applied) in
           step-stops c n (suc (a .index)) e (g .state) why (p .result .short) kept (asks-ranged n c q e asks) f
 
       unfits : (why : Refusal) → old ≡ stop why → numberOf why ≡ 6
@@ -347,7 +347,7 @@ keeps-meaning e f ge gf l sheet ws b res₁ res₂ size words r₁ r₂ res₁' 
     answered p = h₁ .answers ∙ ap readAnswer (first p)
 
     Ends : Type 0
-    Ends = (Alike r₁ r₂ × (res₁' ≡ res₂')) ⊎ ((readingNumber r₁ ≡ 13) × NamesNewer e sheet ws b res₁ (readingRecord r₁))
+    Ends = (SameAnswer r₁ r₂ × (res₁' ≡ res₂')) ⊎ ((readingNumber r₁ ≡ 13) × NamesNewer e sheet ws b res₁ (readingRecord r₁))
 
     compare : Passes e ws b res₁
         → (earlier ≡ read (editionOf c f) sheet (fitting c (held ws b))) ⊎

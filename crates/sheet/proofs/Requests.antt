@@ -16,7 +16,7 @@ use Rattle.storage.specs.Refusals.{numberOf}
 use Rattle.storage.proofs.Promises.{each-number-once}
 use Rattle.storage.specs.declared.Refusal.{Refusal}
 use Rattle.storage.specs.declared.Refusal.the-variants.{WidthOver, IndexOver, BadPayload, NewerKind}
-use Rattle.sheet.specs.Paper.{printed, values, given}
+use Rattle.sheet.specs.Paper.{paperLine, values, given}
 use Rattle.sheet.specs.Layout.{InRange}
 use Rattle.sheet.specs.Kinds.{place, kindOf, Ranged}
 use Rattle.sheet.specs.Writer.{most, Request, duty, remark, note, Checked, bad, good, makers, makerOf, madeBy, checkedOf}
@@ -36,20 +36,20 @@ Says q (bad e) = refusalOf q ≡ numberOf e
 Says q (good e) = (refusalOf q ≡ 0) × (entryOf q ≡ e)
 
 -- a record that they let pass fits its frame
-abbrev pub Passing : Checked → Type 0
-Passing (bad e) = Unit {0}
-Passing (good e) = Proper e
+abbrev pub PassesCheck : Checked → Type 0
+PassesCheck (bad e) = Unit {0}
+PassesCheck (good e) = Proper e
 
 -- a maker of kind k, beside the plain sheet's edit of that kind
 record GoodMaker (k : ℕ) (m : Fields → Checked) : Type 0 where
   says : (f : Fields) → Says (duty k f) (m f)
-  passing : (f : Fields) → Typed f → Passing (m f)
-  line : (f : Fields) → (printed (editFor k f) .kind ≡ k) × (values (printed (editFor k f) .fields) ≡ given k f)
+  passing : (f : Fields) → Typed f → PassesCheck (m f)
+  line : (f : Fields) → (paperLine (editFor k f) .kind ≡ k) × (values (paperLine (editFor k f) .fields) ≡ given k f)
 
 -- one that refuses by a test, and one that refuses nothing
 tested : (k : ℕ) (t : Fields → Bool) (e : Refusal) → ((f : Fields) → refusalOf (duty k f) ≡ choose (t f) (numberOf e) 0)
     → ((f : Fields) → t f ≡ false → Typed f → Proper (entryOf (duty k f)))
-    → ((f : Fields) → (printed (editFor k f) .kind ≡ k) × (values (printed (editFor k f) .fields) ≡ given k f))
+    → ((f : Fields) → (paperLine (editFor k f) .kind ≡ k) × (values (paperLine (editFor k f) .fields) ≡ given k f))
     → GoodMaker k (λ f. choose (t f) (bad e) (good (entryOf (duty k f))))
 tested k t e r p c = record { says = λ f. says f (t f) (r f); passing = λ f y. passing f y (t f) refl; line = c }
   where
@@ -57,12 +57,12 @@ tested k t e r p c = record { says = λ f. says f (t f) (r f); passing = λ f y.
     says f true a = a
     says f false a = (a, refl)
 
-    passing : (f : Fields) → Typed f → (s : Bool) → t f ≡ s → Passing (choose s (bad e) (good (entryOf (duty k f))))
+    passing : (f : Fields) → Typed f → (s : Bool) → t f ≡ s → PassesCheck (choose s (bad e) (good (entryOf (duty k f))))
     passing f y true a = tt
     passing f y false a = p f a y
 
 free : (k : ℕ) → ((f : Fields) → refusalOf (duty k f) ≡ 0) → ((f : Fields) → Typed f → Proper (entryOf (duty k f)))
-    → ((f : Fields) → (printed (editFor k f) .kind ≡ k) × (values (printed (editFor k f) .fields) ≡ given k f))
+    → ((f : Fields) → (paperLine (editFor k f) .kind ≡ k) × (values (paperLine (editFor k f) .fields) ≡ given k f))
     → GoodMaker k (λ f. good (entryOf (duty k f)))
 free k r p c = tested k (λ f. false) NewerKind r (λ f a y. p f y) c
 
@@ -84,7 +84,7 @@ bit true = omega arith
 bit false = omega arith
 
 good-makers : GoodMakers 1 makers
-unfolding refusalOf entryOf kindOf Ranged printed given
+unfolding refusalOf entryOf kindOf Ranged paperLine given
 good-makers =
     free 1 (λ f. refl) (λ f t. one (f .p) (t .0)) (λ f. (refl, refl))
     ▸ free 2 (λ f. refl) (λ f t. one (f .p) (t .0)) (λ f. (refl, refl))
@@ -154,17 +154,17 @@ abbrev pub TypedQ : Request → Type 0
 TypedQ (duty k f) = Typed f
 TypedQ (remark k p) = Unit {0}
 
-pub checks-pass : (q : Request) → TypedQ q → Passing (checkedOf q)
+pub checks-pass : (q : Request) → TypedQ q → PassesCheck (checkedOf q)
 unfolding checkedOf
 checks-pass (duty k f) t =
     by-kind k
-    (λ h. subst (λ (o : Option (Fields → Checked)). Passing (madeBy o f)) (sym (no-maker k h)) tt)
+    (λ h. subst (λ (o : Option (Fields → Checked)). PassesCheck (madeBy o f)) (sym (no-maker k h)) tt)
     (λ a b.
     let m = maker-for k a b in
-    subst (λ (o : Option (Fields → Checked)). Passing (madeBy o f)) (sym (m .at)) (m .is-good .passing f t))
+    subst (λ (o : Option (Fields → Checked)). PassesCheck (madeBy o f)) (sym (m .at)) (m .is-good .passing f t))
 checks-pass (remark k p) t = go (ltb 127 k) refl (ltb most (length p)) refl
   where
-    go : (x : Bool) → ltb 127 k ≡ x → (y : Bool) → ltb most (length p) ≡ y → Passing (choose x (bad NewerKind) (choose y (bad BadPayload) (good (note k p))))
+    go : (x : Bool) → ltb 127 k ≡ x → (y : Bool) → ltb most (length p) ≡ y → PassesCheck (choose x (bad NewerKind) (choose y (bad BadPayload) (good (note k p))))
     go true a y b = tt
     go false a true b = tt
     go false a false b = (ltb-false 127 k a, ltb-false most (length p) b)
@@ -231,7 +231,7 @@ checks-good q (good e) s z = ap good (sym (s .1))
 
 -- a request with nothing wrong asks for a record that fits its frame
 pub proper-entry : (q : Request) → TypedQ q → refusalOf q ≡ 0 → Proper (entryOf q)
-proper-entry q t z = subst Passing (checks-good q (checkedOf q) (checks-say q) z) (checks-pass q t)
+proper-entry q t z = subst PassesCheck (checks-good q (checkedOf q) (checks-say q) z) (checks-pass q t)
 
 -- and of the kind asked for
 pub kind-kept : (k : ℕ) (f : Fields) → refusalOf (duty k f) ≡ 0 → kindOf (editFor k f) ≡ k

@@ -7,10 +7,10 @@ use mathlib.Core.Logic.{_↔_, _⊎_, inl, inr}
 use native.Mathlib.Omega.{arith}
 use Rattle.word.proofs.Cases.{by-lt, by-eq}
 use Rattle.storage.specs.Refusals.{numberOf}
-use Rattle.storage.specs.Stores.{Bits, Bounded, Outcome, refused, done, limit}
-use Rattle.storage.specs.Promises.{Sound, Meets}
+use Rattle.storage.specs.Stores.{Bits, Bounded, Outcome, refused, done, storeLimit}
+use Rattle.storage.specs.Promises.{Contained, Meets}
 use Rattle.storage.specs.declared.Refusal.{Refusal}
-use Rattle.storage.proofs.Outcomes.{same, never, which, by-outcome, sound-done}
+use Rattle.storage.proofs.Outcomes.{same, never, which, by-outcome, contained-done}
 use Rattle.storage.proofs.Promises.{each-number-once}
 use Rattle.bits.proofs.Promises.{reverses}
 use Rattle.shift.proofs.Promises.{rotates-left, rotates-right}
@@ -21,8 +21,8 @@ use Rattle.shape.proofs.Promises.{toggles-region, region-nothing as toggles-not
 use Rattle.gap.proofs.Promises.{opens, closes}
 use Rattle.sheet.specs.Kinds.{Ranged}
 use Rattle.sheet.specs.Reader.{stop, next}
-use Rattle.sheet.specs.Reads.{step, made, editionOf}
-use Rattle.sheet.specs.Promises.{Means, StepsExact}
+use Rattle.sheet.specs.Reads.{step, turnOf, editionOf}
+use Rattle.sheet.specs.Promises.{Does, StepsExact}
 use Rattle.sheet.specs.declared.Edit.{Edit}
 use Rattle.sheet.specs.declared.Edit.the-variants.{Set, Unset, SetRegion, SetField, Shift, Rotate, Resize, Reverse, ToggleRegion, Open, Close}
 use Rattle.sheet.proofs.Turns.{stop-next, stop-inj, next-inj}
@@ -38,37 +38,37 @@ roomy = 2 ^ 28
 record Given (e : Edit) (c : ℕ) (b : Bits) : Type 0 where
   pub bounded : Bounded b
   pub space : b .count ≤ c
-  pub short : b .count ≤ limit
+  pub short : b .count ≤ storeLimit
   pub ranged : Ranged e
 
 -- 6, where whatever the edit means has more than c words; so there are fewer than are enough
 record Lacking (e : Edit) (c : ℕ) (b : Bits) (k : ℕ) : Type 0 where
   pub six : k ≡ 6
   pub low : c < roomy
-  pub over : (s : Bits) → Means e b s → c < s .count
+  pub over : (s : Bits) → Does e b s → c < s .count
 
 abbrev StepMeets : Edit → Type 0
-StepMeets e = Meets (step e) (λ c b s. Bounded b → Means e b s) (λ c b k. Given e c b → Lacking e c b k)
+StepMeets e = Meets (step e) (λ c b s. Bounded b → Does e b s) (λ c b k. Given e c b → Lacking e c b k)
 
 -- from the promise of the operation that the edit names
 by-promise : (e : Edit) (rule : ℕ → Bits → Bits → Type 0) (why : ℕ → Bits → ℕ → Type 0) → Meets (step e) rule why
-    → ((c : ℕ) (b s : Bits) → Bounded b → rule c b s → Means e b s) → ((c : ℕ) (b : Bits) (k : ℕ) → Given e c b → why c b k → Lacking e c b k) → StepMeets e
+    → ((c : ℕ) (b s : Bits) → Bounded b → rule c b s → Does e b s) → ((c : ℕ) (b : Bits) (k : ℕ) → Given e c b → why c b k → Lacking e c b k) → StepMeets e
 by-promise e rule why m f g = record {
   made = λ c b s q h. f c b s h (m .made c b s q);
-  sound = m .sound;
+  contained = m .contained;
   why = λ c b x q h. g c b (numberOf x) h (m .why c b x q);
 }
 
 -- of no numbers or no digits a step is done with what there was
-by-nothing : (e : Edit) → ((c : ℕ) (b : Bits) → step e c b ≡ done b) → ((b : Bits) → Means e b b) → StepMeets e
+by-nothing : (e : Edit) → ((c : ℕ) (b : Bits) → step e c b ≡ done b) → ((b : Bits) → Does e b b) → StepMeets e
 by-nothing e n f = record {
-  made = λ c b s q h. subst (Means e b) (same (sym (n c b) ∙ q)) (f b);
-  sound = sound-done (step e) (λ b. b) n (λ b. omega arith) (λ b h. h);
+  made = λ c b s q h. subst (Does e b) (same (sym (n c b) ∙ q)) (f b);
+  contained = contained-done (step e) (λ b. b) n (λ b. omega arith) (λ b h. h);
   why = λ c b x q h. absurd (never (sym (n c b) ∙ q));
 }
 
 -- a member of a bitmap in a store is below 2 ^ 32
-member-low : (b : Bits) → Bounded b → b .count ≤ limit → (i : ℕ) → b .members i ≡ true → i < 2 ^ 32
+member-low : (b : Bits) → Bounded b → b .count ≤ storeLimit → (i : ℕ) → b .members i ≡ true → i < 2 ^ 32
 member-low b h k i m = by-lt i (64 * b .count) (λ u. omega arith) (λ u. absurd (false≢true (sym (h .past i u) ∙ m)))
 
 -- a region that becomes empty keeps the count, so only a full one lacks space
@@ -155,26 +155,26 @@ step-meets (Open p n) =
     ])
 step-meets (Close p n) = by-promise (Close p n) _ _ (closes p n) (λ c b s h m. m h) (λ c b k g l. absurd (l (g .bounded) (g .space) (g .short)))
 
-pub step-sound : (e : Edit) → Sound (step e)
-step-sound e = step-meets e .sound
+pub contained-step : (e : Edit) → Contained (step e)
+contained-step e = step-meets e .contained
 
 -- ---- the promise
 
 -- what the edit means is made in a store that is large enough
-step-result : (e : Edit) (b : Bits) → Bounded b → b .count ≤ limit → Ranged e → (s : Bits) × Means e b s × Bounded s
+step-result : (e : Edit) (b : Bits) → Bounded b → b .count ≤ storeLimit → Ranged e → (s : Bits) × Does e b s × Bounded s
 step-result e b h l r =
     by-outcome (step e roomy b)
-    (λ s q. (s, step-meets e .made roomy b s q h, step-sound e .bound roomy b s h (omega arith) q))
+    (λ s q. (s, step-meets e .made roomy b s q h, contained-step e .bound roomy b s h (omega arith) q))
     (λ x q.
     let o = step-meets e .why roomy b x q (record { bounded = h; space = omega arith; short = l; ranged = r }) .low in
     absurd (omega arith))
 
 -- what a step of an edition comes to is what its operation comes to
-pub made-next : (o : Outcome) (s : Bits) → (made o ≡ next s) ↔ (o ≡ done s)
+pub made-next : (o : Outcome) (s : Bits) → (turnOf o ≡ next s) ↔ (o ≡ done s)
 made-next (refused e) s = ((λ q. absurd (stop-next q)), (λ q. absurd (never (sym q))))
 made-next (done b) s = ((λ q. ap done (next-inj q)), (λ q. ap next (same q)))
 
-made-stop : (o : Outcome) (x : Refusal) → (made o ≡ stop x) ↔ (o ≡ refused x)
+made-stop : (o : Outcome) (x : Refusal) → (turnOf o ≡ stop x) ↔ (o ≡ refused x)
 made-stop (refused e) x = ((λ q. ap refused (stop-inj q)), (λ q. ap stop (which q)))
 made-stop (done b) x = ((λ q. absurd (stop-next (sym q))), (λ q. absurd (never q)))
 
@@ -184,7 +184,7 @@ steps-exact n c e b l h k r = record {
   done-is = λ i s. (
     (λ q.
         let p = made-next (step e c b) s .0 q in
-        (step-meets e .made c b s p h, step-sound e .space c b s h k p)),
+        (step-meets e .made c b s p h, contained-step e .space c b s h k p)),
     (λ m. made-next (step e c b) s .1 (by-outcome (step e c b)
         (λ t q. q ∙ ap done (means-one e b t s h (step-meets e .made c b t q h) (m .0)))
         (λ x q. absurd (omega (arith, m .1, lack x q .over s (m .0)))))),
@@ -194,7 +194,7 @@ steps-exact n c e b l h k r = record {
         let l = lack x (made-stop (step e c b) x .0 q) in
         (l .six, result .0, result .1, l .over (result .0) (result .1))),
     (λ m. made-stop (step e c b) x .1 (by-outcome (step e c b)
-        (λ t q. absurd (omega (arith, m .3, step-sound e .space c b t h k q, ap count (means-one e b t (m .1) h (step-meets e .made c b t q h) (m .2)))))
+        (λ t q. absurd (omega (arith, m .3, contained-step e .space c b t h k q, ap count (means-one e b t (m .1) h (step-meets e .made c b t q h) (m .2)))))
         (λ y q. q ∙ ap refused (each-number-once .once y x (lack y q .six ∙ sym (m .0)))))),
   );
   one = λ s t m n. means-one e b s t h m n;
@@ -204,7 +204,7 @@ steps-exact n c e b l h k r = record {
     count : Bits → ℕ
     count s = s .count
 
-    result : (s : Bits) × Means e b s × Bounded s
+    result : (s : Bits) × Does e b s × Bounded s
     result = step-result e b h (omega arith) r
 
     lack : (x : Refusal) → step e c b ≡ refused x → Lacking e c b (numberOf x)

@@ -45,13 +45,13 @@ unfolding sizeIn
 past-kinds e zero l = absurd (omega arith)
 past-kinds e (suc k) l = rw (past-end table k (omega arith)) refl
 
-abbrev pub kind : ℕ → ℕ → Kind
-kind b s = record { bytes = b; since = s }
+abbrev pub kindAt : ℕ → ℕ → Kind
+kindAt b s = record { bytes = b; since = s }
 
 -- the constant KINDS
 abbrev pub rows : List Kind
 rows =
-    kind 0 0 ∷ kind 4 1 ∷ kind 4 1 ∷ kind 9 1 ∷ kind 13 1 ∷ kind 5 1 ∷ kind 5 1 ∷ kind 5 1 ∷ kind 0 1 ∷ kind 8 2 ∷ kind 8 2 ∷ kind 8 2 ∷ []
+    kindAt 0 0 ∷ kindAt 4 1 ∷ kindAt 4 1 ∷ kindAt 9 1 ∷ kindAt 13 1 ∷ kindAt 5 1 ∷ kindAt 5 1 ∷ kindAt 5 1 ∷ kindAt 0 1 ∷ kindAt 8 2 ∷ kindAt 8 2 ∷ kindAt 8 2 ∷ []
 
 abbrev pub byRow : ℕ → Kind → Known
 byRow e r = choose (leb (r .since) e) (Bytes (r .bytes)) Newer
@@ -59,13 +59,13 @@ byRow e r = choose (leb (r .since) e) (Bytes (r .bytes)) Newer
 -- it is the table of the definition, computed row by row
 abbrev fromRows : List Row → List Kind
 fromRows [] = []
-fromRows (r ∷ rs) = kind (bytesIn r) (r .since) ∷ fromRows rs
+fromRows (r ∷ rs) = kindAt (bytesIn r) (r .since) ∷ fromRows rs
 
-rows-are : rows ≡ kind 0 0 ∷ fromRows table
+rows-are : rows ≡ kindAt 0 0 ∷ fromRows table
 unfolding bytesIn
 rows-are = refl
 
-from-row : (e : ℕ) (rs : List Row) (k : ℕ) → k < length rs → byRow e (getD (fromRows rs) k (kind 0 0)) ≡ known (sizeBy e (getElem? rs k))
+from-row : (e : ℕ) (rs : List Row) (k : ℕ) → k < length rs → byRow e (getD (fromRows rs) k (kindAt 0 0)) ≡ known (sizeBy e (getElem? rs k))
 from-row e [] k l = absurd (omega arith)
 from-row e (r ∷ rs) zero l = by-test (leb (r .since) e)
   where
@@ -75,13 +75,13 @@ from-row e (r ∷ rs) zero l = by-test (leb (r .since) e)
 from-row e (r ∷ rs) (suc k) l = from-row e rs k (omega arith)
 
 -- each kind of the source has the length and the first edition of the definition's table
-pub row-of : (e k : ℕ) → (k ≡ 0 → ⊥) → k ≤ length table → byRow e (getD rows k (kind 0 0)) ≡ known (sizeIn e k)
+pub row-of : (e k : ℕ) → (k ≡ 0 → ⊥) → k ≤ length table → byRow e (getD rows k (kindAt 0 0)) ≡ known (sizeIn e k)
 unfolding sizeIn
 row-of e zero n l = absurd (n refl)
-row-of e (suc k) n l = ap (λ (ks : List Kind). byRow e (getD ks (suc k) (kind 0 0))) rows-are ∙ from-row e table k (omega arith)
+row-of e (suc k) n l = ap (λ (ks : List Kind). byRow e (getD ks (suc k) (kindAt 0 0))) rows-are ∙ from-row e table k (omega arith)
 
-pub row-newer : (e k : ℕ) → (k ≡ 0 → ⊥) → k ≤ length table → e < getD rows k (kind 0 0) .since → Newer ≡ known (sizeIn e k)
-row-newer e k n l h = sym (ap (λ (t : Bool). choose t (Bytes (getD rows k (kind 0 0) .bytes)) Newer) (lt-leb (getD rows k (kind 0 0) .since) e h)) ∙ row-of e k n l
+pub row-newer : (e k : ℕ) → (k ≡ 0 → ⊥) → k ≤ length table → e < getD rows k (kindAt 0 0) .since → Newer ≡ known (sizeIn e k)
+row-newer e k n l h = sym (ap (λ (t : Bool). choose t (Bytes (getD rows k (kindAt 0 0) .bytes)) Newer) (lt-leb (getD rows k (kindAt 0 0) .since) e h)) ∙ row-of e k n l
 
-pub row-bytes : (e k : ℕ) → (k ≡ 0 → ⊥) → k ≤ length table → getD rows k (kind 0 0) .since ≤ e → Bytes (getD rows k (kind 0 0) .bytes) ≡ known (sizeIn e k)
-row-bytes e k n l h = sym (ap (λ (t : Bool). choose t (Bytes (getD rows k (kind 0 0) .bytes)) Newer) (le-leb (getD rows k (kind 0 0) .since) e h)) ∙ row-of e k n l
+pub row-bytes : (e k : ℕ) → (k ≡ 0 → ⊥) → k ≤ length table → getD rows k (kindAt 0 0) .since ≤ e → Bytes (getD rows k (kindAt 0 0) .bytes) ≡ known (sizeIn e k)
+row-bytes e k n l h = sym (ap (λ (t : Bool). choose t (Bytes (getD rows k (kindAt 0 0) .bytes)) Newer) (le-leb (getD rows k (kindAt 0 0) .since) e h)) ∙ row-of e k n l

@@ -76,8 +76,8 @@ module _ {A S : Type 0} (E : Edition A S) where
   abbrev pub edited : ℕ → Option A → S → Turn S
   edited k o s = taken E k s (ruled o)
 
-  abbrev pub known : ℕ → Item → Option ℕ → S → Turn S
-  known k r o s = taken E k s (askingBy (E .rule) (r .kind) (r .payload) o)
+  abbrev pub takenOf : ℕ → Item → Option ℕ → S → Turn S
+  takenOf k r o s = taken E k s (askingBy (E .rule) (r .kind) (r .payload) o)
 
   abbrev pub sized : Item → Option ℕ → Option A
   sized r none = none
@@ -128,11 +128,11 @@ module _ {A S : Type 0} (E : Edition A S) where
     did-edit d n p none q = spoilt d n p q refl
     did-edit d n p (some e) q = did-step e (edit-known r d n p ∙ q) (E .step k e s) refl
 
-    did-known : r .duty ≡ true → (o : Option ℕ) → E .size (r .kind) ≡ o → Did k s r (known E k r o s)
+    did-known : r .duty ≡ true → (o : Option ℕ) → E .size (r .kind) ≡ o → Did k s r (takenOf E k r o s)
     did-known d none p = lacked d p refl
     did-known d (some n) p = did-edit d n p (edit E r n) refl
 
-    did-duty : (d : Bool) → r .duty ≡ d → Did k s r (choose d (known E k r (E .size (r .kind)) s) (next s))
+    did-duty : (d : Bool) → r .duty ≡ d → Did k s r (choose d (takenOf E k r (E .size (r .kind)) s) (next s))
     did-duty true d = did-known d (E .size (r .kind)) refl
     did-duty false d = went s (λ t. absurd (false≢true (sym d ∙ t))) (ap (λ (o : Option A). does k o s) (take-false _ _ d)) refl
 
@@ -140,14 +140,14 @@ module _ {A S : Type 0} (E : Edition A S) where
     unfolding act
     did = did-duty (r .duty) refl
 
-    pub on-duty : r .duty ≡ true → act E k r s ≡ known E k r (E .size (r .kind)) s
+    pub on-duty : r .duty ≡ true → act E k r s ≡ takenOf E k r (E .size (r .kind)) s
     unfolding act
     on-duty d = take-true _ _ d
 
     pub act-edit : (e : A) → editOf E r ≡ some e → act E k r s ≡ E .step k e s
     act-edit e p = go (r .duty) refl
       where
-        by-size : (o : Option ℕ) → sized E r o ≡ some e → known E k r o s ≡ E .step k e s
+        by-size : (o : Option ℕ) → sized E r o ≡ some e → takenOf E k r o s ≡ E .step k e s
         by-size none q = absurd (none-some q)
         by-size (some n) q = ap (λ (o : Option A). edited E k o s) q
 
@@ -165,8 +165,8 @@ module _ {A S : Type 0} (E : Edition A S) where
         go : (d : Bool) → r .duty ≡ d → act E k r s ≡ next t
         go true d = let (e, p) = g d in act-edit e p ∙ sym (ap (λ (o : Option A). does k o s) p) ∙ h
         go false d = act-remark d ∙ sym (ap (λ (o : Option A). does k o s) (take-false _ _ d)) ∙ h
-    act-did o (lacked d h q) = on-duty d ∙ ap (λ (o : Option ℕ). known E k r o s) h ∙ sym q
-    act-did o (spoilt d n h p q) = on-duty d ∙ ap (λ (o : Option ℕ). known E k r o s) h ∙ ap (λ (o : Option A). edited E k o s) p ∙ sym q
+    act-did o (lacked d h q) = on-duty d ∙ ap (λ (o : Option ℕ). takenOf E k r o s) h ∙ sym q
+    act-did o (spoilt d n h p q) = on-duty d ∙ ap (λ (o : Option ℕ). takenOf E k r o s) h ∙ ap (λ (o : Option A). edited E k o s) p ∙ sym q
     act-did o (failed e p why h q) = act-edit e p ∙ h ∙ sym q
 
   -- ---- the records in order

@@ -23,9 +23,9 @@ use Rattle.sheet.specs.Bytes.{bytes}
 use Rattle.sheet.specs.Meaning.{total}
 use Rattle.sheet.specs.Reads.{editionOf, latest, fitting, Course, went, course, readAnswer, readStore, readingNumber, readingRecord, readingCount}
 use Rattle.sheet.specs.Writer.{most, Request, duty, remark, Entry, edit, note, Checked, bad, good, checkedOf, bytesOf, addedNumber, addedLength}
-use Rattle.sheet.specs.Writer.{Left, refuse, started, raised, placed, placedBy, judged, added, Writes}
+use Rattle.sheet.specs.Writer.{Left, refuse, started, countRaised, placed, placedBy, judged, added, Writes}
 use Rattle.sheet.specs.Plain.{sheetOf, refusalOf, editFor, entryOf, answers, lastLength, lastBuffer, plainAnswers, lastPlain}
-use Rattle.sheet.specs.Promises.{SheetGets, RequestGets, bytesAsked, AddGets, over, fault, wrong, full, fine, Leaves, Grows, AddMeans, AddsMean}
+use Rattle.sheet.specs.Promises.{SheetGets, RequestGets, bytesAsked, AddGets, over, fault, wrong, full, fine, LeavesRest, Grows, AddMeans, AddsMean}
 use Rattle.sheet.specs.Promises.{Holding, StartGets, short, fresh, StartMeans, StartsMean, WholeLists}
 use Rattle.sheet.specs.declared.Added.{Added}
 use Rattle.sheet.specs.declared.Added.the-variants.{Done, Refused}
@@ -55,7 +55,7 @@ module _ (buf : List ℕ) (len : ℕ) (q : Request) where
   new = bytesOf (entryOf q)
 
   abbrev put-in : Left
-  put-in = record { answer = Done (len + length new); buffer = sets (raised buf) len new }
+  put-in = record { answer = Done (len + length new); buffer = sets (countRaised buf) len new }
 
   end-is : len + length new ≡ len + 3 + bytesAsked q
   end-is = omega (arith, bytes-asked q)
@@ -162,19 +162,19 @@ module _ (buf : List ℕ) (len : ℕ) (q : Request) where
 
 -- ---- what is left in the buffer
 
-refuse-leaves : (e : Refusal) (buf : List ℕ) → Leaves buf (Refused e) buf
+refuse-leaves : (e : Refusal) (buf : List ℕ) → LeavesRest buf (Refused e) buf
 refuse-leaves e buf = record { kept = λ p. refl; long = refl; past = λ z. refl }
 
 module _ (buf : List ℕ) (len : ℕ) (q : Request) where
-  leaves : (a : Left) → Came buf len q a → Leaves buf (a .answer) (a .buffer)
+  leaves : (a : Left) → Came buf len q a → LeavesRest buf (a .answer) (a .buffer)
   leaves a (refusing e g) = refuse-leaves e buf
   leaves a (putting l g w u v) =
       let head = good-sheet (sheet buf len q) g .headed in
       record {
         kept = λ p. absurd (omega arith);
-        long = length-sets (raised buf) len (new buf len q) ∙ length-raised buf;
+        long = length-sets (countRaised buf) len (new buf len q) ∙ length-raised buf;
         past = λ z.
-            drop-sets (new buf len q) (raised buf) len (len + length (new buf len q)) (omega arith)
+            drop-sets (new buf len q) (countRaised buf) len (len + length (new buf len q)) (omega arith)
             ∙ past-raised buf (len + length (new buf len q)) (omega (arith, head .0, length-take len buf));
       }
 
@@ -184,7 +184,7 @@ module _ (buf : List ℕ) (len : ℕ) (q : Request) where
       let its = good-sheet (sheet buf len q) g in
       let good = request-is q 0 w in
       subst (Grows (take len buf) q)
-      (sym (put-last (new buf len q) (raised buf) len (omega (arith, length-raised buf, end-is buf len q))))
+      (sym (put-last (new buf len q) (countRaised buf) len (omega (arith, length-raised buf, end-is buf len q))))
       (grown buf len (entryOf q) l (its .headed) (its .whole) (its .ends) u (framed-entry q good) q (wanted q good))
 
 -- what holds of what a call came to holds of its answer and of the buffer that it left
@@ -218,7 +218,7 @@ adding-means = record {
 
 module _ (buf : List ℕ) where
   -- what is promised of what a start came to
-  start-of : (a : Left) → StartGets buf (addedNumber (a .answer)) (addedLength (a .answer)) → Leaves buf (a .answer) (a .buffer)
+  start-of : (a : Left) → StartGets buf (addedNumber (a .answer)) (addedLength (a .answer)) → LeavesRest buf (a .answer) (a .buffer)
       → (addedNumber (a .answer) ≡ 0 → Holding (take 4 (a .buffer)) [])
       → ((x n : ℕ) → StartGets buf x n → (addedNumber (a .answer) ≡ x) × (addedLength (a .answer) ≡ n)) → StartMeans buf (a .answer) (a .buffer)
   start-of a g l h b = record {
@@ -237,7 +237,7 @@ module _ (buf : List ℕ) where
       made : Left
       made = record { answer = Done 4; buffer = sets buf 0 sheet′ }
 
-      made-leaves : Leaves buf (Done 4) (sets buf 0 sheet′)
+      made-leaves : LeavesRest buf (Done 4) (sets buf 0 sheet′)
       made-leaves = record { kept = λ p. absurd (omega arith); long = length-sets buf 0 sheet′; past = λ z. drop-sets sheet′ buf 0 4 (omega arith) }
 
       only-short : length buf < 4 → (x n : ℕ) → StartGets buf x n → (6 ≡ x) × (0 ≡ n)

@@ -16,7 +16,7 @@ use Rattle.storage.specs.declared.Refusal.{Refusal}
 use Rattle.storage.specs.declared.Refusal.the-variants.{NoSpace, NotSheet}
 use Rattle.sheet.specs.Frames.{countIn, sheetFault}
 use Rattle.sheet.specs.Writer.{most, Request, requested, Entry, Checked, bad, good, checkedOf, bytesOf, addedNumber, addedLength}
-use Rattle.sheet.specs.Writer.{Left, refuse, started, raised, placed, placedBy, judged, added, Writes}
+use Rattle.sheet.specs.Writer.{Left, refuse, started, countRaised, placed, placedBy, judged, added, Writes}
 use Rattle.sheet.specs.Plain.{asked, Plain, body, sheetOf, noRoom, refusalOf, entryOf, Answered, refusing, accepting, holding, Ask, start, addition, answered, Typed}
 use Rattle.sheet.specs.Plain.{Call, Went, lengthAfter, InRow, answers, lastLength, lastBuffer, plainAnswers, lastPlain}
 use Rattle.sheet.specs.declared.Fields.{Fields}
@@ -25,7 +25,7 @@ use Rattle.sheet.specs.declared.Added.the-variants.{Done}
 use Rattle.sheet.proofs.Turns.{take-false}
 use Rattle.sheet.proofs.Laid.{Proper, AllProper, two-bytes, no-fault}
 use Rattle.sheet.proofs.Grown.{put-last, length-raised}
-use Rattle.sheet.proofs.Requests.{Says, Passing, checks-say, TypedQ, checks-pass, neither}
+use Rattle.sheet.proofs.Requests.{Says, PassesCheck, checks-say, TypedQ, checks-pass, neither}
 
 -- the buffer's front is the plain sheet
 abbrev pub Fronts : List ℕ → ℕ → Plain → Type 0
@@ -98,10 +98,10 @@ module _ (buf : List ℕ) (len : ℕ) (es : List Entry) (h : Fronts buf len (som
   unfolding sheetOf
   longer e = omega (arith, h .0, ap length (body-snoc es e), length-append (body es) (bytesOf e))
 
-  stored : (e : Entry) → len + length (bytesOf e) ≤ length buf → take (len + length (bytesOf e)) (sets (raised buf) len (bytesOf e)) ≡ sheetOf (es ++ e ∷ [])
+  stored : (e : Entry) → len + length (bytesOf e) ≤ length buf → take (len + length (bytesOf e)) (sets (countRaised buf) len (bytesOf e)) ≡ sheetOf (es ++ e ∷ [])
   unfolding sheetOf
   stored e l =
-      put-last (bytesOf e) (raised buf) len (omega (arith, length-raised buf))
+      put-last (bytesOf e) (countRaised buf) len (omega (arith, length-raised buf))
       ∙ ap (λ (f : List ℕ). f ++ bytesOf e) front
       ∙ last
     where
@@ -111,7 +111,7 @@ module _ (buf : List ℕ) (len : ℕ) (es : List Entry) (h : Fronts buf len (som
       low : ℕ
       low = (countIn buf + 1) / 256 ^ 0 % 256
 
-      front : take len (raised buf) ≡ put (put (sheetOf es) 2 high) 3 low
+      front : take len (countRaised buf) ≡ put (put (sheetOf es) 2 high) 3 low
       front =
           take-set-lt len (put buf 2 high) 3 low (omega (arith, four))
           ∙ ap (λ (f : List ℕ). put f 3 low) (take-set-lt len buf 2 high (omega (arith, four)) ∙ ap (λ (f : List ℕ). put f 2 high) (h .1))
@@ -131,7 +131,7 @@ module _ (buf : List ℕ) (len : ℕ) (es : List Entry) (h : Fronts buf len (som
       full = leb most (countIn buf) || ltb (length buf) end
 
       put-in : Left
-      put-in = record { answer = Done end; buffer = sets (raised buf) len (bytesOf e) }
+      put-in = record { answer = Done end; buffer = sets (countRaised buf) len (bytesOf e) }
 
       same : full ≡ noRoom (length buf) es e
       same = ap₂ (λ (a b : ℕ). leb most a || ltb (length buf) b) counted (sym (longer e))
@@ -148,7 +148,7 @@ module _ (buf : List ℕ) (len : ℕ) (es : List Entry) (h : Fronts buf len (som
             fronts = (sym (longer e), stored e room, omega (arith, length-snoc es e), proper-snoc es e (h .3) p);
           }
 
-  agree-checked : (q : Request) (c : Checked) → Says q c → Passing c → Agrees len (placedBy buf len c) (holding (length buf) es (entryOf q) (refusalOf q))
+  agree-checked : (q : Request) (c : Checked) → Says q c → PassesCheck c → Agrees len (placedBy buf len c) (holding (length buf) es (entryOf q) (refusalOf q))
   agree-checked q (bad e) s p =
       subst (Agrees len (refuse e buf)) (sym (ap (holding (length buf) es (entryOf q)) s ∙ wrong (numberOf e) (each-number-once .range e .0)))
       (agree-refused buf len (some es) e h)

@@ -6,7 +6,7 @@ use mathlib.Core.Option.{Option, none, some}
 use lib.ListN.{getD, getElem?}
 use lib.Dec.{leb, eqb}
 use Rattle.word.specs.Sets.{choose, val}
-use Rattle.word.specs.Bits.{isOne}
+use Rattle.word.specs.Places.{isOne}
 use Rattle.storage.specs.Refusals.{numberOf}
 use Rattle.storage.specs.declared.Refusal.the-variants.{NewerKind}
 use Rattle.sheet.specs.Bytes.{number, bytes}
@@ -43,27 +43,27 @@ width = field 7 0 64
 abbrev pub word : Field
 word = field 64 0 (2 ^ 64 - 1)
 
-abbrev pub size : Field
-size = field 33 0 mostBits
+abbrev pub sizeField : Field
+sizeField = field 33 0 mostBits
 
 -- value i of a list, from 0 on
-abbrev pub nth : List ℕ → ℕ → ℕ
-nth vs i = getD vs i 0
+abbrev pub valueAt : List ℕ → ℕ → ℕ
+valueAt vs i = getD vs i 0
 
 -- kinds 1 to 11
 abbrev pub table : List Row
 table =
-    row (place ∷ []) 0 1 (λ v. Set (nth v 0))
-    ∷ row (place ∷ []) 0 1 (λ v. Unset (nth v 0))
-    ∷ row (flag ∷ place ∷ place ∷ []) 7 1 (λ v. SetRegion (isOne (nth v 0)) (nth v 1) (nth v 2))
-    ∷ row (place ∷ width ∷ word ∷ []) 1 1 (λ v. SetField (nth v 0) (nth v 1) (nth v 2))
-    ∷ row (flag ∷ place ∷ []) 7 1 (λ v. Shift (isOne (nth v 0)) (nth v 1))
-    ∷ row (flag ∷ place ∷ []) 7 1 (λ v. Rotate (isOne (nth v 0)) (nth v 1))
-    ∷ row (size ∷ []) 7 1 (λ v. Resize (nth v 0))
+    row (place ∷ []) 0 1 (λ v. Set (valueAt v 0))
+    ∷ row (place ∷ []) 0 1 (λ v. Unset (valueAt v 0))
+    ∷ row (flag ∷ place ∷ place ∷ []) 7 1 (λ v. SetRegion (isOne (valueAt v 0)) (valueAt v 1) (valueAt v 2))
+    ∷ row (place ∷ width ∷ word ∷ []) 1 1 (λ v. SetField (valueAt v 0) (valueAt v 1) (valueAt v 2))
+    ∷ row (flag ∷ place ∷ []) 7 1 (λ v. Shift (isOne (valueAt v 0)) (valueAt v 1))
+    ∷ row (flag ∷ place ∷ []) 7 1 (λ v. Rotate (isOne (valueAt v 0)) (valueAt v 1))
+    ∷ row (sizeField ∷ []) 7 1 (λ v. Resize (valueAt v 0))
     ∷ row [] 0 1 (λ v. Reverse)
-    ∷ row (place ∷ place ∷ []) 0 2 (λ v. ToggleRegion (nth v 0) (nth v 1))
-    ∷ row (place ∷ place ∷ []) 0 2 (λ v. Open (nth v 0) (nth v 1))
-    ∷ row (place ∷ place ∷ []) 0 2 (λ v. Close (nth v 0) (nth v 1))
+    ∷ row (place ∷ place ∷ []) 0 2 (λ v. ToggleRegion (valueAt v 0) (valueAt v 1))
+    ∷ row (place ∷ place ∷ []) 0 2 (λ v. Open (valueAt v 0) (valueAt v 1))
+    ∷ row (place ∷ place ∷ []) 0 2 (λ v. Close (valueAt v 0) (valueAt v 1))
     ∷ []
 
 -- of a row the payload's bytes, the values in a payload, as one number, and the number of some values
@@ -80,9 +80,9 @@ unfolding packed
 numberIn r vs = packed (r .fields) vs * 2 ^ r .spare
 
 -- what a payload asks for: none where an unused bit is set or a value is out of its field's range
-unfoldable pub parse : Row → ℕ → Option Edit
+unfoldable pub parsePayload : Row → ℕ → Option Edit
 unfolding valuesIn inRange
-parse r x = choose (eqb (x % 2 ^ r .spare) 0 && inRange (r .fields) (valuesIn r x)) (some (r .make (valuesIn r x))) none
+parsePayload r x = choose (eqb (x % 2 ^ r .spare) 0 && inRange (r .fields) (valuesIn r x)) (some (r .make (valuesIn r x))) none
 
 -- the row of a kind: kind 0 has none
 unfoldable pub rowOf : ℕ → Option Row
@@ -114,11 +114,11 @@ knownBytes Newer = 0
 
 abbrev pub parseBy : Option Row → ℕ → Option Edit
 parseBy none x = none
-parseBy (some r) x = parse r x
+parseBy (some r) x = parsePayload r x
 
 -- what a payload of a kind's length asks for
 unfoldable pub ruleOf : ℕ → List ℕ → Option Edit
-unfolding rowOf number parse
+unfolding rowOf number parsePayload
 ruleOf kind payload = parseBy (rowOf kind) (number payload)
 
 -- an edit's kind and the values of its fields, in the table's order

@@ -7,7 +7,7 @@ use mathlib.Core.List.{List, [], _∷_, _++_}
 use mathlib.Core.Logic.{_⊎_}
 use lib.ListN.{getD}
 use Rattle.word.specs.Sets.{val}
-use Rattle.word.specs.Bits.{isOne}
+use Rattle.word.specs.Places.{isOne}
 use Rattle.sheet.specs.declared.Fields.{Fields}
 use Rattle.sheet.specs.declared.Edit.{Edit}
 use Rattle.sheet.specs.declared.Edit.the-variants.{Set, Unset, SetRegion, SetField, Shift, Rotate, Resize, Reverse, ToggleRegion, Open, Close}
@@ -23,15 +23,15 @@ pub record Cell : Type 0 where
   pub most : ℕ
   pub value : ℕ
 
-abbrev pub upTo : ℕ → ℕ → ℕ → Cell
-upTo m w v = record { bits = w; least = 0; most = m; value = v }
+abbrev pub cellTo : ℕ → ℕ → ℕ → Cell
+cellTo m w v = record { bits = w; least = 0; most = m; value = v }
 
 -- p and k have 32 bits
 abbrev pub of32 : ℕ → Cell
-of32 v = upTo 4_294_967_295 32 v
+of32 v = cellTo 4_294_967_295 32 v
 
-abbrev pub bit : Bool → Cell
-bit t = upTo 1 1 (val t)
+abbrev pub ofBit : Bool → Cell
+ofBit t = cellTo 1 1 (val t)
 
 pub record Line : Type 0 where
   pub kind : ℕ
@@ -43,18 +43,18 @@ abbrev pub line : ℕ → List Cell → ℕ → ℕ → Line
 line k fs b n = record { kind = k; fields = fs; bytes = b; edition = n }
 
 -- kind, fields, bytes, edition
-unfoldable pub printed : Edit → Line
-printed (Set p) = line 1 (of32 p ∷ []) 4 1
-printed (Unset p) = line 2 (of32 p ∷ []) 4 1
-printed (SetRegion value p k) = line 3 (bit value ∷ of32 p ∷ of32 k ∷ []) 9 1
-printed (SetField p width value) = line 4 (of32 p ∷ upTo 64 7 width ∷ upTo (2 ^ 64 - 1) 64 value ∷ []) 13 1
-printed (Shift right k) = line 5 (bit right ∷ of32 k ∷ []) 5 1
-printed (Rotate right k) = line 6 (bit right ∷ of32 k ∷ []) 5 1
-printed (Resize n) = line 7 (upTo 4_294_967_296 33 n ∷ []) 5 1
-printed Reverse = line 8 [] 0 1
-printed (ToggleRegion p k) = line 9 (of32 p ∷ of32 k ∷ []) 8 2
-printed (Open p k) = line 10 (of32 p ∷ of32 k ∷ []) 8 2
-printed (Close p k) = line 11 (of32 p ∷ of32 k ∷ []) 8 2
+unfoldable pub paperLine : Edit → Line
+paperLine (Set p) = line 1 (of32 p ∷ []) 4 1
+paperLine (Unset p) = line 2 (of32 p ∷ []) 4 1
+paperLine (SetRegion value p k) = line 3 (ofBit value ∷ of32 p ∷ of32 k ∷ []) 9 1
+paperLine (SetField p width value) = line 4 (of32 p ∷ cellTo 64 7 width ∷ cellTo (2 ^ 64 - 1) 64 value ∷ []) 13 1
+paperLine (Shift right k) = line 5 (ofBit right ∷ of32 k ∷ []) 5 1
+paperLine (Rotate right k) = line 6 (ofBit right ∷ of32 k ∷ []) 5 1
+paperLine (Resize n) = line 7 (cellTo 4_294_967_296 33 n ∷ []) 5 1
+paperLine Reverse = line 8 [] 0 1
+paperLine (ToggleRegion p k) = line 9 (of32 p ∷ of32 k ∷ []) 8 2
+paperLine (Open p k) = line 10 (of32 p ∷ of32 k ∷ []) 8 2
+paperLine (Close p k) = line 11 (of32 p ∷ of32 k ∷ []) 8 2
 
 abbrev pub values : List Cell → List ℕ
 values [] = []

@@ -9,7 +9,7 @@ use mathlib.Core.Option.{none, some}
 use lib.ListN.{length, getD, getElem?, take, drop}
 use lib.Dec.{leb}
 use Rattle.word.specs.Sets.{choose}
-use Rattle.word.specs.Bits.{member}
+use Rattle.word.specs.Places.{member}
 use Rattle.storage.specs.Refusals.{numberOf}
 use Rattle.storage.specs.Stores.{Bits, Bounded, noWords, spaceOf, held, written}
 use Rattle.storage.specs.Guards.{mostWords, Stopped, Passed}
@@ -21,7 +21,7 @@ use Rattle.bitmap.specs.Promises.{WithBit, WithoutBit, WithRegion, WithField}
 use Rattle.shape.specs.Promises.{FlippedFrom, RaisedBy, LoweredBy, ResizedTo}
 use Rattle.gap.specs.Promises.{Opens, Closes}
 use Rattle.sheet.specs.Kinds.{sizeIn, known, knownNumber, knownBytes, kindOf, payloadOf, Ranged}
-use Rattle.sheet.specs.Paper.{IsEdition, printed, values, given, Allowed, digits, cellDigits, byteDigits}
+use Rattle.sheet.specs.Paper.{IsEdition, paperLine, values, given, Allowed, digits, cellDigits, byteDigits}
 use Rattle.sheet.specs.Frames.{Item}
 use Rattle.sheet.specs.Reader.{Edition, Turn, stop, next, Answer, refused, done, read}
 use Rattle.sheet.specs.Meaning.{Header, total, start, Whole, Is, Asks, effect, AtRecord, Newer, Applies, Accepted, Due, Holds}
@@ -36,29 +36,29 @@ use Rattle.sheet.specs.declared.Reading.{Reading}
 use Rattle.sheet.specs.declared.Added.{Added}
 
 -- what each edit makes of a bitmap, as sets of numbers: direction false is left, true is right; no numbers and no digits change nothing
-abbrev pub Means : Edit → Bits → Bits → Type 0
-Means (Set p) b s = WithBit p b s
-Means (Unset p) b s = WithoutBit p b s
-Means (SetRegion v p k) b s = (k ≡ 0 → s ≡ b) × ((k ≡ 0 → ⊥) → WithRegion p v k b s)
-Means (SetField p w v) b s = (w ≡ 0 → s ≡ b) × ((w ≡ 0 → ⊥) → WithField p v w b s)
-Means (Shift false k) b s = RaisedBy k b s
-Means (Shift true k) b s = LoweredBy k b s
-Means (Rotate false k) b s = (s .count ≡ b .count) × RotatedLeft k (64 * b .count) (b .members) (s .members)
-Means (Rotate true k) b s = (s .count ≡ b .count) × RotatedRight k (64 * b .count) (b .members) (s .members)
-Means (Resize n) b s = ResizedTo n b s
-Means Reverse b s = Reversed b s
-Means (ToggleRegion p k) b s = (k ≡ 0 → s ≡ b) × ((k ≡ 0 → ⊥) → FlippedFrom p k b s)
-Means (Open p k) b s = Opens p k b s
-Means (Close p k) b s = Closes p k b s
+abbrev pub Does : Edit → Bits → Bits → Type 0
+Does (Set p) b s = WithBit p b s
+Does (Unset p) b s = WithoutBit p b s
+Does (SetRegion v p k) b s = (k ≡ 0 → s ≡ b) × ((k ≡ 0 → ⊥) → WithRegion p v k b s)
+Does (SetField p w v) b s = (w ≡ 0 → s ≡ b) × ((w ≡ 0 → ⊥) → WithField p v w b s)
+Does (Shift false k) b s = RaisedBy k b s
+Does (Shift true k) b s = LoweredBy k b s
+Does (Rotate false k) b s = (s .count ≡ b .count) × RotatedLeft k (64 * b .count) (b .members) (s .members)
+Does (Rotate true k) b s = (s .count ≡ b .count) × RotatedRight k (64 * b .count) (b .members) (s .members)
+Does (Resize n) b s = ResizedTo n b s
+Does Reverse b s = Reversed b s
+Does (ToggleRegion p k) b s = (k ≡ 0 → s ≡ b) × ((k ≡ 0 → ⊥) → FlippedFrom p k b s)
+Does (Open p k) b s = Opens p k b s
+Does (Close p k) b s = Closes p k b s
 
 -- 6, exactly: a step in c words, whichever record asks for it, is done where the result that the edit means has space, and makes that one; where it has
 -- none, it is refused with 6
 pub record StepExact (n c : ℕ) (e : Edit) (b : Bits) : Type 0 where
-  pub done-is : (k : ℕ) (s : Bits) → (editionOf c n .step k e b ≡ next s) ↔ (Means e b s × (s .count ≤ c))
-  pub refused-is : (k : ℕ) (x : Refusal) → (editionOf c n .step k e b ≡ stop x) ↔ ((numberOf x ≡ 6) × (s : Bits) × Means e b s × (c < s .count))
+  pub done-is : (k : ℕ) (s : Bits) → (editionOf c n .step k e b ≡ next s) ↔ (Does e b s × (s .count ≤ c))
+  pub refused-is : (k : ℕ) (x : Refusal) → (editionOf c n .step k e b ≡ stop x) ↔ ((numberOf x ≡ 6) × (s : Bits) × Does e b s × (c < s .count))
   -- an edit means one result, with no member past its words
-  pub one : (s t : Bits) → Means e b s → Means e b t → s ≡ t
-  pub bounded : (s : Bits) → Means e b s → Bounded s
+  pub one : (s t : Bits) → Does e b s → Does e b t → s ≡ t
+  pub bounded : (s : Bits) → Does e b s → Bounded s
 
 -- in every edition and in a store that 1 lets pass, of every edit whose fields are in their ranges
 abbrev pub StepsExact : Type 0
@@ -66,25 +66,25 @@ StepsExact = (n c : ℕ) (e : Edit) (b : Bits) → c ≤ mostWords → Bounded b
 
 -- the line of an edit in 01's table: its kind, its bytes from its edition on, and the digits of its payload, the fields first and zeros for the unused bits
 pub record AsPrinted (e : Edit) : Type 0 where
-  pub kind : kindOf e ≡ printed e .kind
-  pub size : (n c : ℕ) → editionOf c n .size (printed e .kind) ≡ choose (leb (printed e .edition) n) (some (printed e .bytes)) none
-  pub ranges : Ranged e ↔ Allowed (printed e .fields)
-  pub bytes : (length (payloadOf e) ≡ printed e .bytes) × ((i : ℕ) → getD (payloadOf e) i 0 < 256)
+  pub kind : kindOf e ≡ paperLine e .kind
+  pub size : (n c : ℕ) → editionOf c n .size (paperLine e .kind) ≡ choose (leb (paperLine e .edition) n) (some (paperLine e .bytes)) none
+  pub ranges : Ranged e ↔ Allowed (paperLine e .fields)
+  pub bytes : (length (payloadOf e) ≡ paperLine e .bytes) × ((i : ℕ) → getD (payloadOf e) i 0 < 256)
   pub unused : ℕ
-  pub digits-are : Ranged e → byteDigits (payloadOf e) ≡ cellDigits (printed e .fields) ++ digits unused 0
+  pub digits-are : Ranged e → byteDigits (payloadOf e) ≡ cellDigits (paperLine e .fields) ++ digits unused 0
 
 -- the table of kinds is 01's, in every edition, and has no other kinds
 pub record TableAgrees : Type 0 where
   pub lines : (e : Edit) → AsPrinted e
-  pub others : (n c k m : ℕ) → editionOf c n .size k ≡ some m → (e : Edit) × (printed e .kind ≡ k)
+  pub others : (n c k m : ℕ) → editionOf c n .size k ≡ some m → (e : Edit) × (paperLine e .kind ≡ k)
 
 -- an edition has a kind: the table has a line of it, of that edition or an earlier one
 abbrev pub HasKind : ℕ → ℕ → Type 0
-HasKind n k = (e : Edit) × (printed e .kind ≡ k) × (printed e .edition ≤ n)
+HasKind n k = (e : Edit) × (paperLine e .kind ≡ k) × (paperLine e .edition ≤ n)
 
 -- `payload_bytes`: 0 and the bytes of the kind's line, or 13 exactly where the edition has none
 pub record KnownIn (n k : ℕ) (r : Known) : Type 0 where
-  pub bytes : (e : Edit) → printed e .kind ≡ k → printed e .edition ≤ n → (knownNumber r ≡ 0) × (knownBytes r ≡ printed e .bytes)
+  pub bytes : (e : Edit) → paperLine e .kind ≡ k → paperLine e .edition ≤ n → (knownNumber r ≡ 0) × (knownBytes r ≡ paperLine e .bytes)
   pub newer : ¬ HasKind n k → (knownNumber r ≡ 13) × (knownBytes r ≡ 0)
 
 abbrev pub KnownExact : Type 0
@@ -92,15 +92,15 @@ KnownExact = (n k : ℕ) → KnownIn n k (known (sizeIn n k))
 
 -- the plain sheet's edit of a kind has its fields where 01's table has them
 abbrev pub FieldsAgree : Type 0
-FieldsAgree = (k : ℕ) (f : Fields) → 1 ≤ k → k ≤ 11 → (printed (editFor k f) .kind ≡ k) × (values (printed (editFor k f) .fields) ≡ given k f)
+FieldsAgree = (k : ℕ) (f : Fields) → 1 ≤ k → k ≤ 11 → (paperLine (editFor k f) .kind ≡ k) × (values (paperLine (editFor k f) .fields) ≡ given k f)
 
 -- kind and payload are the edit's line in 01's table: values that its fields may have, its bytes, and the fields' digits in order, then zeros
 pub record Laid (kind : ℕ) (p : List ℕ) (e : Edit) : Type 0 where
-  pub kind-is : printed e .kind ≡ kind
-  pub ranged : Allowed (printed e .fields)
-  pub long : length p ≡ printed e .bytes
+  pub kind-is : paperLine e .kind ≡ kind
+  pub ranged : Allowed (paperLine e .fields)
+  pub long : length p ≡ paperLine e .bytes
   pub unused : ℕ
-  pub digits-are : byteDigits p ≡ cellDigits (printed e .fields) ++ digits unused 0
+  pub digits-are : byteDigits p ≡ cellDigits (paperLine e .fields) ++ digits unused 0
 
 -- 12: in every edition, a duty record of a kind that it has asks for an edit exactly where kind and payload are the layout of that edit; so a payload of
 -- another length, with an unused bit set or with a value out of its range asks for none
@@ -136,7 +136,7 @@ NamesNewer n sheet ws b res k =
     Passes n ws b res × AtRecord E sheet (fitting (spaceOf res) (held ws b)) k (Newer E sheet)
 
 -- an accepted sheet: its duty records' edits in order have made the bitmap that stands in the result store
-pub record Made (n : ℕ) (sheet ws : List ℕ) (b : Bitmap) (res : List ℕ) (k t : ℕ) (res' : List ℕ) : Type 0 where
+pub record MadeResult (n : ℕ) (sheet ws : List ℕ) (b : Bitmap) (res : List ℕ) (k t : ℕ) (res' : List ℕ) : Type 0 where
   pub passes : Passes n ws b res
   pub state : Bits
   pub accepted : Accepted (editionOf (spaceOf res) n) sheet (fitting (spaceOf res) (held ws b)) k state
@@ -150,7 +150,7 @@ pub record Made (n : ℕ) (sheet ws : List ℕ) (b : Bitmap) (res : List ℕ) (k
 -- what a reading answers and leaves, whatever it is given
 pub record ReadingMeans (n : ℕ) (sheet ws : List ℕ) (b : Bitmap) (res : List ℕ) (r : Reading) (res' : List ℕ) : Type 0 where
   -- (a): what an accepted reading has made
-  pub made : readingNumber r ≡ 0 → Made n sheet ws b res (readingRecord r) (readingCount r) res'
+  pub made : readingNumber r ≡ 0 → MadeResult n sheet ws b res (readingRecord r) (readingCount r) res'
   -- (c): number, record and word count, exactly where they are due
   pub exact : (x k t : ℕ) → ((readingNumber r ≡ x) × (readingRecord r ≡ k) × (readingCount r ≡ t)) ↔ Gets n sheet ws b res x k t
   -- the old bitmap, or 6 exactly where its count is above the result store
@@ -167,8 +167,8 @@ ReadsMean =
     (n : ℕ) (sheet ws : List ℕ) (b : Bitmap) (res : List ℕ) (r : Reading) (res' : List ℕ) → Reads n sheet ws b res r res' → ReadingMeans n sheet ws b res r res'
 
 -- two readings with one number, record and word count
-abbrev pub Alike : Reading → Reading → Type 0
-Alike r s = (readingNumber r ≡ readingNumber s) × (readingRecord r ≡ readingRecord s) × (readingCount r ≡ readingCount s)
+abbrev pub SameAnswer : Reading → Reading → Type 0
+SameAnswer r s = (readingNumber r ≡ readingNumber s) × (readingRecord r ≡ readingRecord s) × (readingCount r ≡ readingCount s)
 
 -- (b): two readings of one sheet and old bitmap, into stores of one size, of equal words where 1 or 2 applies: the earlier edition gives the later's
 -- answer and words, or names a newer kind
@@ -177,7 +177,7 @@ KeepsMeaning =
     (e f : ℕ) → IsEdition e → IsEdition f → e ≤ f → (sheet ws : List ℕ) (b : Bitmap) (res₁ res₂ : List ℕ) → length res₁ ≡ length res₂
     → ((x : ℕ) → Stops e ws b res₁ x → res₁ ≡ res₂) → (r₁ r₂ : Reading) (res₁' res₂' : List ℕ)
     → Reads e sheet ws b res₁ r₁ res₁' → Reads f sheet ws b res₂ r₂ res₂'
-    → (Alike r₁ r₂ × (res₁' ≡ res₂')) ⊎ ((readingNumber r₁ ≡ 13) × NamesNewer e sheet ws b res₁ (readingRecord r₁))
+    → (SameAnswer r₁ r₂ × (res₁' ≡ res₂')) ⊎ ((readingNumber r₁ ≡ 13) × NamesNewer e sheet ws b res₁ (readingRecord r₁))
 
 -- of any edition, whatever its edits and states: a reading gives the answer that is due, and no other
 abbrev pub ReadExact : Type 1
@@ -219,7 +219,7 @@ RequestGets (remark k p) x = RemarkGets k p x
 
 -- the bytes of the payload asked for; of a duty record those of its line in 01's table
 abbrev pub bytesAsked : Request → ℕ
-bytesAsked (duty k f) = printed (editFor k f) .bytes
+bytesAsked (duty k f) = paperLine (editFor k f) .bytes
 bytesAsked (remark k p) = length p
 
 -- what an addition to the first len bytes of the buffer answers, number and length: 2, then the sheet's faults, then the request's, then 6
@@ -233,7 +233,7 @@ pub data AddGets (buf : List ℕ) (len : ℕ) (q : Request) (x n : ℕ) : Type 0
       → total (take len buf) < 65_535 → len + 3 + bytesAsked q ≤ length buf → x ≡ 0 → n ≡ len + 3 + bytesAsked q → AddGets buf len q x n
 
 -- a refused call changes nothing, and the bytes past the new sheet are untouched
-pub record Leaves (buf : List ℕ) (r : Added) (buf' : List ℕ) : Type 0 where
+pub record LeavesRest (buf : List ℕ) (r : Added) (buf' : List ℕ) : Type 0 where
   pub kept : 0 < addedNumber r → buf' ≡ buf
   pub long : length buf' ≡ length buf
   pub past : addedNumber r ≡ 0 → drop (addedLength r) buf' ≡ drop (addedLength r) buf
@@ -255,7 +255,7 @@ pub record Grows (sheet : List ℕ) (q : Request) (sheet' : List ℕ) : Type 0 w
 -- what an addition answers and leaves, whatever it is given
 pub record AddMeans (buf : List ℕ) (len : ℕ) (q : Request) (r : Added) (buf' : List ℕ) : Type 0 where
   pub exact : (x n : ℕ) → ((addedNumber r ≡ x) × (addedLength r ≡ n)) ↔ AddGets buf len q x n
-  pub leaves : Leaves buf r buf'
+  pub leaves : LeavesRest buf r buf'
   pub grows : addedNumber r ≡ 0 → Grows (take len buf) q (take (addedLength r) buf')
 
 -- `add` asks for a duty record by its kind and fields, or for a remark by its kind and payload; what is not its own is ignored
@@ -285,7 +285,7 @@ pub data StartGets (buf : List ℕ) (x n : ℕ) : Type 0 where
 -- it leaves a sheet of no records
 pub record StartMeans (buf : List ℕ) (r : Added) (buf' : List ℕ) : Type 0 where
   pub exact : (x n : ℕ) → ((addedNumber r ≡ x) × (addedLength r ≡ n)) ↔ StartGets buf x n
-  pub leaves : Leaves buf r buf'
+  pub leaves : LeavesRest buf r buf'
   pub empty : addedNumber r ≡ 0 → Holding (take 4 buf') []
 
 abbrev pub StartsMean : Type 0

@@ -11,7 +11,7 @@ use Rattle.storage.specs.Stores.{Bits, Outcome, refused, done, Space, Op, noWor
 use Rattle.storage.specs.declared.Bitmap.{Bitmap}
 use Rattle.storage.specs.declared.Refusal.{Refusal}
 use Rattle.storage.specs.declared.Refusal.the-variants.{NoSpace, NoEdition}
-use Rattle.bits.specs.Bits.{reversing}
+use Rattle.bits.specs.Bitwise.{reversing}
 use Rattle.shift.specs.Shifts.{rotatingLeft, rotatingRight}
 use Rattle.bitmap.specs.Bitmaps.{setting, unsetting, settingRegion, settingField}
 use Rattle.shape.specs.Shapes.{togglingRegion, raising, lowering, resizing}
@@ -37,13 +37,13 @@ step (ToggleRegion p k) = togglingRegion p k
 step (Open p k) = opening p k
 step (Close p k) = closing p k
 
-abbrev pub made : Outcome → Turn Bits
-made (Outcome.refused e) = stop e
-made (Outcome.done s) = next s
+abbrev pub turnOf : Outcome → Turn Bits
+turnOf (Outcome.refused e) = stop e
+turnOf (Outcome.done s) = next s
 
 -- an edition of the table, on bitmaps in the space c: a step goes by its edit alone, whichever record asks for it
 unfoldable pub editionOf : Space → ℕ → Edition Edit Bits
-editionOf c n = record { size = sizeIn n; rule = ruleOf; step = λ k e b. made (step e c b) }
+editionOf c n = record { size = sizeIn n; rule = ruleOf; step = λ k e b. turnOf (step e c b) }
 
 -- the editions there are
 abbrev pub latest : ℕ

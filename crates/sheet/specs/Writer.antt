@@ -96,15 +96,15 @@ unfoldable pub started : List ℕ → Left
 started buf = choose (ltb (length buf) 4) (refuse NoSpace buf) (record { answer = Done 4; buffer = sets buf 0 (78 ∷ 83 ∷ 0 ∷ 0 ∷ []) })
 
 -- the buffer with R raised
-abbrev pub raised : List ℕ → List ℕ
-raised buf = sets buf 2 (bytes 2 (countIn buf + 1))
+abbrev pub countRaised : List ℕ → List ℕ
+countRaised buf = sets buf 2 (bytes 2 (countIn buf + 1))
 
 -- the record goes to the end and R rises; 6 where there are the most already or the buffer is too short
 unfoldable pub placed : List ℕ → ℕ → Entry → Left
 unfolding bytesOf
 placed buf len e =
     let end = len + length (bytesOf e) in
-    let put : Left = record { answer = Done end; buffer = sets (raised buf) len (bytesOf e) } in
+    let put : Left = record { answer = Done end; buffer = sets (countRaised buf) len (bytesOf e) } in
     choose (leb most (countIn buf) || ltb (length buf) end) (refuse NoSpace buf) put
 
 abbrev pub placedBy : List ℕ → ℕ → Checked → Left

@@ -7,7 +7,7 @@ use native.Mathlib.Omega.{arith}
 use borrow.Author.Tests.{lt-ltb}
 use lib.ListN.{length, take, drop}
 use lib.Seq.{length-take-le}
-use Rattle.word.specs.Bits.{member, wordsOf}
+use Rattle.word.specs.Places.{member, wordsOf}
 use Rattle.storage.specs.Stores.{done, Op, spaceOf, view, held, Changes}
 use Rattle.storage.specs.Guards.{Passed}
 use Rattle.storage.specs.declared.Bitmap.{Bitmap}

@@ -7,10 +7,10 @@ use native.Mathlib.Omega.{arith}
 use borrow.Author.Tests.{lt-ltb, le-ltb, le-leb, lt-leb}
 use lib.ListN.{length, getD, set, length-set}
 use Rattle.word.specs.Sets.{choose}
-use Rattle.word.specs.Bits.{bit, wordOf, member, wordsOf}
+use Rattle.word.specs.Places.{bit, wordOf, member, wordsOf}
 use Rattle.word.specs.Words.{funneled, pairBit}
 use Rattle.word.proofs.Cases.{by-lt}
-use Rattle.word.proofs.Bits.{bit-zero, pack-is}
+use Rattle.word.proofs.Places.{bit-zero, pack-is}
 use Rattle.word.proofs.Words.{from-place}
 use Rattle.word.proofs.Lists.{Fit, past, tab-is, member-at, member-past}
 use Rattle.word.proofs.Sweep.{Swept, sweep-none, sweep-to, sweep-down, sweep-up}

@@ -8,13 +8,14 @@ use native.Mathlib.Omega.{arith}
 use borrow.Author.Tests.{lt-ltb, le-ltb, ltb-true}
 use lib.Dec.{ltb}
 use lib.ListN.{length}
-use Rattle.word.specs.Bits.{member, wordsOf}
+use Rattle.word.specs.Places.{member, wordsOf}
 use Rattle.word.proofs.Cases.{by-lt, and-true}
 use Rattle.word.proofs.Lists.{member-past, member-words, length-words}
+use Rattle.word.specs.Promises.{MovesWords}
 use Rattle.storage.specs.Stores.{Bits, Bounded, done, Op}
-use Rattle.storage.proofs.Outcomes.{same, never, sound-done}
+use Rattle.storage.proofs.Outcomes.{same, never, contained-done}
 use Rattle.shift.specs.Shifts.{movedUp, movedDown, turnedUp, turnedDown, kept, shiftingLeft, shiftingRight, rotatingLeft, rotatingRight}
-use Rattle.shift.specs.Promises.{Moves, MovesWords, ShiftedLeft, ShiftsLeft, LeftWordsMeans, ShiftedRight, ShiftsRight, RightWordsMeans}
+use Rattle.shift.specs.Promises.{Moves, ShiftedLeft, ShiftsLeft, LeftWordsMeans, ShiftedRight, ShiftsRight, RightWordsMeans}
 use Rattle.shift.specs.Promises.{RotatedLeft, RotatesLeft, TurnLeftMeans, RotatedRight, RotatesRight, TurnRightMeans, Rotations}
 use Rattle.shift.proofs.Rings.{there, back, turned-from}
 use Rattle.shift.proofs.Moves.{moved-up, moved-in}
@@ -49,7 +50,7 @@ kept-moves : (op : Op) (f : Bits → ℕ → Bool) (rule : ℕ → (ℕ → Bool
     → ((b : Bits) → Bounded b → rule (64 * b .count) (b .members) (kept (f b) b .members)) → Moves op rule
 kept-moves op f rule e r = record {
   made = λ c b s q h. subst (λ (x : Bits). (x .count ≡ b .count) × rule (64 * b .count) (b .members) (x .members)) (same (sym (e c b) ∙ q)) (refl, r b h);
-  sound = sound-done op (λ b. kept (f b) b) e (λ b. omega arith) (λ b h. record { past = past-it (f b) b });
+  contained = contained-done op (λ b. kept (f b) b) e (λ b. omega arith) (λ b h. record { past = past-it (f b) b });
   why = λ c b x q. never (sym (e c b) ∙ q);
 }
 

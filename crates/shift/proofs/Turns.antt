@@ -8,10 +8,10 @@ use native.Mathlib.Nat.{mod-lt, mod-eq-of-lt, mod-self, mod-add-mod, add-mod-mod
 use native.Mathlib.Omega.{arith}
 use lib.Arith.{mod-mul}
 use lib.ListN.{length, getD, set}
-use Rattle.word.specs.Bits.{bit, wordOf, member, wordsOf}
+use Rattle.word.specs.Places.{bit, wordOf, member, wordsOf}
 use Rattle.word.specs.Words.{funneled}
 use Rattle.word.proofs.Cases.{by-lt, by-eq}
-use Rattle.word.proofs.Bits.{bit-pack}
+use Rattle.word.proofs.Places.{bit-pack}
 use Rattle.word.proofs.Lists.{Fit, tab-is, words-is, length-words, word-at, words-fit, member-at, member-words}
 use Rattle.word.proofs.Sweep.{Swept, sweep-to, sweep-up, sweep-down}
 use Rattle.shift.specs.Shifts.{turnedUp, turnedDown}

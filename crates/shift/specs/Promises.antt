@@ -2,9 +2,7 @@
 use Prim.Native.Nat.{ℕ, _+_, _-_, _*_, _%_, _≤_, _<_}
 use mathlib.Core.Path.{_≡_}
 use mathlib.Core.Bool.{Bool, true, false}
-use mathlib.Core.List.{List}
-use lib.ListN.{length}
-use Rattle.word.specs.Bits.{member, wordsOf}
+use Rattle.word.specs.Promises.{MovesWords}
 use Rattle.storage.specs.Stores.{Bits, Bounded, done, Op}
 use Rattle.storage.specs.Promises.{Meets, Never, MeetsExactly}
 use Rattle.shift.specs.Shifts.{movedUp, movedDown, turnedUp, turnedDown, shiftingLeft, shiftingRight, rotatingLeft, rotatingRight}
@@ -12,12 +10,6 @@ use Rattle.shift.specs.Shifts.{movedUp, movedDown, turnedUp, turnedDown,
 -- whatever the capacity, the call is done, the count stays, and the rule holds of the length, the old set and the new one
 abbrev pub Moves : Op → (ℕ → (ℕ → Bool) → (ℕ → Bool) → Type 0) → Type 0
 Moves op rule = Meets op (λ c b s. Bounded b → (s .count ≡ b .count) × rule (64 * b .count) (b .members) (s .members)) Never
-
--- of words as they are: their number stays, and the rule holds of the length, the old set and the new one
-abbrev pub MovesWords : (ℕ → (ℕ → Bool) → ℕ → Bool) → (ℕ → (ℕ → Bool) → (ℕ → Bool) → Type 0) → Type 0
-MovesWords f rule =
-    (ws ws' : List ℕ) → ws' ≡ wordsOf (f (64 * length ws) (member ws)) (length ws)
-    → (length ws' ≡ length ws) × rule (64 * length ws) (member ws) (member ws')
 
 -- a member i goes to i + k where that is below the length, and nothing else is a member
 pub record ShiftedLeft (k len : ℕ) (old new : ℕ → Bool) : Type 0 where

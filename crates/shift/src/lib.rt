@@ -7,7 +7,7 @@ use word::Word;
 ghost use mathlib.Core.Path.{_≡_};
 ghost use Prim.Native.Nat.{_*_, _<_};
 ghost use lib.ListN.{length};
-ghost use Rattle.word.specs.Bits.{member, wordsOf};
+ghost use Rattle.word.specs.Places.{member, wordsOf};
 ghost use Rattle.storage.specs.Stores.{Changes};
 ghost use Rattle.shift.specs.Shifts.{
   movedUp,

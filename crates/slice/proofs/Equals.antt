@@ -1,8 +1,8 @@
 -- Two bitmaps have the same members exactly where their words agree after trailing zero words are dropped. Assumes nothing.
-use mathlib.Core.Path.{_≡_, refl, sym, ap, _∙_}
+use mathlib.Core.Path.{_≡_, refl, sym, ap, ap₂, _∙_}
 use mathlib.Core.Bool.{Bool, true, false, not, false≢true, true≢false}
 use mathlib.Core.List.{List}
-use Prim.Native.Nat.{ℕ, _*_, _/_, _%_, _≤_, _<_, max}
+use Prim.Native.Nat.{ℕ, _*_, _/_, _%_, _≤_}
 use native.Mathlib.Nat.{le-antisymm}
 use native.Mathlib.Omega.{arith}
 use lib.ListN.{length, getD, take}
@@ -10,28 +10,24 @@ use lib.Seq.{getD-take, length-take-le}
 use lib.Dec.{eqb}
 use borrow.Author.Tests.{eq-eqb, eqb-true, not-false}
 use Rattle.word.specs.Sets.{xorb}
-use Rattle.word.specs.Bits.{bit, member}
-use Rattle.word.proofs.Cases.{by-lt, by-test}
-use Rattle.word.proofs.Sets.{count-none, count-empty, top}
+use Rattle.word.specs.Places.{bit, member}
+use Rattle.word.proofs.Cases.{by-lt, by-test, eqb-same}
+use Rattle.word.proofs.Sets.{top}
 use Rattle.word.proofs.Lists.{Fit, past, determined}
-use Rattle.arch.specs.Scans.{nonzeroLen}
+use Rattle.arch.specs.Scans.{Alike, nonzeroLen, isZero}
 use Rattle.arch.proofs.Scans.{nonzero-le}
+use Rattle.pairs.specs.Pairs.{wordsBy}
+use Rattle.pairs.specs.declared.SetOp.the-variants.{Xor}
+use Rattle.pairs.proofs.Tables.{by-length, by-fit, by-member}
+use Rattle.pairs.proofs.Scans.{zero-all}
 use Rattle.storage.specs.Stores.{Bits, Bounded, view, size, combined, trimmedCount}
+use Rattle.storage.specs.Kernels.{allWords}
+use Rattle.storage.proofs.Combined.{all-member, all-bounded, size-none, none-of-size, zero-words}
+use Rattle.storage.proofs.Outcomes.{bounded-combined}
 use Rattle.storage.proofs.Views.{view-part, bounded-view}
 use Rattle.storage.proofs.Trims.{trimmed-holds, trimmed-least, trimmed-view}
 use Rattle.slice.specs.Slices.{frontPart, equal}
-use Rattle.slice.specs.Kernels.{Tells}
 use Rattle.slice.proofs.Fields.{fit-part}
-
--- ---- no members at all
-
-pub size-none : (b : Bits) → ((i : ℕ) → i < 64 * b .count → b .members i ≡ false) → size b ≡ 0
-unfolding size
-size-none b h = count-none (b .members) (64 * b .count) h
-
-pub none-of-size : (b : Bits) → size b ≡ 0 → (i : ℕ) → i < 64 * b .count → b .members i ≡ false
-unfolding size
-none-of-size b e i l = count-empty (b .members) (64 * b .count) i e l
 
 -- ---- the same members
 
@@ -50,14 +46,16 @@ same-xor false false e = refl
 module _ (b o : Bits) where
   pub equal-of-same : ((i : ℕ) → b .members i ≡ o .members i) → equal b o ≡ true
   unfolding equal combined
-  equal-of-same h = eq-eqb (size (combined xorb b o)) 0 (size-none (combined xorb b o) (λ i l. xor-same (b .members i) (o .members i) (h i)))
+  equal-of-same h = eq-eqb (size (combined Xor b o)) 0 (size-none (combined Xor b o) (λ i. xor-same (b .members i) (o .members i) (h i)))
 
   pub same-of-equal : Bounded b → Bounded o → equal b o ≡ true → (i : ℕ) → b .members i ≡ o .members i
   unfolding equal combined
   same-of-equal bb bo e i =
-      by-lt i (64 * max (b .count) (o .count))
-      (λ l. same-xor (b .members i) (o .members i) (none-of-size (combined xorb b o) (eqb-true (size (combined xorb b o)) 0 e) i l))
-      (λ l. bb .past i (omega arith) ∙ sym (bo .past i (omega arith)))
+      same-xor (b .members i) (o .members i) (none-of-size (combined Xor b o) (bounded-combined Xor b o bb bo) (eqb-true (size (combined Xor b o)) 0 e) i)
+
+-- words that agree up to their common length are the same
+pub none-differ : (xs ys : List ℕ) (i : ℕ) → length xs ≡ length ys → length xs ≤ i → Alike (wordsBy Xor xs ys) 0 0 i → true ≡ isZero (wordsBy Xor xs ys)
+none-differ xs ys i e h s = zero-all (wordsBy Xor xs ys) (record { at = λ k p q. s .at k p (omega (arith, by-length Xor xs ys)) })
 
 -- ---- the front part of the words
 
@@ -117,17 +115,33 @@ module _ (ws os : List ℕ) (n m : ℕ) (hn : n ≤ length ws) (hm : m ≤ lengt
       (λ i.
       front-member (take n ws) i ∙ sym (view-part ws n i hn) ∙ h i ∙ view-part os m i hm ∙ sym (front-member (take m os) i))
 
-  pub equal-is : (t : Bool) (xs ys : List ℕ) → Fit ws → Fit os → xs ≡ frontPart (take n ws) → ys ≡ frontPart (take m os) → Tells t (xs ≡ ys)
-      → t ≡ equal (view ws n) (view os m)
-  equal-is t xs ys f g ex ey tells =
-      by-test t
-      (λ e. e ∙ sym (equal-of-same (view ws n) (view os m) (same-of-front (sym ex ∙ tells .only e ∙ ey))))
-      (λ e.
-      by-test (equal (view ws n) (view os m))
-      (λ q.
-      absurd
-      (false≢true
-      (sym e
-      ∙ tells .always
-      (ex ∙ front-of-same f g (same-of-equal (view ws n) (view os m) (bounded-view ws n) (bounded-view os m) q) ∙ sym ey))))
-      (λ q. e ∙ sym q))
+  module _ (xs ys : List ℕ) (ex : xs ≡ frontPart (take n ws)) (ey : ys ≡ frontPart (take m os)) where
+    -- where the front parts have another length
+    pub equal-not : Fit ws → Fit os → (length xs ≡ length ys → ⊥) → false ≡ equal (view ws n) (view os m)
+    equal-not f g d =
+        by-test (equal (view ws n) (view os m))
+        (λ e. absurd (d (ap length (ex ∙ front-of-same f g (same-of-equal (view ws n) (view os m) (bounded-view ws n) (bounded-view os m) e) ∙ sym ey))))
+        sym
+
+    -- the words that differ are those of the numbers of one only
+    differing : (i : ℕ) → combined Xor (view ws n) (view os m) .members i ≡ allWords (wordsBy Xor xs ys) .members i
+    unfolding combined
+    differing i =
+        ap₂ xorb
+        (view-part ws n i hn ∙ sym (front-member (take n ws) i) ∙ ap (λ (l : List ℕ). member l i) (sym ex))
+        (view-part os m i hm ∙ sym (front-member (take m os) i) ∙ ap (λ (l : List ℕ). member l i) (sym ey))
+        ∙ sym (all-member (wordsBy Xor xs ys) i ∙ by-member Xor xs ys i)
+
+    pub equal-is : isZero (wordsBy Xor xs ys) ≡ equal (view ws n) (view os m)
+    unfolding equal
+    equal-is =
+        zero-words (wordsBy Xor xs ys) (by-fit Xor xs ys)
+        ∙ eqb-same (size words) 0 (size set) 0
+        (λ e. size-none set (λ i. differing i ∙ none-of-size words (all-bounded (wordsBy Xor xs ys)) e i))
+        (λ e. size-none words (λ i. sym (differing i) ∙ none-of-size set (bounded-combined Xor (view ws n) (view os m) (bounded-view ws n) (bounded-view os m)) e i))
+      where
+        words : Bits
+        words = allWords (wordsBy Xor xs ys)
+
+        set : Bits
+        set = combined Xor (view ws n) (view os m)

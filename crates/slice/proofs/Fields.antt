@@ -12,11 +12,11 @@ use lib.Pow.{pow-mono}
 use lib.Dec.{eqb}
 use borrow.Author.Tests.{lt-ltb, le-ltb, ne-eqb}
 use Rattle.word.specs.Sets.{choose}
-use Rattle.word.specs.Bits.{isOne, bit, pack, member}
+use Rattle.word.specs.Places.{isOne, bit, pack, member}
 use Rattle.word.specs.Words.{lowMask, funneled, pairBit}
 use Rattle.word.specs.Promises.{FromPlace}
 use Rattle.word.proofs.Cases.{by-lt, and-false, and-keep}
-use Rattle.word.proofs.Bits.{bit-and, bit-past, bits-ext, pack-lt, bit-pack}
+use Rattle.word.proofs.Places.{bit-and, bit-past, bits-ext, pack-lt, bit-pack}
 use Rattle.word.proofs.Words.{bit-low-mask, low-mask-lt, from-place}
 use Rattle.word.proofs.Lists.{Fit, past, member-at}
 use Rattle.storage.specs.Stores.{Bits, view}

@@ -9,9 +9,9 @@ use lib.Pow.{pow-pos}
 use lib.Dec.{leb}
 use borrow.Author.Tests.{le-leb, lt-leb, leb-true}
 use Rattle.word.specs.Sets.{leastFrom, Least}
-use Rattle.word.specs.Bits.{bit}
+use Rattle.word.specs.Places.{bit}
 use Rattle.word.proofs.Cases.{by-lt, by-eq, and-true}
-use Rattle.word.proofs.Bits.{bit-zero, bit-from}
+use Rattle.word.proofs.Places.{bit-zero, bit-from}
 use Rattle.word.proofs.Sets.{least, least-is}
 use Rattle.word.proofs.Words.{least-bit}
 
@@ -30,8 +30,8 @@ pub record First (s : ℕ → Bool) (n i p : ℕ) : Type 0 where
   pub inside : p < 64 * n
 
 -- the places of x from place i mod 64 on: `(x >> r) << r`
-abbrev pub kept : ℕ → ℕ → ℕ
-kept x i = x / 2 ^ (i % 64) * 2 ^ (i % 64) % 2 ^ 64
+abbrev pub keptFirst : ℕ → ℕ → ℕ
+keptFirst x i = x / 2 ^ (i % 64) * 2 ^ (i % 64) % 2 ^ 64
 
 positive : (x : ℕ) → (x ≡ 0 → ⊥) → 0 < x
 positive x n = by-eq x 0 (λ e. absurd (n e)) (λ e. omega arith)
@@ -80,7 +80,7 @@ module _ (s : ℕ → Bool) (n i : ℕ) where
 module _ (s : ℕ → Bool) (w : ℕ → ℕ) (n : ℕ) (words : Words s w n) (i : ℕ) (inside : i / 64 < n) where
   -- the word of i without the places below i
   abbrev rest : ℕ
-  rest = kept (w (i / 64)) i
+  rest = keptFirst (w (i / 64)) i
 
   rest-bit : (j : ℕ) → j < 64 → bit rest j ≡ leb i (64 * (i / 64) + j) && s (64 * (i / 64) + j)
   rest-bit j l =

@@ -4,7 +4,6 @@ pub mod Firsts
 pub mod Fields
 pub mod Stricts
 pub mod Scans
-pub mod Eights
 pub mod Equals
 pub mod Promises
 pub mod Once

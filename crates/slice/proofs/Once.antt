@@ -8,7 +8,7 @@ use Rattle.storage.specs.Stores.{Bits}
 use Rattle.storage.specs.Promises.{OneEnd}
 use Rattle.storage.proofs.Once.{same-bits, by-region}
 use Rattle.storage.proofs.Promises.{once-exact}
-use Rattle.slice.specs.Slices.{fieldSetting}
+use Rattle.slice.specs.Slices.{settingFieldInside}
 use Rattle.slice.specs.Promises.{FieldWritten, FieldRefused, SetFieldStrictExact}
 use Rattle.slice.proofs.Promises.{set-field-strict}
 
@@ -39,4 +39,4 @@ strict-once i value width c b = record { result = one-written i value width b; n
     apart s k p l (inr q) = absurd (omega (arith, q .3, past s p (q .1)))
 
 pub set-field-strict-exact : SetFieldStrictExact
-set-field-strict-exact i value width = once-exact (fieldSetting i value width) _ _ (set-field-strict i value width) (λ c b h l k. strict-once i value width c b)
+set-field-strict-exact i value width = once-exact (settingFieldInside i value width) _ _ (set-field-strict i value width) (λ c b h l k. strict-once i value width c b)

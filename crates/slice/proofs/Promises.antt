@@ -9,9 +9,9 @@ use lib.ListN.{length, getD, take}
 use lib.Dec.{ltb, leb, eqb}
 use borrow.Author.Tests.{lt-ltb, le-ltb, le-leb, lt-leb, eq-eqb, ne-eqb, eqb-false, not-true, not-false}
 use Rattle.word.specs.Sets.{choose, val, countBelow, leastFrom, topBelow, Least, Top}
-use Rattle.word.specs.Bits.{bit, pack}
+use Rattle.word.specs.Places.{bit, pack}
 use Rattle.word.proofs.Cases.{by-lt, by-eq, and-false}
-use Rattle.word.proofs.Bits.{bit-past, bit-pack, pack-lt}
+use Rattle.word.proofs.Places.{bit-past, bit-pack, pack-lt}
 use Rattle.word.proofs.Sets.{count-ext, count-flat, counted, least, top}
 use Rattle.arch.specs.Scans.{nonzeroLen}
 use Rattle.storage.specs.Refusals.{numberOf, foundNumber, foundFlag, foundValue, fieldNumber, fieldValue, truthNumber, truthValue}
@@ -21,19 +21,20 @@ use Rattle.storage.specs.declared.Refusal.{Refusal}
 use Rattle.storage.specs.declared.Refusal.the-variants.{WidthOver, PastLength}
 use Rattle.storage.specs.declared.Found.{Found}
 use Rattle.storage.specs.declared.Found.the-variants.{At, Nothing}
-use Rattle.storage.specs.declared.Number.{Number}
-use Rattle.storage.specs.declared.Number.the-variants.{Is}
+use Rattle.storage.specs.declared.Amount.{Amount}
+use Rattle.storage.specs.declared.Amount.the-variants.{Is}
 use Rattle.storage.specs.declared.Field.{Field}
 use Rattle.storage.specs.declared.Field.the-variants.{Is, Refused}
 use Rattle.storage.specs.declared.Truth.{Truth}
 use Rattle.storage.specs.declared.Truth.the-variants.{Is, Refused}
+use Rattle.storage.proofs.Combined.{size-none, none-of-size}
 use Rattle.storage.proofs.Outcomes.{same, never, which}
 use Rattle.storage.proofs.Promises.{number-call, field-call, truth-call, found-call, both-means, tests, next-member}
-use Rattle.slice.specs.Slices.{frontPart, equal, fieldAt, withField, fieldSetting, lastSet, nextClear}
+use Rattle.slice.specs.Slices.{frontPart, equal, fieldAt, withField, settingFieldInside, lastSet, nextClear}
 use Rattle.slice.specs.Promises.{GetMeans, FieldDigits, GetFieldMeans, NextSetMeans, FirstSetMeans, LastMember, LastSetMeans, NextOther}
 use Rattle.slice.specs.Promises.{NextClearMeans, FirstClearMeans, EqMeans, EqualWords, FieldWritten, FieldRefused, SetFieldStrict, AllCounted}
 use Rattle.slice.specs.Promises.{CountSetBitsMeans, CountsMembers, TrimmedMeans}
-use Rattle.slice.proofs.Equals.{size-none, none-of-size, equal-of-same, same-of-equal, same-of-front, front-of-same, length-front, zero-past}
+use Rattle.slice.proofs.Equals.{equal-of-same, same-of-equal, same-of-front, front-of-same, length-front, zero-past}
 
 -- ---- what a call answers, from what it makes of a bitmap
 
@@ -89,7 +90,7 @@ pub last-set-means : LastSetMeans
 last-set-means = found-call lastSet LastMember last-member
 
 pub next-clear-means : NextClearMeans
-next-clear-means i = number-call (λ s. Number.Is (nextClear s i)) (λ b. Hands (NextOther b i)) (λ b bounded. (refl, next-other b bounded i))
+next-clear-means i = number-call (λ s. Amount.Is (nextClear s i)) (λ b. Hands (NextOther b i)) (λ b bounded. (refl, next-other b bounded i))
 
 pub first-clear-means : FirstClearMeans
 first-clear-means = next-clear-means 0
@@ -157,8 +158,8 @@ module _ (i value width : ℕ) (b : Bits) where
   -- the outcome by its two tests and the end of the field
   by-field : (c : ℕ) (P : Outcome → Type 0) → (64 < width → P (refused WidthOver)) → (width ≡ 0 → P (done b))
       → (0 < width → width ≤ 64 → 64 * b .count < i + width → P (refused PastLength))
-      → (0 < width → width ≤ 64 → i + width ≤ 64 * b .count → P (done (withField i value width b))) → P (fieldSetting i value width c b)
-  unfolding fieldSetting
+      → (0 < width → width ≤ 64 → i + width ≤ 64 * b .count → P (done (withField i value width b))) → P (settingFieldInside i value width c b)
+  unfolding settingFieldInside
   by-field c P wide none past inside =
       by-lt 64 width
       (λ h. rw (lt-ltb 64 width h) (wide h))
@@ -168,7 +169,7 @@ module _ (i value width : ℕ) (b : Bits) where
       (λ l. rw (le-ltb 64 width h, ne-eqb width 0 e, lt-ltb (64 * b .count) (i + width) l) (past (omega arith) h l))
       (λ l. rw (le-ltb 64 width h, ne-eqb width 0 e, le-ltb (64 * b .count) (i + width) l) (inside (omega arith) h l))))
 
-  field-made : (c : ℕ) (s : Bits) → fieldSetting i value width c b ≡ done s → FieldWritten i value width b s
+  field-made : (c : ℕ) (s : Bits) → settingFieldInside i value width c b ≡ done s → FieldWritten i value width b s
   field-made c s =
       by-field c (λ o. o ≡ done s → FieldWritten i value width b s)
       (λ h q. absurd (never (sym q)))
@@ -176,7 +177,7 @@ module _ (i value width : ℕ) (b : Bits) where
       (λ p h l q. absurd (never (sym q)))
       (λ p h l q. subst (FieldWritten i value width b) (same q) (written-inside p h l))
 
-  field-why : (c : ℕ) (e : Refusal) → fieldSetting i value width c b ≡ refused e → FieldRefused i width b (numberOf e)
+  field-why : (c : ℕ) (e : Refusal) → settingFieldInside i value width c b ≡ refused e → FieldRefused i width b (numberOf e)
   field-why c e =
       by-field c (λ o. o ≡ refused e → FieldRefused i width b (numberOf e))
       (λ h q. inl (sym (ap numberOf (which q)), h))
@@ -197,7 +198,7 @@ module _ (i value width : ℕ) (b : Bits) where
 pub set-field-strict : SetFieldStrict
 set-field-strict i value width = record {
   made = λ c b. field-made i value width b c;
-  sound = record {
+  contained = record {
     space = λ c b s h l q. omega (arith, field-made i value width b c s q .count);
     bound = λ c b s h l q. field-bounded i value width b s (field-made i value width b c s q) h;
   };
@@ -219,8 +220,8 @@ one-more s t p (suc m) l out has same =
 pub counts-members : CountsMembers
 unfolding size
 counts-members = record {
-  empty = λ b bounded e i. by-lt i (64 * b .count) (λ l. none-of-size b e i l) (λ l. bounded .past i l);
-  zero = λ b h. size-none b (λ i l. h i);
+  empty = none-of-size;
+  zero = size-none;
   more = λ b s p e l out has same.
       ap (λ (n : ℕ). countBelow (s .members) (64 * n)) e ∙ one-more (s .members) (b .members) p (64 * b .count) l out has same;
 }
@@ -228,7 +229,7 @@ counts-members = record {
 pub count-set-bits-means : CountSetBitsMeans
 unfolding size
 count-set-bits-means =
-    number-call (λ s. Number.Is (size s)) (λ b. Hands (AllCounted b))
+    number-call (λ s. Amount.Is (size s)) (λ b. Hands (AllCounted b))
     (λ b bounded. (refl, λ e h. counted (b .members) e (size b) (count-flat (b .members) (64 * b .count) e h (bounded .past))))
 
 -- ---- the front part

@@ -11,9 +11,9 @@ use lib.Pow.{ones-sub-lt}
 use lib.Dec.{ltb}
 use borrow.Author.Tests.{lt-ltb, le-ltb, eq-eqb, ne-eqb}
 use Rattle.word.specs.Sets.{choose, leastFrom, topBelow, Top}
-use Rattle.word.specs.Bits.{bit}
+use Rattle.word.specs.Places.{bit}
 use Rattle.word.specs.Words.{allOnes}
-use Rattle.word.proofs.Bits.{bit-not}
+use Rattle.word.proofs.Places.{bit-not}
 use Rattle.word.proofs.Sets.{least, top, top-is}
 use Rattle.word.proofs.Lists.{Fit}
 use Rattle.arch.specs.Scans.{Alike, firstOther, wordFound, nonzeroLen, countSet}
@@ -29,7 +29,7 @@ use Rattle.storage.proofs.Trims.{trimmed-view}
 use Rattle.storage.proofs.Sizes.{size-counted}
 use Rattle.slice.specs.Slices.{lastSet, nextClear}
 use Rattle.slice.proofs.Fields.{fit-part}
-use Rattle.slice.proofs.Firsts.{Words, First, kept, first-here, first-after, first-none}
+use Rattle.slice.proofs.Firsts.{Words, First, keptFirst, first-here, first-after, first-none}
 
 -- a count of trailing zeros
 pub zeros-le : (x z : ℕ) → z ≡ leastFrom (bit x) 0 64 → z ≤ 64
@@ -117,30 +117,30 @@ module _ (ws : List ℕ) (n i : ℕ) where
   clear-past h = let e : 64 * n - i ≡ 0 = omega arith in sym (ap (leastFrom (λ p. not (view ws n .members p)) i) e)
 
   module _ (f : Fit ws) (inside : i / 64 < n) where
-    pub set-here : (z : ℕ) → (kept (getD ws (i / 64) 0) i ≡ 0 → ⊥)
-        → z ≡ leastFrom (bit (kept (getD ws (i / 64) 0) i)) 0 64 → At (64 * (i / 64) + z) ≡ nextFrom (view ws n) i
+    pub set-here : (z : ℕ) → (keptFirst (getD ws (i / 64) 0) i ≡ 0 → ⊥)
+        → z ≡ leastFrom (bit (keptFirst (getD ws (i / 64) 0) i)) 0 64 → At (64 * (i / 64) + z) ≡ nextFrom (view ws n) i
     set-here z nz e = next-at (64 * (i / 64) + z) (first-here _ _ n (set-words ws n f) i inside z nz e)
 
-    pub clear-here : (z : ℕ) → (kept ((2 ^ 64 - 1) - getD ws (i / 64) 0) i ≡ 0 → ⊥)
-        → z ≡ leastFrom (bit (kept ((2 ^ 64 - 1) - getD ws (i / 64) 0) i)) 0 64
+    pub clear-here : (z : ℕ) → (keptFirst ((2 ^ 64 - 1) - getD ws (i / 64) 0) i ≡ 0 → ⊥)
+        → z ≡ leastFrom (bit (keptFirst ((2 ^ 64 - 1) - getD ws (i / 64) 0) i)) 0 64
         → 64 * (i / 64) + z ≡ nextClear (view ws n) i
     unfolding nextClear view
     clear-here z nz e = sym (first-here _ _ n (clear-words ws n f) i inside z nz e .is)
 
     module _ (long : n ≤ length ws) where
-      pub set-after : (p y z : ℕ) → kept (getD ws (i / 64) 0) i ≡ 0 → Other ws (i / 64 + 1) n 0 p y
+      pub set-after : (p y z : ℕ) → keptFirst (getD ws (i / 64) 0) i ≡ 0 → Other ws (i / 64 + 1) n 0 p y
           → z ≡ leastFrom (bit y) 0 64 → At (64 * (i / 64 + 1 + p) + z) ≡ nextFrom (view ws n) i
       set-after p y z none o e =
           next-at (64 * (i / 64 + 1 + p) + z)
           (first-after _ _ n (set-words ws n f) i inside none (i / 64 + 1 + p) (omega (arith, o .inside)) (o .before)
           z (o .inside) (omega arith) (λ q. o .other (o .word ∙ q)) (e ∙ ap (λ (x : ℕ). leastFrom (bit x) 0 64) (o .word)))
 
-      pub set-none : kept (getD ws (i / 64) 0) i ≡ 0
+      pub set-none : keptFirst (getD ws (i / 64) 0) i ≡ 0
           → ((m : ℕ) → i / 64 + 1 ≤ m → m < n → getD ws m 0 ≡ 0) → Nothing ≡ nextFrom (view ws n) i
       set-none none zeros =
           next-not (omega (arith, first-none _ _ n (set-words ws n f) i inside none n (omega arith) zeros (omega arith)))
 
-      pub clear-after : (p y z : ℕ) → kept ((2 ^ 64 - 1) - getD ws (i / 64) 0) i ≡ 0 → Other ws (i / 64 + 1) n allOnes p y
+      pub clear-after : (p y z : ℕ) → keptFirst ((2 ^ 64 - 1) - getD ws (i / 64) 0) i ≡ 0 → Other ws (i / 64 + 1) n allOnes p y
           → z ≡ leastFrom (bit ((2 ^ 64 - 1) - y)) 0 64 → 64 * (i / 64 + 1 + p) + z ≡ nextClear (view ws n) i
       unfolding nextClear view
       clear-after p y z none o e =
@@ -150,7 +150,7 @@ module _ (ws : List ℕ) (n i : ℕ) where
           z (o .inside) (omega arith) (λ q. o .other (omega (arith, o .word, f (i / 64 + 1 + p))))
           (e ∙ ap (λ (x : ℕ). leastFrom (bit ((2 ^ 64 - 1) - x)) 0 64) (o .word)) .is)
 
-      pub clear-none : kept ((2 ^ 64 - 1) - getD ws (i / 64) 0) i ≡ 0
+      pub clear-none : keptFirst ((2 ^ 64 - 1) - getD ws (i / 64) 0) i ≡ 0
           → ((m : ℕ) → i / 64 + 1 ≤ m → m < n → getD ws m 0 ≡ allOnes) → 64 * n ≡ nextClear (view ws n) i
       unfolding nextClear view
       clear-none none ones =

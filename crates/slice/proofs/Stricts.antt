@@ -12,10 +12,10 @@ use lib.Pow.{ones-sub-lt}
 use lib.Dec.{ltb, leb}
 use borrow.Author.Tests.{lt-ltb, le-ltb, le-leb, lt-leb, eq-eqb, ne-eqb}
 use Rattle.word.specs.Sets.{choose}
-use Rattle.word.specs.Bits.{bit}
+use Rattle.word.specs.Places.{bit}
 use Rattle.word.specs.Words.{lowMask}
 use Rattle.word.proofs.Cases.{by-lt, by-eq, and-false}
-use Rattle.word.proofs.Bits.{bit-and, bit-or, bit-not, bit-shr, bit-shl-mod, pack-lt, bit-pack, pack-is}
+use Rattle.word.proofs.Places.{bit-and, bit-or, bit-not, bit-shr, bit-shl-mod, pack-lt, bit-pack, pack-is}
 use Rattle.word.proofs.Words.{bit-low-mask}
 use Rattle.word.proofs.Lists.{Fit}
 use Rattle.word.proofs.Sweep.{getD-set}
@@ -26,7 +26,7 @@ use Rattle.storage.specs.declared.Refusal.the-variants.{WidthOver, PastLength}
 use Rattle.storage.specs.declared.Change.the-variants.{Done, Refused}
 use Rattle.storage.proofs.Views.{view-in}
 use Rattle.storage.proofs.Stores.{Stored, changes-refused, changes-done}
-use Rattle.slice.specs.Slices.{withField, fieldSetting}
+use Rattle.slice.specs.Slices.{withField, settingFieldInside}
 use Rattle.slice.specs.Kernels.{overlaid}
 
 -- ---- a word overlaid
@@ -227,33 +227,33 @@ module _ (ws : List ℕ) (n i value width : ℕ) where
       apart k (inr p) = (λ q. omega arith, λ q. omega arith)
 
 module _ (ws : List ℕ) (b : Bitmap) (i value width : ℕ) (p : Passed ws b) where
-  setting-wide : 64 < width → fieldSetting i value width (length ws) (view ws (b .count)) ≡ refused WidthOver
-  unfolding fieldSetting
+  setting-wide : 64 < width → settingFieldInside i value width (length ws) (view ws (b .count)) ≡ refused WidthOver
+  unfolding settingFieldInside
   setting-wide h = rw (lt-ltb 64 width h)
 
-  setting-none : width ≡ 0 → fieldSetting i value width (length ws) (view ws (b .count)) ≡ done (view ws (b .count))
-  unfolding fieldSetting
+  setting-none : width ≡ 0 → settingFieldInside i value width (length ws) (view ws (b .count)) ≡ done (view ws (b .count))
+  unfolding settingFieldInside
   setting-none h = rw (le-ltb 64 width (omega arith), eq-eqb width 0 h)
 
-  setting-past : 0 < width → width ≤ 64 → 64 * b .count < i + width → fieldSetting i value width (length ws) (view ws (b .count)) ≡ refused PastLength
-  unfolding fieldSetting view
+  setting-past : 0 < width → width ≤ 64 → 64 * b .count < i + width → settingFieldInside i value width (length ws) (view ws (b .count)) ≡ refused PastLength
+  unfolding settingFieldInside view
   setting-past pos wide h = rw (le-ltb 64 width wide, ne-eqb width 0 (omega arith), lt-ltb (64 * b .count) (i + width) h)
 
   pub setting-in : 0 < width → width ≤ 64 → i + width ≤ 64 * b .count
-      → fieldSetting i value width (length ws) (view ws (b .count)) ≡ done (withField i value width (view ws (b .count)))
-  unfolding fieldSetting view
+      → settingFieldInside i value width (length ws) (view ws (b .count)) ≡ done (withField i value width (view ws (b .count)))
+  unfolding settingFieldInside view
   setting-in pos wide h = rw (le-ltb 64 width wide, ne-eqb width 0 (omega arith), le-ltb (64 * b .count) (i + width) h)
 
-  pub refused-wide : 64 < width → Changes (fieldSetting i value width) ws b (Refused WidthOver b) ws
-  refused-wide h = changes-refused (fieldSetting i value width) ws b WidthOver p (setting-wide h)
+  pub refused-wide : 64 < width → Changes (settingFieldInside i value width) ws b (Refused WidthOver b) ws
+  refused-wide h = changes-refused (settingFieldInside i value width) ws b WidthOver p (setting-wide h)
 
-  pub refused-past : 0 < width → width ≤ 64 → 64 * b .count < i + width → Changes (fieldSetting i value width) ws b (Refused PastLength b) ws
-  refused-past pos wide h = changes-refused (fieldSetting i value width) ws b PastLength p (setting-past pos wide h)
+  pub refused-past : 0 < width → width ≤ 64 → 64 * b .count < i + width → Changes (settingFieldInside i value width) ws b (Refused PastLength b) ws
+  refused-past pos wide h = changes-refused (settingFieldInside i value width) ws b PastLength p (setting-past pos wide h)
 
-  pub done-none : Fit ws → width ≡ 0 → Changes (fieldSetting i value width) ws b (Done b) ws
+  pub done-none : Fit ws → width ≡ 0 → Changes (settingFieldInside i value width) ws b (Done b) ws
   unfolding view
   done-none f h =
-      changes-done (fieldSetting i value width) ws b ws (view ws (b .count)) (b .count) p (setting-none h)
+      changes-done (settingFieldInside i value width) ws b ws (view ws (b .count)) (b .count) p (setting-none h)
       (record {
         long = refl;
         fits = λ k l. f k;
@@ -265,14 +265,14 @@ module _ (ws : List ℕ) (b : Bitmap) (i value width : ℕ) (p : Passed ws b) wh
 
   -- the whole field is there
   module _ (f : Fit ws) (pos : 0 < width) (wide : width ≤ 64) (inside : i + width ≤ 64 * b .count) where
-    done-with : (ws' : List ℕ) → Stored ws (b .count) (withField i value width (view ws (b .count))) ws' → Changes (fieldSetting i value width) ws b (Done b) ws'
+    done-with : (ws' : List ℕ) → Stored ws (b .count) (withField i value width (view ws (b .count))) ws' → Changes (settingFieldInside i value width) ws b (Done b) ws'
     unfolding withField view
     done-with ws' s =
-        changes-done (fieldSetting i value width) ws b ws' (withField i value width (view ws (b .count))) (b .count) p (setting-in pos wide inside) s refl
+        changes-done (settingFieldInside i value width) ws b ws' (withField i value width (view ws (b .count))) (b .count) p (setting-in pos wide inside) s refl
 
     pub done-one : (ws' : List ℕ) (mask : ℕ) → i % 64 + width ≤ 64 → mask ≡ lowMask 64 width
         → ws' ≡ set ws (i / 64) (overlaid (getD ws (i / 64) 0) (value * 2 ^ (i % 64) % 2 ^ 64) (mask * 2 ^ (i % 64) % 2 ^ 64))
-        → Changes (fieldSetting i value width) ws b (Done b) ws'
+        → Changes (settingFieldInside i value width) ws b (Done b) ws'
     done-one ws' mask end em e =
         done-with ws'
         (field-one ws (b .count) i value width ws' f (omega arith) (p .inside) end
@@ -281,7 +281,7 @@ module _ (ws : List ℕ) (b : Bitmap) (i value width : ℕ) (p : Passed ws b) wh
     pub done-two : (ws1 ws' : List ℕ) (mask high : ℕ) → 64 < i % 64 + width → mask ≡ lowMask 64 width → high ≡ lowMask 64 (width - (64 - i % 64))
         → ws1 ≡ set ws (i / 64) (overlaid (getD ws (i / 64) 0) (value * 2 ^ (i % 64) % 2 ^ 64) (mask * 2 ^ (i % 64) % 2 ^ 64))
         → ws' ≡ set ws1 (i / 64 + 1) (overlaid (getD ws1 (i / 64 + 1) 0) (value / 2 ^ (64 - i % 64)) high)
-        → Changes (fieldSetting i value width) ws b (Done b) ws'
+        → Changes (settingFieldInside i value width) ws b (Done b) ws'
     done-two ws1 ws' mask high over em eh e1 e2 =
         done-with ws'
         (field-two ws (b .count) i value width ws1 ws' f (omega arith) (p .inside) over wide

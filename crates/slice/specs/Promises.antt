@@ -6,16 +6,16 @@ use mathlib.Core.List.{List}
 use mathlib.Core.Logic.{_↔_, _⊎_}
 use lib.ListN.{length, getD, take}
 use Rattle.word.specs.Sets.{Counted}
-use Rattle.word.specs.Bits.{bit}
+use Rattle.word.specs.Places.{bit}
 use Rattle.storage.specs.Refusals.{truthNumber, truthValue}
 use Rattle.storage.specs.Stores.{Bits, Bounded, view, held, readingBoth, size, nextFrom}
-use Rattle.storage.specs.Promises.{GuardedBoth, HandsNone, Hands, Tests, Finds, NextMember, NumberCall, FieldCall, TruthCall, FoundCall, Meets, MeetsExactly}
+use Rattle.storage.specs.Promises.{GuardedBoth, HandsNone, Hands, Tests, Finds, NextMember, AmountCall, FieldCall, TruthCall, FoundCall, Meets, MeetsExactly}
 use Rattle.storage.specs.declared.Bitmap.{Bitmap}
-use Rattle.storage.specs.declared.Number.{Number}
-use Rattle.storage.specs.declared.Number.the-variants.{Is}
+use Rattle.storage.specs.declared.Amount.{Amount}
+use Rattle.storage.specs.declared.Amount.the-variants.{Is}
 use Rattle.storage.specs.declared.Truth.{Truth}
 use Rattle.storage.specs.declared.Truth.the-variants.{Is, Refused}
-use Rattle.slice.specs.Slices.{frontPart, equal, fieldAt, fieldSetting, lastSet, nextClear}
+use Rattle.slice.specs.Slices.{frontPart, equal, fieldAt, settingFieldInside, lastSet, nextClear}
 
 -- `get`: 1 exactly where i is a member
 abbrev pub GetMeans : Type 0
@@ -55,10 +55,10 @@ pub record NextOther (b : Bits) (i p : ℕ) : Type 0 where
 
 -- `next_clear`, `first_clear`
 abbrev pub NextClearMeans : Type 0
-NextClearMeans = (i : ℕ) → NumberCall (λ s. Number.Is (nextClear s i)) (λ b. Hands (NextOther b i))
+NextClearMeans = (i : ℕ) → AmountCall (λ s. Amount.Is (nextClear s i)) (λ b. Hands (NextOther b i))
 
 abbrev pub FirstClearMeans : Type 0
-FirstClearMeans = NumberCall (λ s. Number.Is (nextClear s 0)) (λ b. Hands (NextOther b 0))
+FirstClearMeans = AmountCall (λ s. Amount.Is (nextClear s 0)) (λ b. Hands (NextOther b 0))
 
 -- `eq`: the second store after the first; 1 exactly where every number is a member of both or of neither
 abbrev pub EqMeans : Type 0
@@ -90,11 +90,11 @@ FieldRefused i width b k = ((k ≡ 3) × (64 < width)) ⊎ ((k ≡ 5) × (0 < wi
 
 -- `set_field_strict`
 abbrev pub SetFieldStrict : Type 0
-SetFieldStrict = (i value width : ℕ) → Meets (fieldSetting i value width) (λ c. FieldWritten i value width) (λ c. FieldRefused i width)
+SetFieldStrict = (i value width : ℕ) → Meets (settingFieldInside i value width) (λ c. FieldWritten i value width) (λ c. FieldRefused i width)
 
 -- and it is exact: done where there is a result as said, refused with 3 or 5 where its condition holds
 abbrev pub SetFieldStrictExact : Type 0
-SetFieldStrictExact = (i value width : ℕ) → MeetsExactly (fieldSetting i value width) (λ c. FieldWritten i value width) (λ c. FieldRefused i width)
+SetFieldStrictExact = (i value width : ℕ) → MeetsExactly (settingFieldInside i value width) (λ c. FieldWritten i value width) (λ c. FieldRefused i width)
 
 -- v members, at the length and from there on
 abbrev pub AllCounted : Bits → ℕ → Type 0
@@ -102,7 +102,7 @@ AllCounted b v = (e : ℕ) → 64 * b .count ≤ e → Counted (b .members) e v
 
 -- `count_set_bits`
 abbrev pub CountSetBitsMeans : Type 0
-CountSetBitsMeans = NumberCall (λ s. Number.Is (size s)) (λ b. Hands (AllCounted b))
+CountSetBitsMeans = AmountCall (λ s. Amount.Is (size s)) (λ b. Hands (AllCounted b))
 
 -- the size is 0 exactly where there is no member, and one more with each number that becomes one
 pub record CountsMembers : Type 0 where

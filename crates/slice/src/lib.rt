@@ -2,22 +2,25 @@
 //
 // A read past the end gives zeros. Each call looks at its store first: 1, then 2.
 use arch::FoundWord;
+use pairs::SetOp;
+use storage::Amount;
 use storage::Bitmap;
 use storage::Change;
 use storage::Field;
 use storage::Found;
 use storage::Guard;
-use storage::Number;
 use storage::Refusal;
 use storage::Truth;
 use word::Word;
 ghost use mathlib.Core.Path.{_≡_};
-ghost use mathlib.Core.Bool.{true};
 ghost use Prim.Native.Nat.{_+_, _≤_, _<_};
 ghost use lib.ListN.{length, getD, set};
+ghost use Rattle.arch.specs.Scans.{isZero};
+ghost use Rattle.pairs.specs.Pairs.{wordsBy};
+ghost use Rattle.pairs.specs.declared.SetOp.the-variants.{Xor};
 ghost use Rattle.storage.specs.Stores.{reading, readingBoth, size, nextFrom, Changes};
-ghost use Rattle.slice.specs.Slices.{frontPart, equal, fieldAt, fieldSetting, lastSet, nextClear};
-ghost use Rattle.slice.specs.Kernels.{Agree, Tells, overlaid};
+ghost use Rattle.slice.specs.Slices.{frontPart, equal, fieldAt, settingFieldInside, lastSet, nextClear};
+ghost use Rattle.slice.specs.Kernels.{overlaid};
 
 // The words without trailing zero words: the front part of the caller's words.
 pub fn trimmed(words: &[u64]) -> &[u64]
@@ -72,7 +75,7 @@ fn overlay(words: &mut [u64], k: usize, x: u64, mask: u64)
 
 // The bits from i on, below i + width, become the low bits of value. 3 over 64 bits; 5 if one of them is past the length, before anything is written.
 pub fn set_field_strict(words: &mut [u64], b: Bitmap, i: usize, value: u64, width: usize) -> Change
-    ensures { λ r. ⌜ Changes (fieldSetting i value width) (now (words .entry)) b r (now (words .exit)) ⌝ }
+    ensures { λ r. ⌜ Changes (settingFieldInside i value width) (now (words .entry)) b r (now (words .exit)) ⌝ }
 {
     let n = b.count;
     match storage::check(words, b) {
@@ -123,23 +126,23 @@ pub fn last_set(words: &[u64], b: Bitmap) -> Found
 }
 
 // The lowest clear bit; the length if every bit below it is set.
-pub fn first_clear(words: &[u64], b: Bitmap) -> Number
-    ensures { λ r. ⌜ r ≡ reading (now (words .entry)) b Number.Refused (λ s. Number.Is (nextClear s 0)) ⌝ }
+pub fn first_clear(words: &[u64], b: Bitmap) -> Amount
+    ensures { λ r. ⌜ r ≡ reading (now (words .entry)) b Amount.Refused (λ s. Amount.Is (nextClear s 0)) ⌝ }
 {
     next_clear(words, b, 0)
 }
 
 // The number of set bits.
-pub fn count_set_bits(words: &[u64], b: Bitmap) -> Number
-    ensures { λ r. ⌜ r ≡ reading (now (words .entry)) b Number.Refused (λ s. Number.Is (size s)) ⌝ }
+pub fn count_set_bits(words: &[u64], b: Bitmap) -> Amount
+    ensures { λ r. ⌜ r ≡ reading (now (words .entry)) b Amount.Refused (λ s. Amount.Is (size s)) ⌝ }
 {
     let n = b.count;
     match storage::check(words, b) {
-        Guard::Stop(e) => return Number::Refused(e),
+        Guard::Stop(e) => return Amount::Refused(e),
         Guard::Pass => {}
     }
     let count = arch::count_set_bits(&words[..n]);
-    Number::Is(count)
+    Amount::Is(count)
 }
 
 // The first set bit from i on: in the word of i by itself, then in the first word after it that is not zero.
@@ -167,70 +170,38 @@ pub fn next_set(words: &[u64], b: Bitmap, i: usize) -> Found
 }
 
 // The first clear bit from i on; from the length on that is i.
-pub fn next_clear(words: &[u64], b: Bitmap, i: usize) -> Number
-    ensures { λ r. ⌜ r ≡ reading (now (words .entry)) b Number.Refused (λ s. Number.Is (nextClear s i)) ⌝ }
+pub fn next_clear(words: &[u64], b: Bitmap, i: usize) -> Amount
+    ensures { λ r. ⌜ r ≡ reading (now (words .entry)) b Amount.Refused (λ s. Amount.Is (nextClear s i)) ⌝ }
 {
     let n = b.count;
     match storage::check(words, b) {
-        Guard::Stop(e) => return Number::Refused(e),
+        Guard::Stop(e) => return Amount::Refused(e),
         Guard::Pass => {}
     }
     let k = i / 64;
     if k >= n {
-        return Number::Is(i);
+        return Amount::Is(i);
     }
     let t = (!words[k] >> (i % 64)) << (i % 64);
     if t != 0 {
-        return Number::Is(64 * k + Word::trailing_zeros(t));
+        return Amount::Is(64 * k + Word::trailing_zeros(t));
     }
     let next = k + 1;
     match arch::first_not_ones(&words[next..n]) {
-        FoundWord::At(p, x) => Number::Is(64 * (next + p) + Word::trailing_zeros(!x)),
-        FoundWord::Nothing => Number::Is(64 * n),
+        FoundWord::At(p, x) => Amount::Is(64 * (next + p) + Word::trailing_zeros(!x)),
+        FoundWord::Nothing => Amount::Is(64 * n),
     }
 }
 
-// Some bit is set where one of the eight words from i on is another in b.
-fn differing_in_eight(a: &[u64], b: &[u64], i: usize) -> u64
-    requires { ⌜ (i + 8 ≤ length (now a)) × (i + 8 ≤ length (now b)) ⌝ }
-    ensures { λ r. ⌜ (r ≡ 0 → Agree (now (a .entry)) (now (b .entry)) i (i + 8)) ⌝ }
-{
-    (a[i] ^ b[i])
-        | (a[i + 1] ^ b[i + 1])
-        | (a[i + 2] ^ b[i + 2])
-        | (a[i + 3] ^ b[i + 3])
-        | (a[i + 4] ^ b[i + 4])
-        | (a[i + 5] ^ b[i + 5])
-        | (a[i + 6] ^ b[i + 6])
-        | (a[i + 7] ^ b[i + 7])
-}
-
-// How many words from the start agree, as far as eights tell.
-fn agreeing_eights(a: &[u64], b: &[u64]) -> usize
-    requires { ⌜ length (now a) ≡ length (now b) ⌝ }
-    ensures { λ r. ⌜ Agree (now (a .entry)) (now (b .entry)) 0 r ⌝ }
-{
-    let n = a.len();
-    let mut i = 0;
-    while n - i >= 8 {
-        if differing_in_eight(a, b, i) != 0 {
-            return i;
-        }
-        i += 8;
-    }
-    i
-}
-
-// Are the words the same? The lengths first, then eight words at a time.
+// Are the words the same, so that xor makes only zeros of them? `pairs::is_zero` tells it too; this is short enough for the compiler to take it into
+// `eq`, which is then faster where an early word differs.
 fn same_words(a: &[u64], b: &[u64]) -> bool
-    ensures { λ r. ⌜ Tells r (now (a .entry) ≡ now (b .entry)) ⌝ }
+    requires { ⌜ length (now a) ≡ length (now b) ⌝ }
+    ensures { λ r. ⌜ r ≡ isZero (wordsBy Xor (now (a .entry)) (now (b .entry))) ⌝ }
 {
-    if a.len() != b.len() {
-        return false;
-    }
-    let mut i = agreeing_eights(a, b);
+    let mut i = pairs::zero_eights(SetOp::Xor, a, b, 0);
     while i < a.len() {
-        if a[i] != b[i] {
+        if SetOp::Xor.word(a[i], b[i]) != 0 {
             return false;
         }
         i += 1;
@@ -250,5 +221,8 @@ pub fn eq(words: &[u64], b: Bitmap, other: &[u64], o: Bitmap) -> Truth
     }
     let x = trimmed(&words[..n]);
     let y = trimmed(&other[..m]);
+    if x.len() != y.len() {
+        return Truth::Is(false);
+    }
     Truth::Is(same_words(x, y))
 }

@@ -8,7 +8,7 @@ use lib.ListN.{length}
 use borrow.Author.Tests.{lt-ltb, le-ltb}
 use Rattle.word.proofs.Cases.{by-lt}
 use Rattle.storage.specs.Refusals.{numberOf}
-use Rattle.storage.specs.Stores.{Bits, refused, done, Space, Op, withCount, limit, checked, held, reading, readingBoth, beside, within}
+use Rattle.storage.specs.Stores.{Bits, refused, done, Space, Op, withCount, storeLimit, checked, held, reading, readingBoth, beside, within}
 use Rattle.storage.specs.Guards.{mostWords, Stopped, long, over, Passed, PassedTwo, PassedThree}
 use Rattle.storage.specs.declared.Bitmap.{Bitmap}
 use Rattle.storage.specs.declared.Refusal.{Refusal}
@@ -19,15 +19,15 @@ use Rattle.storage.specs.declared.Guard.the-variants.{Pass, Stop}
 module _ {A : Type 0} (ws : List ℕ) (b : Bitmap) (refuse : Refusal → A) (a : A) where
   pub checked-ok : Passed ws b → checked ws b refuse a ≡ a
   unfolding checked
-  checked-ok p = rw (le-ltb limit (length ws) (p .short), le-ltb (length ws) (b .count) (p .inside))
+  checked-ok p = rw (le-ltb storeLimit (length ws) (p .short), le-ltb (length ws) (b .count) (p .inside))
 
-  pub checked-long : limit < length ws → checked ws b refuse a ≡ refuse StoreTooLong
+  pub checked-long : storeLimit < length ws → checked ws b refuse a ≡ refuse StoreTooLong
   unfolding checked
-  checked-long h = rw (lt-ltb limit (length ws) h)
+  checked-long h = rw (lt-ltb storeLimit (length ws) h)
 
-  pub checked-over : length ws ≤ limit → length ws < b .count → checked ws b refuse a ≡ refuse CountOverStore
+  pub checked-over : length ws ≤ storeLimit → length ws < b .count → checked ws b refuse a ≡ refuse CountOverStore
   unfolding checked
-  checked-over h l = rw (le-ltb limit (length ws) h, lt-ltb (length ws) (b .count) l)
+  checked-over h l = rw (le-ltb storeLimit (length ws) h, lt-ltb (length ws) (b .count) l)
 
 -- 1 or 2 applies, or neither
 pub which-way : (ws : List ℕ) (b : Bitmap) → ((x : ℕ) × Stopped ws b x) ⊎ Passed ws b

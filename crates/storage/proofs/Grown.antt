@@ -10,10 +10,10 @@ use lib.Seq.{getD-append-add, getD-drop, getD-set-other, getD-take, length-take-
 use lib.Bits.{bitXor, xor-lt}
 use borrow.Author.Tests.{ne-eqb}
 use Rattle.word.specs.Sets.{xorb}
-use Rattle.word.specs.Bits.{bit, wordOf, member, wordsOf}
+use Rattle.word.specs.Places.{bit, wordOf, member, wordsOf}
 use Rattle.word.specs.Words.{single}
 use Rattle.word.proofs.Cases.{by-lt, by-eq, eqb-same, xor-false}
-use Rattle.word.proofs.Bits.{bit-xor, bit-pack}
+use Rattle.word.proofs.Places.{bit-xor, bit-pack}
 use Rattle.word.proofs.Words.{bit-single, single-lt}
 use Rattle.word.proofs.Lists.{Fit, at-place, member-at, member-past, word-none, length-words, word-at, words-fit}
 use Rattle.word.proofs.Sweep.{getD-set}

@@ -1,4 +1,3 @@
-pub mod Operations
 pub mod Checks
 pub mod Views
 pub mod Stores
@@ -7,4 +6,5 @@ pub mod Grown
 pub mod Sizes
 pub mod Outcomes
 pub mod Once
+pub mod Combined
 pub mod Promises

@@ -1,10 +1,11 @@
 -- Rules that make one result, with the conditions of refusal that most calls have. Assumes nothing.
 use mathlib.Core.Path.{_≡_, sym, ap, ap₂, _∙_, fun-ext}
 use mathlib.Core.Bool.{Bool, true, false≢true}
-use mathlib.Core.Logic.{_⊎_, inl, inr}
+use mathlib.Core.Logic.{_↔_}
 use Prim.Native.Nat.{ℕ, _+_, _≤_, _<_, max}
 use native.Mathlib.Omega.{arith}
 use Rattle.word.proofs.Cases.{by-lt, by-eq, by-test}
+use Rattle.pairs.specs.declared.SetOp.{SetOp}
 use Rattle.storage.specs.Stores.{Bits}
 use Rattle.storage.specs.Promises.{LeastCount, Combines, Unites, Never, Lacks, LacksResult, OneEnd}
 
@@ -33,18 +34,19 @@ fewest-of n f g k m e a b =
     omega (arith, a .least m (λ i l y. b .holds i l (sym (e i) ∙ y)), b .least k (λ i l y. a .holds i l (e i ∙ y)))
 
 -- set operations of two bitmaps
-pub one-combined : (f : Bool → Bool → Bool) (o b s t : Bits) → Combines f o b s → Combines f o b t → s ≡ t
-one-combined f o b s t p q =
-    let e : (i : ℕ) → s .members i ≡ t .members i = λ i. p .each i ∙ sym (q .each i) in
+
+-- two sets with the same condition for a member
+pub by-condition : {In : ℕ → Type 0} (f g : ℕ → Bool) → ((i : ℕ) → (f i ≡ true) ↔ In i) → ((i : ℕ) → (g i ≡ true) ↔ In i) → (i : ℕ) → f i ≡ g i
+by-condition f g p q = same-set f g (λ i y. q i .1 (p i .0 y)) (λ i y. p i .1 (q i .0 y))
+
+pub one-combined : (op : SetOp) (o b s t : Bits) → Combines op o b s → Combines op o b t → s ≡ t
+one-combined op o b s t p q =
+    let e : (i : ℕ) → s .members i ≡ t .members i = by-condition (s .members) (t .members) (p .each) (q .each) in
     same-bits e (fewest-of (max (b .count) (o .count)) (s .members) (t .members) (s .count) (t .count) e (p .count) (q .count))
 
 pub one-united : (o b s t : Bits) → Unites o b s → Unites o b t → s ≡ t
 one-united o b s t p q =
-    same-bits (same-set (s .members) (t .members) (λ i y. go t q i (p .only i y)) (λ i y. go s p i (q .only i y))) (p .count ∙ sym (q .count))
-  where
-    go : (t : Bits) → Unites o b t → (i : ℕ) → (b .members i ≡ true) ⊎ (o .members i ≡ true) → t .members i ≡ true
-    go t q i (inl y) = q .first i y
-    go t q i (inr y) = q .second i y
+    same-bits (by-condition (s .members) (t .members) (p .each) (q .each)) (p .count ∙ sym (q .count))
 
 -- ---- with the conditions that most calls have
 

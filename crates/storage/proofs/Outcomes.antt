@@ -1,16 +1,18 @@
 -- What an outcome tells, and operations whose results have space and hold no member past their words. Assumes nothing.
 use mathlib.Core.Path.{_≡_, refl, sym, ap, ap₂, _∙_, subst}
-use mathlib.Core.Bool.{Bool, false}
 use mathlib.Core.List.{List}
 use Prim.Native.Nat.{ℕ, _≤_, _<_}
 use native.Mathlib.Omega.{arith}
 use borrow.Author.Tests.{ne-eqb}
 use Rattle.word.specs.Sets.{xorb}
 use Rattle.word.proofs.Cases.{by-lt}
+use Rattle.pairs.specs.Pairs.{tableOf}
+use Rattle.pairs.specs.declared.SetOp.{SetOp}
+use Rattle.pairs.proofs.Tables.{none-none}
 use Rattle.storage.specs.Refusals.{numberOf}
 use Rattle.storage.specs.Stores.{Bits, Bounded, Outcome, refused, done, Space, Op, checked, held, beside, within, flipped, combined}
 use Rattle.storage.specs.Guards.{Passed}
-use Rattle.storage.specs.Promises.{Sound, Meets, Unchanged, Never}
+use Rattle.storage.specs.Promises.{Contained, Meets, Unchanged, Never}
 use Rattle.storage.specs.declared.Bitmap.{Bitmap}
 use Rattle.storage.specs.declared.Refusal.{Refusal}
 use Rattle.storage.proofs.Checks.{checked-ok, by-guard, within-ok, within-no, within-done}
@@ -46,21 +48,21 @@ bounded-flipped i b h = record { past = λ j l. ap₂ xorb (h .past j (omega ari
 
 -- ---- sound operations
 
-pub bounded-combined : (f : Bool → Bool → Bool) → f false false ≡ false → (b o : Bits) → Bounded b → Bounded o → Bounded (combined f b o)
+pub bounded-combined : (op : SetOp) (b o : Bits) → Bounded b → Bounded o → Bounded (combined op b o)
 unfolding combined
-bounded-combined f e b o h k = record { past = λ i l. ap₂ f (h .past i (omega arith)) (k .past i (omega arith)) ∙ e }
+bounded-combined op b o h k = record { past = λ i l. ap₂ (tableOf op) (h .past i (omega arith)) (k .past i (omega arith)) ∙ none-none op }
 
 -- a result and its space
-pub sound-within : (op : Op) (f : Bits → Bits) → ((c : Space) (b : Bits) → op c b ≡ within c (f b)) → ((b : Bits) → Bounded b → Bounded (f b)) → Sound op
-sound-within op f e g = record {
+pub contained-within : (op : Op) (f : Bits → Bits) → ((c : Space) (b : Bits) → op c b ≡ within c (f b)) → ((b : Bits) → Bounded b → Bounded (f b)) → Contained op
+contained-within op f e g = record {
   space = λ c b s h l q. let w = within-done c (f b) s (sym (e c b) ∙ q) in subst (λ (x : Bits). x .count ≤ c) (w .0) (w .1);
   bound = λ c b s h l q. let w = within-done c (f b) s (sym (e c b) ∙ q) in subst Bounded (w .0) (g b h);
 }
 
 -- a result of no more words than there were
-pub sound-done : (op : Op) (f : Bits → Bits) → ((c : Space) (b : Bits) → op c b ≡ done (f b)) → ((b : Bits) → f b .count ≤ b .count)
-    → ((b : Bits) → Bounded b → Bounded (f b)) → Sound op
-sound-done op f e k g = record {
+pub contained-done : (op : Op) (f : Bits → Bits) → ((c : Space) (b : Bits) → op c b ≡ done (f b)) → ((b : Bits) → f b .count ≤ b .count)
+    → ((b : Bits) → Bounded b → Bounded (f b)) → Contained op
+contained-done op f e k g = record {
   space = λ c b s h l q. subst (λ (x : Bits). x .count ≤ c) (same (sym (e c b) ∙ q)) (omega (arith, k b));
   bound = λ c b s h l q. subst Bounded (same (sym (e c b) ∙ q)) (g b h);
 }
@@ -69,14 +71,14 @@ sound-done op f e k g = record {
 pub meets-nothing : (op : Op) → ((c : ℕ) (b : Bits) → op c b ≡ done b) → Meets op Unchanged Never
 meets-nothing op e = record {
   made = λ c b s q. sym (same (sym (e c b) ∙ q));
-  sound = sound-done op (λ b. b) e (λ b. omega arith) (λ b h. h);
+  contained = contained-done op (λ b. b) e (λ b. omega arith) (λ b h. h);
   why = λ c b k q. never (sym (e c b) ∙ q);
 }
 
 -- a second bitmap, looked at after the first
-pub sound-beside : (os : List ℕ) (o : Bitmap) (op : Bits → Op) → ((o : Bits) → Bounded o → Sound (op o)) → Sound (beside os o op)
+pub contained-beside : (os : List ℕ) (o : Bitmap) (op : Bits → Op) → ((o : Bits) → Bounded o → Contained (op o)) → Contained (beside os o op)
 unfolding beside
-sound-beside os o op f = record {
+contained-beside os o op f = record {
   space = λ c b s h l q. f (held os o) (bounded-view os (o .count)) .space c b s h l (let-pass os o (op (held os o) c b) s q .0);
   bound = λ c b s h l q. f (held os o) (bounded-view os (o .count)) .bound c b s h l (let-pass os o (op (held os o) c b) s q .0);
 }

@@ -1,6 +1,6 @@
 -- The promises of specs/Promises. Assumes nothing.
 use mathlib.Core.Path.{_≡_, refl, sym, ap, ap₂, _∙_, subst}
-use mathlib.Core.Bool.{Bool, true, false, _&&_, _||_, false≢true}
+use mathlib.Core.Bool.{Bool, true, false, _&&_}
 use mathlib.Core.List.{List, [], _∷_}
 use mathlib.Core.Logic.{_⊎_, inl, inr}
 use Prim.Native.Nat.{ℕ, suc, _+_, _-_, _*_, _/_, _%_, _^_, _≤_, _<_, max}
@@ -9,20 +9,23 @@ use lib.ListN.{length, getD}
 use lib.Dec.{ltb, leb, eqb, eqb→eq}
 use borrow.Author.Tests.{lt-ltb, le-ltb, ltb-true, le-leb, leb-true}
 use Rattle.word.specs.Sets.{choose, leastFrom, Least}
-use Rattle.word.specs.Bits.{member}
-use Rattle.word.proofs.Cases.{by-lt, every-at, or-true, and-true}
+use Rattle.word.specs.Places.{member}
+use Rattle.word.proofs.Cases.{by-lt, every-at, and-true}
 use Rattle.word.proofs.Sets.{least, counted}
 use Rattle.word.proofs.Lists.{determined, at-place, member-at}
+use Rattle.pairs.specs.Pairs.{tableOf}
+use Rattle.pairs.specs.declared.SetOp.the-variants.{Or}
+use Rattle.pairs.proofs.Promises.{table-means}
 use Rattle.storage.specs.Refusals.{lastNumber, numberOf, changeNumber, changeRecord, guardNumber, foundNumber, foundFlag, foundValue}
-use Rattle.storage.specs.Refusals.{numberNumber, numberValue, fieldNumber, fieldValue, truthNumber, truthValue}
+use Rattle.storage.specs.Refusals.{amountNumber, amountValue, fieldNumber, fieldValue, truthNumber, truthValue}
 use Rattle.storage.specs.Stores.{Bits, Bounded, Outcome, refused, done, Space, Op, noWords, withCount, spaceOf, checked, view, held, beside}
 use Rattle.storage.specs.Stores.{reading, readingBoth, combined, written, answer, store, outcome, Leaves, foundBelow, nextFrom, size}
 use Rattle.storage.specs.Stores.{wordsFor}
 use Rattle.storage.specs.Guards.{Stopped, Passed}
 use Rattle.storage.specs.Promises.{EachNumberOnce, Guarded, CheckMeans, GuardedBoth, CheckTwoMeans}
-use Rattle.storage.specs.Promises.{CheckThreeMeans, RefusalKeeps, GrowMeans, WordsAndSets, SpaceRules, WrittenMeans, SpaceExact}
-use Rattle.storage.specs.Promises.{TrimmedCountMeans, CombinedMeans, UnitedMeans, AndNotMeans, SizeMeans, PlacesMean, HandsNone, FindsNone}
-use Rattle.storage.specs.Promises.{AnswersTell, Tests, Finds, NextMember, NextFromMeans, ReadingsMean, RecordsMean, NumberCall, FieldCall, TruthCall, FoundCall, Meets}
+use Rattle.storage.specs.Promises.{CheckThreeMeans, RefusalKeeps, ZeroWordsMean, WordsAndSets, SpaceRules, WrittenMeans, SpaceExact}
+use Rattle.storage.specs.Promises.{TrimmedCountMeans, CombinedMeans, UnitedMeans, SizeMeans, PlacesMean, HandsNone, FindsNone}
+use Rattle.storage.specs.Promises.{AnswersTell, Tests, Finds, NextMember, NextFromMeans, ReadingsMean, RecordsMean, AmountCall, FieldCall, TruthCall, FoundCall, Meets}
 use Rattle.storage.specs.Promises.{Kept, Made, Ends, EndsAs, ChangeMeans, MakeMeans, BesideMeans, OneEnd, Exactly, MeetsExactly, OnceExact}
 use Rattle.storage.specs.Promises.{Determines, DeterminesBeside, Chains}
 use Rattle.storage.specs.declared.Bitmap.{Bitmap}
@@ -31,8 +34,8 @@ use Rattle.storage.specs.declared.Refusal.the-variants.{StoreTooLong, Co
 use Rattle.storage.specs.declared.Refusal.the-variants.{NotAscii, NotSheet, CutRecord, BytesRemain, BadPayload, NewerKind, NoEdition}
 use Rattle.storage.specs.declared.Found.{Found}
 use Rattle.storage.specs.declared.Found.the-variants.{At, Nothing, Refused}
-use Rattle.storage.specs.declared.Number.{Number}
-use Rattle.storage.specs.declared.Number.the-variants.{Is, Refused}
+use Rattle.storage.specs.declared.Amount.{Amount}
+use Rattle.storage.specs.declared.Amount.the-variants.{Is, Refused}
 use Rattle.storage.specs.declared.Field.{Field}
 use Rattle.storage.specs.declared.Field.the-variants.{Is, Refused}
 use Rattle.storage.specs.declared.Truth.{Truth}
@@ -157,9 +160,9 @@ pub tests : (P : Type 0) (t : Bool) → (t ≡ true → P) → (P → t ≡ true
 tests P true f g = (refl, inl (refl, f refl))
 tests P false f g = (refl, inr (refl, λ p. let e : false ≡ true = g p in absurd (let z : _≡_ {A = ℕ} 0 1 = cc in omega arith)))
 
-pub number-call : (f : Bits → Number) (Rest : Bits → ℕ → ℕ → Type 0) → ((b : Bits) → Bounded b → Rest b (numberNumber (f b)) (numberValue (f b))) → NumberCall f Rest
+pub number-call : (f : Bits → Amount) (Rest : Bits → ℕ → ℕ → Type 0) → ((b : Bits) → Bounded b → Rest b (amountNumber (f b)) (amountValue (f b))) → AmountCall f Rest
 number-call f Rest =
-    reading-means Number.Refused f (λ r. HandsNone (numberNumber r) (numberValue r)) (λ b r. Rest b (numberNumber r) (numberValue r)) (λ e. (refl, refl))
+    reading-means Amount.Refused f (λ r. HandsNone (amountNumber r) (amountValue r)) (λ b r. Rest b (amountNumber r) (amountValue r)) (λ e. (refl, refl))
 
 pub field-call : (f : Bits → Field) (Rest : Bits → ℕ → ℕ → Type 0) → ((b : Bits) → Bounded b → Rest b (fieldNumber (f b)) (fieldValue (f b))) → FieldCall f Rest
 field-call f Rest =
@@ -298,8 +301,8 @@ leaves-ends op rule why meets ws ws' b r p l =
     subst (λ (n : ℕ). Ends (rule (length ws) s) (why (length ws) s) n ws (changeNumber r) (changeRecord r .count) ws') (sym (view-count ws (b .count)))
     (by-outcome (op (length ws) s)
     (λ t q. inl (leaves-made _ ws ws' b r t (rule (length ws) s) l q (p .inside)
-    (meets .sound .space (length ws) s t bound in-view q)
-    (meets .sound .bound (length ws) s t bound in-view q)
+    (meets .contained .space (length ws) s t bound in-view q)
+    (meets .contained .bound (length ws) s t bound in-view q)
     (meets .made (length ws) s t q)))
     (λ e q.
     let k = leaves-kept _ ws ws' b r e l q in
@@ -344,7 +347,7 @@ beside-means op rule why meets os ws ws' o b r l =
 pub once-exact : OnceExact
 once-exact op rule why meets once c b h l bound = record {
   done-is = λ s. (
-    (λ q. (meets .made c b s q, meets .sound .space c b s bound l q)),
+    (λ q. (meets .made c b s q, meets .contained .space c b s bound l q)),
     (λ r. by-outcome (op c b)
         (λ t q. q ∙ ap done (one .result t s (meets .made c b t q) (r .0)))
         (λ e q. absurd (one .apart s (numberOf e) (r .0) (r .1) (meets .why c b e q)))),
@@ -352,7 +355,7 @@ once-exact op rule why meets once c b h l bound = record {
   refused-is = λ k. (
     (λ r. subst (why c b) (r .2) (meets .why c b (r .0) (r .1))),
     (λ w. by-outcome (op c b)
-        (λ t q. absurd (one .apart t k (meets .made c b t q) (meets .sound .space c b t bound l q) w))
+        (λ t q. absurd (one .apart t k (meets .made c b t q) (meets .contained .space c b t bound l q) w))
         (λ e q. (e, q, one .number (numberOf e) k (meets .why c b e q) w))),
   );
 }
@@ -430,8 +433,8 @@ determines-beside op rule why exact os ws xs ys o b x y k m f g p q =
     s : Bits
     s = held os o
 
-pub grow-means : GrowMeans
-grow-means old new ws = record {
+pub zero-words-mean : ZeroWordsMean
+zero-words-mean old new ws = record {
   long = length-zeroed old new ws;
   zero = zeroed-in old new ws;
   below = λ k h. zeroed-out old new ws k (inl h);
@@ -442,25 +445,14 @@ grow-means old new ws = record {
 
 pub combined-fewest : CombinedMeans
 unfolding combined
-combined-fewest f b o = record { each = λ i. refl; count = least-count (λ i. f (b .members i) (o .members i)) (max (b .count) (o .count)) }
+combined-fewest op b o = record {
+  each = λ i. table-means op (b .members i) (o .members i);
+  count = least-count (λ i. tableOf op (b .members i) (o .members i)) (max (b .count) (o .count));
+}
 
 pub combined-either : UnitedMeans
 unfolding combined
-combined-either b o = record {
-  first = λ i t. ap (λ (x : Bool). x || o .members i) t;
-  second = λ i t. ap (λ (x : Bool). b .members i || x) t ∙ or-true (b .members i);
-  only = λ i t. either (b .members i) (o .members i) t;
-  count = refl;
-}
-  where
-    either : (x y : Bool) → x || y ≡ true → (x ≡ true) ⊎ (y ≡ true)
-    either true y t = inl refl
-    either false y t = inr t
-
-pub and-not-means : AndNotMeans
-and-not-means true true = ((λ e. absurd (false≢true e)), (λ h. sym (h .1)))
-and-not-means true false = ((λ e. (refl, refl)), (λ h. refl))
-and-not-means false q = ((λ e. absurd (false≢true e)), (λ h. h .0))
+combined-either b o = record { each = λ i. table-means Or (b .members i) (o .members i); count = refl }
 
 -- ---- calls in a row
 
@@ -472,13 +464,13 @@ accepted (done s) ws ws' b r l z = (s, refl, ap changeRecord (l .answers), l .le
 
 pub chains : Chains
 unfolding outcome
-chains op ws ws' b r sound l z =
+chains op ws ws' b r contained l z =
     let a = accepted (outcome op ws b) ws ws' b r l z in
     let s : Bits = a .0 in
     let p = let-pass ws b (op (spaceOf ws) (held ws b)) s (a .1) in
     let in-view : view ws (b .count) .count ≤ length ws = subst (λ (n : ℕ). n ≤ length ws) (sym (view-count ws (b .count))) (p .1 .inside) in
-    let room : s .count ≤ length ws = sound .space (length ws) (view ws (b .count)) s (bounded-view ws (b .count)) in-view (p .0) in
-    let bound : Bounded s = sound .bound (length ws) (view ws (b .count)) s (bounded-view ws (b .count)) in-view (p .0) in
+    let room : s .count ≤ length ws = contained .space (length ws) (view ws (b .count)) s (bounded-view ws (b .count)) in-view (p .0) in
+    let bound : Bounded s = contained .bound (length ws) (view ws (b .count)) s (bounded-view ws (b .count)) in-view (p .0) in
     let long : length ws' ≡ length ws = ap length (a .3) ∙ length-written ws (b .count) s in (
       s,
       record {

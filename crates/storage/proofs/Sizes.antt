@@ -6,7 +6,7 @@ use native.Mathlib.Omega.{arith}
 use lib.ListN.{length, take}
 use lib.Seq.{length-take-le}
 use Rattle.word.specs.Sets.{countBelow}
-use Rattle.word.specs.Bits.{member}
+use Rattle.word.specs.Places.{member}
 use Rattle.word.proofs.Sets.{count-ext}
 use Rattle.arch.specs.Scans.{countSet}
 use Rattle.arch.proofs.Promises.{count-is-whole}

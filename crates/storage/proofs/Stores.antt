@@ -10,9 +10,9 @@ use lib.Seq.{getD-append-add, getD-drop, getD-set-other, length-take-le}
 use lib.Dec.{ltb}
 use borrow.Author.Tests.{lt-ltb, le-ltb}
 use Rattle.word.specs.Sets.{choose}
-use Rattle.word.specs.Bits.{bit, wordOf, member, wordsOf}
+use Rattle.word.specs.Places.{bit, wordOf, member, wordsOf}
 use Rattle.word.proofs.Cases.{by-lt, by-eq}
-use Rattle.word.proofs.Bits.{bit-zero, bit-pack, pack-is, pack-lt}
+use Rattle.word.proofs.Places.{bit-zero, bit-pack, pack-is, pack-lt}
 use Rattle.word.proofs.Lists.{Fit, at-place, past, length-tab, tab-at, tab-is, length-words, word-at, words-fit}
 use Rattle.word.proofs.Sweep.{getD-set}
 use Rattle.arch.specs.Scans.{filledWords}

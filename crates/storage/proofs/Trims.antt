@@ -10,9 +10,9 @@ use lib.Seq.{length-take-le, getD-take}
 use lib.Dec.{eqb}
 use borrow.Author.Tests.{eqb-true, eqb-false, not-true, not-false}
 use Rattle.word.specs.Sets.{leastFrom, topBelow, Top}
-use Rattle.word.specs.Bits.{bit, wordOf, member}
+use Rattle.word.specs.Places.{bit, wordOf, member}
 use Rattle.word.proofs.Cases.{by-lt, by-eq, by-test}
-use Rattle.word.proofs.Bits.{bit-zero, bit-pack, pack-lt, pack-is}
+use Rattle.word.proofs.Places.{bit-zero, bit-pack, pack-lt, pack-is}
 use Rattle.word.proofs.Sets.{least, top}
 use Rattle.word.proofs.Words.{least-bit}
 use Rattle.word.proofs.Lists.{Fit, member-at, at-place}

@@ -7,7 +7,7 @@ use native.Mathlib.Omega.{arith}
 use lib.ListN.{length, getD, take}
 use lib.Seq.{getD-take, length-take-le}
 use borrow.Author.Tests.{lt-ltb, le-ltb}
-use Rattle.word.specs.Bits.{bit, member}
+use Rattle.word.specs.Places.{bit, member}
 use Rattle.word.proofs.Cases.{by-lt}
 use Rattle.word.proofs.Lists.{at-word, member-at, member-past}
 use Rattle.storage.specs.Stores.{Bounded, view}

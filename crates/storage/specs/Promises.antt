@@ -1,17 +1,20 @@
 -- What the definitions promise, in words of their own. Each is proved in proofs/Promises.
 use Prim.Native.Nat.{ℕ, suc, _+_, _*_, _≤_, _<_, _^_, max}
 use mathlib.Core.Path.{_≡_}
-use mathlib.Core.Bool.{Bool, true, false, _||_}
+use mathlib.Core.Bool.{Bool, true, false}
 use mathlib.Core.List.{List}
 use mathlib.Core.Logic.{_↔_, _⊎_}
 use lib.ListN.{length, getD}
 use Rattle.word.specs.Sets.{Counted}
-use Rattle.word.specs.Bits.{member}
+use Rattle.word.specs.Places.{member}
+use Rattle.pairs.specs.Promises.{ComesIn}
+use Rattle.pairs.specs.declared.SetOp.{SetOp}
+use Rattle.pairs.specs.declared.SetOp.the-variants.{Or}
 use Rattle.storage.specs.Guards.{mostWords, Stopped, Passed}
-use Rattle.storage.specs.Refusals.{lastNumber, numberOf, foundNumber, foundFlag, foundValue, numberNumber, numberValue, fieldNumber}
+use Rattle.storage.specs.Refusals.{lastNumber, numberOf, foundNumber, foundFlag, foundValue, amountNumber, amountValue, fieldNumber}
 use Rattle.storage.specs.Refusals.{fieldValue, truthNumber, truthValue, changeNumber, changeRecord, guardNumber}
 use Rattle.storage.specs.Stores.{Bits, Bounded, Outcome, refused, done, Space, Op, withCount, noWords, checked, view}
-use Rattle.storage.specs.Stores.{beside, reading, readingBoth, size, combined, andNot, nextFrom, within, upTo, inRegion, passes, wordsFor, trimmedCount, trimmed}
+use Rattle.storage.specs.Stores.{beside, reading, readingBoth, size, combined, nextFrom, within, upTo, inRegion, passes, wordsFor, trimmedCount, trimmed}
 use Rattle.storage.specs.Stores.{written, zeroed, Changes, Makes}
 use Rattle.storage.specs.declared.Bitmap.{Bitmap}
 use Rattle.storage.specs.declared.Refusal.{Refusal}
@@ -19,8 +22,8 @@ use Rattle.storage.specs.declared.Change.{Change}
 use Rattle.storage.specs.declared.Change.the-variants.{Done, Refused}
 use Rattle.storage.specs.declared.Found.{Found}
 use Rattle.storage.specs.declared.Found.the-variants.{At, Nothing, Refused}
-use Rattle.storage.specs.declared.Number.{Number}
-use Rattle.storage.specs.declared.Number.the-variants.{Is, Refused}
+use Rattle.storage.specs.declared.Amount.{Amount}
+use Rattle.storage.specs.declared.Amount.the-variants.{Is, Refused}
 use Rattle.storage.specs.declared.Field.{Field}
 use Rattle.storage.specs.declared.Field.the-variants.{Is, Refused}
 use Rattle.storage.specs.declared.Truth.{Truth}
@@ -77,9 +80,9 @@ pub record Zeroes (old new : ℕ) (ws ws' : List ℕ) : Type 0 where
   pub below : (k : ℕ) → k < old → getD ws' k 0 ≡ getD ws k 0
   pub above : (k : ℕ) → new ≤ k → getD ws' k 0 ≡ getD ws k 0
 
--- `grow`
-abbrev pub GrowMeans : Type 0
-GrowMeans = (old new : ℕ) (ws : List ℕ) → Zeroes old new ws (zeroed old new ws)
+-- `zero_words`
+abbrev pub ZeroWordsMean : Type 0
+ZeroWordsMean = (old new : ℕ) (ws : List ℕ) → Zeroes old new ws (zeroed old new ws)
 
 -- demand 2: words and sets determine each other
 pub record WordsAndSets : Type 0 where
@@ -115,27 +118,25 @@ pub record LeastCount (s : ℕ → Bool) (n m : ℕ) : Type 0 where
 abbrev pub TrimmedCountMeans : Type 0
 TrimmedCountMeans = (s : ℕ → Bool) (n : ℕ) → LeastCount s n (trimmedCount s n)
 
+-- demand 2: s has exactly the numbers that come in by an operation of b and o
+abbrev pub MadeOf : SetOp → Bits → Bits → (ℕ → Bool) → Type 0
+MadeOf op b o s = (i : ℕ) → (s i ≡ true) ↔ ComesIn op (b .members i) (o .members i)
+
 -- demand 2: a set operation of b and o, in the fewest words that hold the result
-pub record Combines (f : Bool → Bool → Bool) (o b s : Bits) : Type 0 where
-  pub each : (i : ℕ) → s .members i ≡ f (b .members i) (o .members i)
+pub record Combines (op : SetOp) (o b s : Bits) : Type 0 where
+  pub each : MadeOf op b o (s .members)
   pub count : LeastCount (s .members) (max (b .count) (o .count)) (s .count)
 
 abbrev pub CombinedMeans : Type 0
-CombinedMeans = (f : Bool → Bool → Bool) (b o : Bits) → Combines f o b (trimmed (combined f b o))
+CombinedMeans = (op : SetOp) (b o : Bits) → Combines op o b (trimmed (combined op b o))
 
 -- demand 2: the members of either, in as many words as the longer
 pub record Unites (o b s : Bits) : Type 0 where
-  pub first : (i : ℕ) → b .members i ≡ true → s .members i ≡ true
-  pub second : (i : ℕ) → o .members i ≡ true → s .members i ≡ true
-  pub only : (i : ℕ) → s .members i ≡ true → (b .members i ≡ true) ⊎ (o .members i ≡ true)
+  pub each : MadeOf Or b o (s .members)
   pub count : s .count ≡ max (b .count) (o .count)
 
 abbrev pub UnitedMeans : Type 0
-UnitedMeans = (b o : Bits) → Unites o b (combined _||_ b o)
-
--- a member of the first and not of the second
-abbrev pub AndNotMeans : Type 0
-AndNotMeans = (p q : Bool) → (andNot p q ≡ true) ↔ ((p ≡ true) × (q ≡ false))
+UnitedMeans = (b o : Bits) → Unites o b (combined Or b o)
 
 -- the members in the words in use, whatever counts them
 abbrev pub SizeMeans : Type 0
@@ -163,7 +164,7 @@ FindsNone x f v k = (x ≡ k) × (f ≡ 0) × (v ≡ 0)
 pub record AnswersTell : Type 0 where
   pub place : (p : ℕ) → (foundNumber (At p) ≡ 0) × (foundFlag (At p) ≡ 1) × (foundValue (At p) ≡ p)
   pub no-place : FindsNone (foundNumber Nothing) (foundFlag Nothing) (foundValue Nothing) 0
-  pub number : (n : ℕ) → (numberNumber (Number.Is n) ≡ 0) × (numberValue (Number.Is n) ≡ n)
+  pub number : (n : ℕ) → (amountNumber (Amount.Is n) ≡ 0) × (amountValue (Amount.Is n) ≡ n)
   pub field : (v : ℕ) → (fieldNumber (Field.Is v) ≡ 0) × (fieldValue (Field.Is v) ≡ v)
   pub holds : (truthNumber (Truth.Is true) ≡ 0) × (truthValue (Truth.Is true) ≡ 1)
   pub fails : (truthNumber (Truth.Is false) ≡ 0) × (truthValue (Truth.Is false) ≡ 0)
@@ -171,7 +172,7 @@ pub record AnswersTell : Type 0 where
   pub pass : guardNumber Pass ≡ 0
   pub stop : (e : Refusal) → guardNumber (Stop e) ≡ numberOf e
   pub no-found : (e : Refusal) → FindsNone (foundNumber (Found.Refused e)) (foundFlag (Found.Refused e)) (foundValue (Found.Refused e)) (numberOf e)
-  pub no-number : (e : Refusal) → HandsNone (numberNumber (Number.Refused e)) (numberValue (Number.Refused e)) (numberOf e)
+  pub no-number : (e : Refusal) → HandsNone (amountNumber (Amount.Refused e)) (amountValue (Amount.Refused e)) (numberOf e)
   pub no-field : (e : Refusal) → HandsNone (fieldNumber (Field.Refused e)) (fieldValue (Field.Refused e)) (numberOf e)
   pub no-truth : (e : Refusal) → HandsNone (truthNumber (Truth.Refused e)) (truthValue (Truth.Refused e)) (numberOf e)
   pub no-change : (e : Refusal) (b : Bitmap) → (changeNumber (Change.Refused e b) ≡ numberOf e) × (changeRecord (Change.Refused e b) ≡ b)
@@ -211,11 +212,11 @@ pub record ReadingsMean : Type 1 where
 
 -- A call that only reads, by its contract: 1 and 2 of the store, then what holds of the bitmap, the number and the value, and of a search the flag.
 
-abbrev pub NumberCall : (Bits → Number) → (Bits → ℕ → ℕ → Type 0) → Type 0
-NumberCall f Rest =
-    (ws : List ℕ) (b : Bitmap) (r : Number) → r ≡ reading ws b Number.Refused f
-    → let x = numberNumber r in
-    let v = numberValue r in
+abbrev pub AmountCall : (Bits → Amount) → (Bits → ℕ → ℕ → Type 0) → Type 0
+AmountCall f Rest =
+    (ws : List ℕ) (b : Bitmap) (r : Amount) → r ≡ reading ws b Amount.Refused f
+    → let x = amountNumber r in
+    let v = amountValue r in
     Guarded ws b (HandsNone x v) (Rest (view ws (b .count)) x v)
 
 abbrev pub FieldCall : (Bits → Field) → (Bits → ℕ → ℕ → Type 0) → Type 0
@@ -241,14 +242,14 @@ FoundCall f Rest =
     Guarded ws b (FindsNone x t v) (Rest (view ws (b .count)) x t v)
 
 -- an operation whose results have space and hold no member past their words
-pub record Sound (op : Op) : Type 0 where
+pub record Contained (op : Op) : Type 0 where
   pub space : (c : Space) (b s : Bits) → Bounded b → b .count ≤ c → op c b ≡ done s → s .count ≤ c
   pub bound : (c : Space) (b s : Bits) → Bounded b → b .count ≤ c → op c b ≡ done s → Bounded s
 
 -- what is done is as the rule says, has space and no member past its words; what is refused gets its number where the condition holds
 pub record Meets (op : Op) (rule : Space → Bits → Bits → Type 0) (no : Space → Bits → ℕ → Type 0) : Type 0 where
   pub made : (c : Space) (b s : Bits) → op c b ≡ done s → rule c b s
-  pub sound : Sound op
+  pub contained : Contained op
   pub why : (c : Space) (b : Bits) (e : Refusal) → op c b ≡ refused e → no c b (numberOf e)
 
 -- a call that changes nothing
@@ -368,5 +369,5 @@ pub record Seen (op : Op) (ws : List ℕ) (b b' : Bitmap) (ws' : List ℕ) (s : 
 
 abbrev pub Chains : Type 0
 Chains =
-    (op : Op) (ws ws' : List ℕ) (b : Bitmap) (r : Change) → Sound op → Changes op ws b r ws' → changeNumber r ≡ 0
+    (op : Op) (ws ws' : List ℕ) (b : Bitmap) (r : Change) → Contained op → Changes op ws b r ws' → changeNumber r ≡ 0
     → (s : Bits) × Seen op ws b (changeRecord r) ws' s

@@ -9,8 +9,8 @@ use Rattle.storage.specs.declared.Change.{Change}
 use Rattle.storage.specs.declared.Change.the-variants.{Done, Refused}
 use Rattle.storage.specs.declared.Found.{Found}
 use Rattle.storage.specs.declared.Found.the-variants.{At, Nothing, Refused}
-use Rattle.storage.specs.declared.Number.{Number}
-use Rattle.storage.specs.declared.Number.the-variants.{Is, Refused}
+use Rattle.storage.specs.declared.Amount.{Amount}
+use Rattle.storage.specs.declared.Amount.the-variants.{Is, Refused}
 use Rattle.storage.specs.declared.Field.{Field}
 use Rattle.storage.specs.declared.Field.the-variants.{Is, Refused}
 use Rattle.storage.specs.declared.Truth.{Truth}
@@ -55,13 +55,13 @@ foundValue (At p) = p
 foundValue Nothing = 0
 foundValue (Found.Refused e) = 0
 
-abbrev pub numberNumber : Number → ℕ
-numberNumber (Number.Is n) = 0
-numberNumber (Number.Refused e) = numberOf e
+abbrev pub amountNumber : Amount → ℕ
+amountNumber (Amount.Is n) = 0
+amountNumber (Amount.Refused e) = numberOf e
 
-abbrev pub numberValue : Number → ℕ
-numberValue (Number.Is n) = n
-numberValue (Number.Refused e) = 0
+abbrev pub amountValue : Amount → ℕ
+amountValue (Amount.Is n) = n
+amountValue (Amount.Refused e) = 0
 
 abbrev pub fieldNumber : Field → ℕ
 fieldNumber (Field.Is x) = 0

@@ -2,13 +2,15 @@
 -- word k in use is the set's, a word that falls out of use is 0, and a word outside both counts is as it was (01, "Words that enter and leave use").
 use Prim.Native.Nat.{ℕ, _+_, _-_, _*_, _/_, _^_, _≤_, max}
 use mathlib.Core.Path.{_≡_}
-use mathlib.Core.Bool.{Bool, false, not, _&&_}
+use mathlib.Core.Bool.{Bool, false, _&&_}
 use mathlib.Core.List.{List}
 use lib.ListN.{length, getD}
 use lib.Dec.{ltb, leb, eqb}
 use Rattle.word.specs.Sets.{choose, xorb, countBelow, leastFrom, topBelow}
-use Rattle.word.specs.Bits.{wordOf, member, tabFrom}
+use Rattle.word.specs.Places.{wordOf, member, tabFrom}
 use Rattle.arch.specs.Scans.{filledWords}
+use Rattle.pairs.specs.Pairs.{tableOf}
+use Rattle.pairs.specs.declared.SetOp.{SetOp}
 use Rattle.storage.specs.declared.Bitmap.{Bitmap}
 use Rattle.storage.specs.declared.Refusal.{Refusal}
 use Rattle.storage.specs.declared.Refusal.the-variants.{StoreTooLong, CountOverStore, NoSpace}
@@ -44,8 +46,8 @@ andThen (refused e) next = refused e
 andThen (done s) next = next s
 
 -- the most words that a store may have
-abbrev pub limit : ℕ
-limit = 67_108_864
+abbrev pub storeLimit : ℕ
+storeLimit = 67_108_864
 
 -- every record is made of another by the count alone, or is the one of no words
 abbrev pub withCount : Bitmap → ℕ → Bitmap
@@ -54,13 +56,17 @@ withCount b n = record { count = n }
 abbrev pub noWords : Bitmap
 noWords = record { count = 0 }
 
+-- the record of n words, where there is no earlier one
+abbrev pub bitmapOf : ℕ → Bitmap
+bitmapOf n = withCount noWords n
+
 -- the space of a store
 abbrev pub spaceOf : List ℕ → Space
 spaceOf ws = length ws
 
 -- 1 and then 2 come before all else: a store over the limit, a count over its store
 unfoldable pub checked : {A : Type 0} → List ℕ → Bitmap → (Refusal → A) → A → A
-checked ws b refuse a = choose (ltb limit (length ws)) (refuse StoreTooLong) (choose (ltb (length ws) (b .count)) (refuse CountOverStore) a)
+checked ws b refuse a = choose (ltb storeLimit (length ws)) (refuse StoreTooLong) (choose (ltb (length ws) (b .count)) (refuse CountOverStore) a)
 
 -- the first n words of a store
 unfoldable pub view : List ℕ → ℕ → Bits
@@ -89,13 +95,9 @@ readingBoth ws b os o refuse f = reading ws b refuse (λ s. reading os o refuse 
 unfoldable pub size : Bits → ℕ
 size b = countBelow (b .members) (64 * b .count)
 
--- the numbers where f holds of the two memberships, in as many words as the longer
-unfoldable pub combined : (Bool → Bool → Bool) → Bits → Bits → Bits
-combined f b o = record { members = λ i. f (b .members i) (o .members i); count = max (b .count) (o .count) }
-
--- a member of the first and not of the second
-abbrev pub andNot : Bool → Bool → Bool
-andNot p q = p && not q
+-- the numbers that an operation makes members by its truth table, in as many words as the longer
+unfoldable pub combined : SetOp → Bits → Bits → Bits
+combined op b o = record { members = λ i. tableOf op (b .members i) (o .members i); count = max (b .count) (o .count) }
 
 -- a place found below e, or nothing
 unfoldable pub foundBelow : ℕ → ℕ → Found

@@ -73,7 +73,7 @@ pub enum Found {
 }
 
 // What a call answers that counts or measures.
-pub enum Number {
+pub enum Amount {
     Is(usize),
     Refused(Refusal),
 }
@@ -139,7 +139,7 @@ pub fn check_three(
 }
 
 // Zeroes the words between two counts, as far as the store has them.
-pub fn grow(words: &mut [u64], old: usize, new: usize)
+pub fn zero_words(words: &mut [u64], old: usize, new: usize)
     ensures { λ r. ⌜ now (words .exit) ≡ zeroed old new (now (words .entry)) ⌝ }
 {
     arch::fill_words(words, old, new, 0);

@@ -8,9 +8,9 @@ use native.Mathlib.Omega.{arith}
 use lib.Dec.{leb, eqb}
 use borrow.Author.Tests.{le-leb, lt-leb, leb-true, eq-eqb, eqb-true, eqb-false}
 use Rattle.word.proofs.Cases.{and-true, or-true}
-use Rattle.text.specs.Lists.{comma, joiner, limit, blank, digit, Range, zeroDigit}
+use Rattle.text.specs.Lists.{comma, joiner, listLimit, blank, digit, Range, zeroDigit}
 use Rattle.text.specs.Grammar as g
-use Rattle.text.specs.Readings.{kind, Number, Unread, Open, Closed, Part, part, fresh, value, unread, empty, ranged, token, byJoiner, step, Reading, reading, tokenEnds, after, next, reads}
+use Rattle.text.specs.Readings.{kind, NumberSoFar, Unread, Open, Closed, Part, part, fresh, value, unread, empty, ranged, token, byJoiner, byKind, TextSoFar, reading, tokenEnds, after, next, reads}
 use Rattle.text.specs.Readings.{ranges, textEnds, parsed, parse}
 use Rattle.text.specs.declared.Kind.{Kind}
 use Rattle.text.specs.declared.Value.{Value}
@@ -56,122 +56,122 @@ blank-kind : (c : ℕ) → g.Blank c → Blank ≡ kind c
 blank-kind c h = kind-blank c (ap (λ (t : Bool). t && leb c 57) (lt-leb 48 c (omega (arith, blank-low c h)))) (is-blank c h)
 
 -- the kinds, with what they say of the byte
-pub data Is (c : ℕ) : Kind → Type 0 where
-  isDigit : g.Digit c → Is c (Digit (c - zeroDigit))
-  isBlank : g.Blank c → Is c Blank
-  isJoiner : c ≡ joiner → Is c Joiner
-  isComma : c ≡ comma → Is c Comma
-  isOther : Is c Other
+pub data IsKind (c : ℕ) : Kind → Type 0 where
+  isDigit : g.Digit c → IsKind c (Digit (c - zeroDigit))
+  isBlank : g.Blank c → IsKind c Blank
+  isJoiner : c ≡ joiner → IsKind c Joiner
+  isComma : c ≡ comma → IsKind c Comma
+  isOther : IsKind c Other
 
-pub kind-is : (c : ℕ) → Is c (kind c)
+pub kind-is : (c : ℕ) → IsKind c (kind c)
 kind-is c = go (digit c) refl (blank c) refl (eqb c joiner) refl (eqb c comma) refl
   where
-    go : (a : Bool) → digit c ≡ a → (b : Bool) → blank c ≡ b → (j : Bool) → eqb c joiner ≡ j → (m : Bool) → eqb c comma ≡ m → Is c (kind c)
-    go true e b f j h m i = subst (Is c) (kind-digit c e) (isDigit (digit-is c e))
-    go false e true f j h m i = subst (Is c) (kind-blank c e f) (isBlank (blank-is c f))
-    go false e false f true h m i = subst (Is c) (kind-joiner c e f (eqb-true c joiner h)) (isJoiner (eqb-true c joiner h))
-    go false e false f false h true i = subst (Is c) (kind-comma c e f (eqb-false c joiner h) (eqb-true c comma i)) (isComma (eqb-true c comma i))
-    go false e false f false h false i = subst (Is c) (kind-other c e f (eqb-false c joiner h) (eqb-false c comma i)) isOther
+    go : (a : Bool) → digit c ≡ a → (b : Bool) → blank c ≡ b → (j : Bool) → eqb c joiner ≡ j → (m : Bool) → eqb c comma ≡ m → IsKind c (kind c)
+    go true e b f j h m i = subst (IsKind c) (kind-digit c e) (isDigit (digit-is c e))
+    go false e true f j h m i = subst (IsKind c) (kind-blank c e f) (isBlank (blank-is c f))
+    go false e false f true h m i = subst (IsKind c) (kind-joiner c e f (eqb-true c joiner h)) (isJoiner (eqb-true c joiner h))
+    go false e false f false h true i = subst (IsKind c) (kind-comma c e f (eqb-false c joiner h) (eqb-true c comma i)) (isComma (eqb-true c comma i))
+    go false e false f false h false i = subst (IsKind c) (kind-other c e f (eqb-false c joiner h) (eqb-false c comma i)) isOther
 
 -- ---- reading on
 
-pub reads-append : (x : Reading) (a b : List ℕ) → reads x (a ++ b) ≡ reads (reads x a) b
+pub reads-append : (x : TextSoFar) (a b : List ℕ) → reads x (a ++ b) ≡ reads (reads x a) b
 unfolding reads
 reads-append x [] b = refl
 reads-append x (c ∷ a) b = reads-append (next x c) a b
 
-reads-one : (x : Reading) (c : ℕ) → reads x (c ∷ []) ≡ next x c
+reads-one : (x : TextSoFar) (c : ℕ) → reads x (c ∷ []) ≡ next x c
 unfolding reads
 reads-one x c = refl
 
-reads-cons : (x : Reading) (c : ℕ) (t : List ℕ) → reads x (c ∷ t) ≡ reads (next x c) t
+reads-cons : (x : TextSoFar) (c : ℕ) (t : List ℕ) → reads x (c ∷ t) ≡ reads (next x c) t
 unfolding reads
 reads-cons x c t = refl
 
-pub next-at : (rs : List Range) (p : Part) (c : ℕ) {k : Kind} → k ≡ kind c → next (reading rs p) c ≡ after rs p (step p k)
+pub next-at : (rs : List Range) (p : Part) (c : ℕ) {k : Kind} → k ≡ kind c → next (reading rs p) c ≡ after rs p (byKind p k)
 unfolding next
-next-at rs p c e = ap (λ (x : Kind). after rs p (step p x)) (sym e)
+next-at rs p c e = ap (λ (x : Kind). after rs p (byKind p x)) (sym e)
 
 -- ---- every text of the grammar is read
 
 blanks-none : (rs : List Range) (l : Value) {t : List ℕ} → g.Blanks t → reads (reading rs (part l Unread)) t ≡ reading rs (part l Unread)
-unfolding reads step
+unfolding reads byKind
 blanks-none rs l g.nil = refl
 blanks-none rs l (g.cons {c = c} {t = t} e b) =
-    ap (λ (x : Reading). reads x t) (next-at rs (part l Unread) c (blank-kind c e)) ∙ blanks-none rs l b
+    ap (λ (x : TextSoFar). reads x t) (next-at rs (part l Unread) c (blank-kind c e)) ∙ blanks-none rs l b
 
 blanks-closed : (rs : List Range) (l : Value) (v : ℕ) {t : List ℕ} → g.Blanks t → reads (reading rs (part l (Closed v))) t ≡ reading rs (part l (Closed v))
-unfolding reads step
+unfolding reads byKind
 blanks-closed rs l v g.nil = refl
 blanks-closed rs l v (g.cons {c = c} {t = t} e b) =
-    ap (λ (x : Reading). reads x t) (next-at rs (part l (Closed v)) c (blank-kind c e)) ∙ blanks-closed rs l v b
+    ap (λ (x : TextSoFar). reads x t) (next-at rs (part l (Closed v)) c (blank-kind c e)) ∙ blanks-closed rs l v b
 
-digits-read : (rs : List Range) (l : Value) {t : List ℕ} {v : ℕ} → g.Digits t v → reads (reading rs (part l Unread)) t ≡ reading rs (part l (Open (min (limit + 1) v)))
-unfolding step
+digits-read : (rs : List Range) (l : Value) {t : List ℕ} {v : ℕ} → g.Digits t v → reads (reading rs (part l Unread)) t ≡ reading rs (part l (Open (min (listLimit + 1) v)))
+unfolding byKind
 digits-read rs l (g.one {c = c} e) =
     reads-one (reading rs (part l Unread)) c ∙ next-at rs (part l Unread) c (kind-digit c (is-digit c e))
     ∙ ap (λ (x : ℕ). reading rs (part l (Open x))) (omega arith)
 digits-read rs l (g.more {t = t} {v = v} c d e) =
     reads-append (reading rs (part l Unread)) t (c ∷ [])
-    ∙ ap (λ (x : Reading). reads x (c ∷ [])) (digits-read rs l d)
-    ∙ reads-one (reading rs (part l (Open (min (limit + 1) v)))) c
-    ∙ next-at rs (part l (Open (min (limit + 1) v))) c (kind-digit c (is-digit c e))
+    ∙ ap (λ (x : TextSoFar). reads x (c ∷ [])) (digits-read rs l d)
+    ∙ reads-one (reading rs (part l (Open (min (listLimit + 1) v)))) c
+    ∙ next-at rs (part l (Open (min (listLimit + 1) v))) c (kind-digit c (is-digit c e))
     ∙ ap (λ (x : ℕ). reading rs (part l (Open x))) (omega arith)
 
 -- a number that was read: n is what is kept of it
 record Kept (rs : List Range) (l : Value) (t : List ℕ) (v : ℕ) : Type 0 where
-  n : Number
+  n : NumberSoFar
   read : reads (reading rs (part l Unread)) t ≡ reading rs (part l n)
   is : value n ≡ Of v
   full : unread n ≡ false
 
-value-open : (v : ℕ) → v ≤ limit → value (Open (min (limit + 1) v)) ≡ Of v
+value-open : (v : ℕ) → v ≤ listLimit → value (Open (min (listLimit + 1) v)) ≡ Of v
 unfolding value
-value-open v h = chosen (Of (min (limit + 1) v)) Missing (le-leb (min (limit + 1) v) limit (omega arith)) ∙ ap Of (omega arith)
+value-open v h = chosen (Of (min (listLimit + 1) v)) Missing (le-leb (min (listLimit + 1) v) listLimit (omega arith)) ∙ ap Of (omega arith)
 
-value-closed : (v : ℕ) → v ≤ limit → value (Closed (min (limit + 1) v)) ≡ Of v
+value-closed : (v : ℕ) → v ≤ listLimit → value (Closed (min (listLimit + 1) v)) ≡ Of v
 unfolding value
-value-closed v h = chosen (Of (min (limit + 1) v)) Missing (le-leb (min (limit + 1) v) limit (omega arith)) ∙ ap Of (omega arith)
+value-closed v h = chosen (Of (min (listLimit + 1) v)) Missing (le-leb (min (listLimit + 1) v) listLimit (omega arith)) ∙ ap Of (omega arith)
 
 -- blanks after the digits
-tail-read : (rs : List Range) (l : Value) (v : ℕ) → v ≤ limit → {w : List ℕ} → g.Blanks w
-    → (n : Number) × (reads (reading rs (part l (Open (min (limit + 1) v)))) w ≡ reading rs (part l n)) × (value n ≡ Of v) × (unread n ≡ false)
-unfolding reads step
-tail-read rs l v h g.nil = (Open (min (limit + 1) v), refl, value-open v h, refl)
+tail-read : (rs : List Range) (l : Value) (v : ℕ) → v ≤ listLimit → {w : List ℕ} → g.Blanks w
+    → (n : NumberSoFar) × (reads (reading rs (part l (Open (min (listLimit + 1) v)))) w ≡ reading rs (part l n)) × (value n ≡ Of v) × (unread n ≡ false)
+unfolding reads byKind
+tail-read rs l v h g.nil = (Open (min (listLimit + 1) v), refl, value-open v h, refl)
 tail-read rs l v h (g.cons {c = c} {t = t} e b) = (
-  Closed (min (limit + 1) v),
-  ap (λ (x : Reading). reads x t) (next-at rs (part l (Open (min (limit + 1) v))) c (blank-kind c e))
-      ∙ blanks-closed rs l (min (limit + 1) v) b,
+  Closed (min (listLimit + 1) v),
+  ap (λ (x : TextSoFar). reads x t) (next-at rs (part l (Open (min (listLimit + 1) v))) c (blank-kind c e))
+      ∙ blanks-closed rs l (min (listLimit + 1) v) b,
   value-closed v h,
   refl,
 )
 
-number-read : (rs : List Range) (l : Value) {t : List ℕ} {v : ℕ} → g.Number t v → Kept rs l t v
+number-read : (rs : List Range) (l : Value) {t : List ℕ} {v : ℕ} → g.Numeral t v → Kept rs l t v
 number-read rs l (g.number {u = u} {d = d} {w = w} {v = v} b x y h) =
     let q = tail-read rs l v h y in
     record {
       n = q .0;
       read =
           reads-append (reading rs (part l Unread)) (u ++ d) w
-          ∙ ap (λ (z : Reading). reads z w) (reads-append (reading rs (part l Unread)) u d ∙ ap (λ (z : Reading). reads z d) (blanks-none rs l b) ∙ digits-read rs l x)
+          ∙ ap (λ (z : TextSoFar). reads z w) (reads-append (reading rs (part l Unread)) u d ∙ ap (λ (z : TextSoFar). reads z d) (blanks-none rs l b) ∙ digits-read rs l x)
           ∙ q .1;
       is = q .2;
       full = q .3;
     }
 
 -- a token
-part-token : (l : Value) (n : Number) {v : ℕ} → value n ≡ Of v → unread n ≡ false → token (part l n) ≡ ranged l (Of v)
+part-token : (l : Value) (n : NumberSoFar) {v : ℕ} → value n ≡ Of v → unread n ≡ false → token (part l n) ≡ ranged l (Of v)
 unfolding empty
 part-token Missing n e f = token-at (part Missing n) f refl e
 part-token (Of a) n e f = token-at (part (Of a) n) refl refl e
 
-joiner-read : (rs : List Range) (n : Number) {a : ℕ} → value n ≡ Of a → next (reading rs (part Missing n)) joiner ≡ reading rs (part (Of a) Unread)
-unfolding step
+joiner-read : (rs : List Range) (n : NumberSoFar) {a : ℕ} → value n ≡ Of a → next (reading rs (part Missing n)) joiner ≡ reading rs (part (Of a) Unread)
+unfolding byKind
 joiner-read rs n e =
     next-at rs (part Missing n) joiner (kind-joiner joiner refl refl refl) ∙ ap (λ (x : Value). after rs (part Missing n) (byJoiner Missing x)) e
 
 comma-read : (rs : List Range) (p : Part) → next (reading rs p) comma ≡ tokenEnds rs (token p)
-unfolding step
+unfolding byKind
 comma-read rs p = next-at rs p comma (kind-comma comma refl refl (omega arith) refl)
 
 token-read : (rs : List Range) {t : List ℕ} {r : Range} → g.Token t r
@@ -184,9 +184,9 @@ token-read rs (g.pair {t = t} {u = u} {a = a} {b = b} x y h) =
     let s = number-read rs (Of a) y in (
       part (Of a) (s .n),
       reads-append (reading rs fresh) t (joiner ∷ u)
-          ∙ ap (λ (z : Reading). reads z (joiner ∷ u)) (q .read)
+          ∙ ap (λ (z : TextSoFar). reads z (joiner ∷ u)) (q .read)
           ∙ reads-cons (reading rs (part Missing (q .n))) joiner u
-          ∙ ap (λ (z : Reading). reads z u) (joiner-read rs (q .n) (q .is))
+          ∙ ap (λ (z : TextSoFar). reads z u) (joiner-read rs (q .n) (q .is))
           ∙ s .read,
       part-token (Of a) (s .n) (s .is) (s .full) ∙ chosen (Ranging a b) NoRange (le-leb a b h),
     )
@@ -196,9 +196,9 @@ upto-comma : (rs : List Range) {t : List ℕ} {r : Range} → g.Token t r → (u
 upto-comma rs {t} x u =
     let q = token-read rs x in
     reads-append (reading rs fresh) t (comma ∷ u)
-    ∙ ap (λ (z : Reading). reads z (comma ∷ u)) (q .1)
+    ∙ ap (λ (z : TextSoFar). reads z (comma ∷ u)) (q .1)
     ∙ reads-cons (reading rs (q .0)) comma u
-    ∙ ap (λ (z : Reading). reads z u) (comma-read rs (q .0) ∙ ap (tokenEnds rs) (q .2))
+    ∙ ap (λ (z : TextSoFar). reads z u) (comma-read rs (q .0) ∙ ap (tokenEnds rs) (q .2))
 
 ended-parsed : (rs : List Range) (r : Range) → parsed (reading (rs ++ r ∷ []) fresh) ≡ ranges (rs ++ r ∷ [])
 unfolding parsed token empty

@@ -8,85 +8,85 @@ use native.Mathlib.Omega.{arith}
 use lib.Dec.{leb}
 use borrow.Author.Tests.{leb-true}
 use Rattle.word.specs.Sets.{choose}
-use Rattle.text.specs.Lists.{comma, joiner, zeroDigit, limit, Range, range}
+use Rattle.text.specs.Lists.{comma, joiner, zeroDigit, listLimit, Range, range}
 use Rattle.text.specs.Grammar as g
-use Rattle.text.specs.Readings.{kind, grown, Number, Unread, Open, Closed, Part, part, fresh, value, unread, empty, ranged, token, Step, Go, Ends, Stop, byDigit, byBlank, byJoiner, step}
-use Rattle.text.specs.Readings.{Reading, bad, reading, tokenEnds, after, reads, notList, ranges, textEnds, parsed, parse}
+use Rattle.text.specs.Readings.{kind, grown, NumberSoFar, Unread, Open, Closed, Part, part, fresh, value, unread, empty, ranged, token, Step, Go, Ends, Stop, byDigit, byBlank, byJoiner, byKind}
+use Rattle.text.specs.Readings.{TextSoFar, bad, reading, tokenEnds, after, reads, notList, ranges, textEnds, parsed, parse}
 use Rattle.text.specs.declared.Kind.{Kind}
 use Rattle.text.specs.declared.Value.{Value}
 use Rattle.text.specs.declared.Value.the-variants.{Of, Missing}
 use Rattle.text.specs.declared.Token.{Token}
 use Rattle.text.specs.declared.Token.the-variants.{Range as Ranging, Empty, NoRange}
 use Rattle.text.proofs.Tokens.{reads-bad, some}
-use Rattle.text.proofs.Accepts.{Is, isDigit, isBlank, isJoiner, isComma, isOther, kind-is, next-at, complete}
+use Rattle.text.proofs.Accepts.{IsKind, isDigit, isBlank, isJoiner, isComma, isOther, kind-is, next-at, complete}
 
 -- ---- what is read
 
 -- a number, as far as it is read
-data Begun : Number → List ℕ → Type 0 where
+data Begun : NumberSoFar → List ℕ → Type 0 where
   blanks : {y : List ℕ} → g.Blanks y → Begun Unread y
-  opened : {x : ℕ} {y : List ℕ} (u d : List ℕ) (v : ℕ) → g.Blanks u → g.Digits d v → x ≡ min (limit + 1) v → y ≡ u ++ d → Begun (Open x) y
-  closed : {x : ℕ} {y : List ℕ} (u d w : List ℕ) (v : ℕ) → g.Blanks u → g.Digits d v → g.Blanks w → x ≡ min (limit + 1) v → y ≡ u ++ d ++ w → Begun (Closed x) y
+  opened : {x : ℕ} {y : List ℕ} (u d : List ℕ) (v : ℕ) → g.Blanks u → g.Digits d v → x ≡ min (listLimit + 1) v → y ≡ u ++ d → Begun (Open x) y
+  closed : {x : ℕ} {y : List ℕ} (u d w : List ℕ) (v : ℕ) → g.Blanks u → g.Digits d v → g.Blanks w → x ≡ min (listLimit + 1) v → y ≡ u ++ d ++ w → Begun (Closed x) y
 
 -- a token, as far as it is read
-data Part-of : Value → Number → List ℕ → Type 0 where
-  first : {n : Number} {y : List ℕ} → Begun n y → Part-of Missing n y
-  second : {a : ℕ} {n : Number} {z : List ℕ} (t y : List ℕ) → g.Number t a → Begun n y → z ≡ t ++ joiner ∷ y → Part-of (Of a) n z
+data Part-of : Value → NumberSoFar → List ℕ → Type 0 where
+  first : {n : NumberSoFar} {y : List ℕ} → Begun n y → Part-of Missing n y
+  second : {a : ℕ} {n : NumberSoFar} {z : List ℕ} (t y : List ℕ) → g.Numeral t a → Begun n y → z ≡ t ++ joiner ∷ y → Part-of (Of a) n z
 
 blanks-snoc : {u : List ℕ} (c : ℕ) → g.Blanks u → g.Blank c → g.Blanks (u ++ c ∷ [])
 blanks-snoc c g.nil e = g.cons e g.nil
 blanks-snoc c (g.cons f b) e = g.cons f (blanks-snoc c b e)
 
-begun-digit : (c : ℕ) → g.Digit c → (n : Number) (y : List ℕ) → Begun n y → (l : Value) (q : Part) → byDigit l n (c - zeroDigit) ≡ Go q
+begun-digit : (c : ℕ) → g.Digit c → (n : NumberSoFar) (y : List ℕ) → Begun n y → (l : Value) (q : Part) → byDigit l n (c - zeroDigit) ≡ Go q
     → (q .left ≡ l) × Begun (q .number) (y ++ c ∷ [])
 begun-digit c e Unread y (blanks b) l q h =
     let hl : q .left ≡ l = cc in
     let hn : q .number ≡ Open (c - zeroDigit) = cc in
-    (hl, subst (λ (n : Number). Begun n (y ++ c ∷ [])) (sym hn) (opened y (c ∷ []) (c - zeroDigit) b (g.one e) (omega arith) refl))
+    (hl, subst (λ (n : NumberSoFar). Begun n (y ++ c ∷ [])) (sym hn) (opened y (c ∷ []) (c - zeroDigit) b (g.one e) (omega arith) refl))
 begun-digit c e (Open x) y (opened u d v b s ex ey) l q h =
     let hl : q .left ≡ l = cc in
     let hn : q .number ≡ Open (grown x (c - zeroDigit)) = cc in (
       hl,
-      subst (λ (n : Number). Begun n (y ++ c ∷ [])) (sym hn)
+      subst (λ (n : NumberSoFar). Begun n (y ++ c ∷ [])) (sym hn)
           (opened u (d ++ c ∷ []) (10 * v + (c - zeroDigit)) b (g.more c s e) (omega arith) (ap (λ (z : List ℕ). z ++ c ∷ []) ey ∙ append-assoc u d (c ∷ []))),
     )
 begun-digit c e (Closed x) y (closed u d w v b s b' ex ey) l q h = let z : _≡_ {A = ℕ} 0 1 = cc in absurd (omega arith)
 
-begun-blank : (c : ℕ) → g.Blank c → (n : Number) (y : List ℕ) → Begun n y → (l : Value) (q : Part) → byBlank l n ≡ Go q
+begun-blank : (c : ℕ) → g.Blank c → (n : NumberSoFar) (y : List ℕ) → Begun n y → (l : Value) (q : Part) → byBlank l n ≡ Go q
     → (q .left ≡ l) × Begun (q .number) (y ++ c ∷ [])
 begun-blank c e Unread y (blanks b) l q h =
     let hl : q .left ≡ l = cc in
     let hn : q .number ≡ Unread = cc in
-    (hl, subst (λ (n : Number). Begun n (y ++ c ∷ [])) (sym hn) (blanks (blanks-snoc c b e)))
+    (hl, subst (λ (n : NumberSoFar). Begun n (y ++ c ∷ [])) (sym hn) (blanks (blanks-snoc c b e)))
 begun-blank c e (Open x) y (opened u d v b s ex ey) l q h =
     let hl : q .left ≡ l = cc in
     let hn : q .number ≡ Closed x = cc in
-    (hl, subst (λ (n : Number). Begun n (y ++ c ∷ [])) (sym hn) (closed u d (c ∷ []) v b s (g.cons e g.nil) ex (ap (λ (z : List ℕ). z ++ c ∷ []) ey)))
+    (hl, subst (λ (n : NumberSoFar). Begun n (y ++ c ∷ [])) (sym hn) (closed u d (c ∷ []) v b s (g.cons e g.nil) ex (ap (λ (z : List ℕ). z ++ c ∷ []) ey)))
 begun-blank c e (Closed x) y (closed u d w v b s b' ex ey) l q h =
     let hl : q .left ≡ l = cc in
     let hn : q .number ≡ Closed x = cc in (
       hl,
-      subst (λ (n : Number). Begun n (y ++ c ∷ [])) (sym hn)
+      subst (λ (n : NumberSoFar). Begun n (y ++ c ∷ [])) (sym hn)
           (closed u d (w ++ c ∷ []) v b s (blanks-snoc c b' e) ex (ap (λ (z : List ℕ). z ++ c ∷ []) ey ∙ append-assoc (u ++ d) w (c ∷ []))),
     )
 
 -- a number that ended
-limited : (x a : ℕ) (t : Bool) → leb x limit ≡ t → choose t (Of x) Missing ≡ Of a → (x ≡ a) × (x ≤ limit)
-limited x a true e h = (cc, leb-true x limit e)
+limited : (x a : ℕ) (t : Bool) → leb x listLimit ≡ t → choose t (Of x) Missing ≡ Of a → (x ≡ a) × (x ≤ listLimit)
+limited x a true e h = (cc, leb-true x listLimit e)
 limited x a false e h = let z : _≡_ {A = ℕ} 0 1 = cc in absurd (omega arith)
 
-number-of : (u d w : List ℕ) (v x a : ℕ) → g.Blanks u → g.Digits d v → g.Blanks w → x ≡ min (limit + 1) v → x ≡ a → x ≤ limit → g.Number (u ++ d ++ w) a
-number-of u d w v x a b s b' ex e h = subst (g.Number (u ++ d ++ w)) (omega arith) (g.number b s b' (omega arith))
+number-of : (u d w : List ℕ) (v x a : ℕ) → g.Blanks u → g.Digits d v → g.Blanks w → x ≡ min (listLimit + 1) v → x ≡ a → x ≤ listLimit → g.Numeral (u ++ d ++ w) a
+number-of u d w v x a b s b' ex e h = subst (g.Numeral (u ++ d ++ w)) (omega arith) (g.number b s b' (omega arith))
 
-value-sound : (n : Number) (y : List ℕ) (a : ℕ) → Begun n y → value n ≡ Of a → g.Number y a
+value-correct : (n : NumberSoFar) (y : List ℕ) (a : ℕ) → Begun n y → value n ≡ Of a → g.Numeral y a
 unfolding value
-value-sound Unread y a (blanks b) e = let z : _≡_ {A = ℕ} 0 1 = cc in absurd (omega arith)
-value-sound (Open x) y a (opened u d v b s ex ey) e =
-    let q = limited x a (leb x limit) refl e in
-    subst (λ (z : List ℕ). g.Number z a) (append-nil (u ++ d) ∙ sym ey) (number-of u d [] v x a b s g.nil ex (q .0) (q .1))
-value-sound (Closed x) y a (closed u d w v b s b' ex ey) e =
-    let q = limited x a (leb x limit) refl e in
-    subst (λ (z : List ℕ). g.Number z a) (sym ey) (number-of u d w v x a b s b' ex (q .0) (q .1))
+value-correct Unread y a (blanks b) e = let z : _≡_ {A = ℕ} 0 1 = cc in absurd (omega arith)
+value-correct (Open x) y a (opened u d v b s ex ey) e =
+    let q = limited x a (leb x listLimit) refl e in
+    subst (λ (z : List ℕ). g.Numeral z a) (append-nil (u ++ d) ∙ sym ey) (number-of u d [] v x a b s g.nil ex (q .0) (q .1))
+value-correct (Closed x) y a (closed u d w v b s b' ex ey) e =
+    let q = limited x a (leb x listLimit) refl e in
+    subst (λ (z : List ℕ). g.Numeral z a) (sym ey) (number-of u d w v x a b s b' ex (q .0) (q .1))
 
 -- one byte more
 second-snoc : (z t y : List ℕ) (c : ℕ) → z ≡ t ++ joiner ∷ y → z ++ c ∷ [] ≡ t ++ joiner ∷ (y ++ c ∷ [])
@@ -98,42 +98,42 @@ part-to q {l} {y} e x = subst (λ (m : Value). Part-of m (q .number) y) (sym e) 
 by-value : (a : ℕ) (v : Value) (q : Part) → byJoiner (Of a) v ≡ Go q → ⊥
 by-value a v q h = let z : _≡_ {A = ℕ} 0 1 = cc in omega arith
 
-joined : (n : Number) (y : List ℕ) → Begun n y → (v : Value) → value n ≡ v → (q : Part) → byJoiner Missing v ≡ Go q → Part-of (q .left) (q .number) (y ++ joiner ∷ [])
+joined : (n : NumberSoFar) (y : List ℕ) → Begun n y → (v : Value) → value n ≡ v → (q : Part) → byJoiner Missing v ≡ Go q → Part-of (q .left) (q .number) (y ++ joiner ∷ [])
 joined n y b Missing e q h = let z : _≡_ {A = ℕ} 0 1 = cc in absurd (omega arith)
 joined n y b (Of a) e q h =
     let hl : q .left ≡ Of a = cc in
     let hn : q .number ≡ Unread = cc in
-    subst₂ (λ (l : Value) (m : Number). Part-of l m (y ++ joiner ∷ [])) (sym hl) (sym hn) (second y [] (value-sound n y a b e) (blanks g.nil) refl)
+    subst₂ (λ (l : Value) (m : NumberSoFar). Part-of l m (y ++ joiner ∷ [])) (sym hl) (sym hn) (second y [] (value-correct n y a b e) (blanks g.nil) refl)
 
-step-sound : (c : ℕ) {k : Kind} → Is c k → (l : Value) (n : Number) (y : List ℕ) → Part-of l n y → (q : Part) → step (part l n) k ≡ Go q
+step-correct : (c : ℕ) {k : Kind} → IsKind c k → (l : Value) (n : NumberSoFar) (y : List ℕ) → Part-of l n y → (q : Part) → byKind (part l n) k ≡ Go q
     → Part-of (q .left) (q .number) (y ++ c ∷ [])
-unfolding step
-step-sound c (isDigit e) Missing n y (first b) q h =
+unfolding byKind
+step-correct c (isDigit e) Missing n y (first b) q h =
     let r = begun-digit c e n y b Missing q h in part-to q (r .0) (first (r .1))
-step-sound c (isDigit e) (Of a) n z (second t y x b f) q h =
+step-correct c (isDigit e) (Of a) n z (second t y x b f) q h =
     let r = begun-digit c e n y b (Of a) q h in part-to q (r .0) (second t (y ++ c ∷ []) x (r .1) (second-snoc z t y c f))
-step-sound c (isBlank e) Missing n y (first b) q h =
+step-correct c (isBlank e) Missing n y (first b) q h =
     let r = begun-blank c e n y b Missing q h in part-to q (r .0) (first (r .1))
-step-sound c (isBlank e) (Of a) n z (second t y x b f) q h =
+step-correct c (isBlank e) (Of a) n z (second t y x b f) q h =
     let r = begun-blank c e n y b (Of a) q h in part-to q (r .0) (second t (y ++ c ∷ []) x (r .1) (second-snoc z t y c f))
-step-sound c (isJoiner e) Missing n y (first b) q h =
+step-correct c (isJoiner e) Missing n y (first b) q h =
     subst (λ (x : ℕ). Part-of (q .left) (q .number) (y ++ x ∷ [])) (sym e) (joined n y b (value n) refl q h)
-step-sound c (isJoiner e) (Of a) n z (second t y x b f) q h = absurd (by-value a (value n) q h)
-step-sound c (isComma e) l n y x q h = let z : _≡_ {A = ℕ} 0 1 = cc in absurd (omega arith)
-step-sound c isOther l n y x q h = let z : _≡_ {A = ℕ} 0 1 = cc in absurd (omega arith)
+step-correct c (isJoiner e) (Of a) n z (second t y x b f) q h = absurd (by-value a (value n) q h)
+step-correct c (isComma e) l n y x q h = let z : _≡_ {A = ℕ} 0 1 = cc in absurd (omega arith)
+step-correct c isOther l n y x q h = let z : _≡_ {A = ℕ} 0 1 = cc in absurd (omega arith)
 
 -- a comma alone ends a token
-ends-comma : (c : ℕ) {k : Kind} → Is c k → (p : Part) → step p k ≡ Ends → c ≡ comma
-unfolding step
+ends-comma : (c : ℕ) {k : Kind} → IsKind c k → (p : Part) → byKind p k ≡ Ends → c ≡ comma
+unfolding byKind
 ends-comma c (isDigit e) p h = absurd (by-digit (p .left) (p .number) (c - zeroDigit) h)
   where
-    by-digit : (l : Value) (n : Number) (d : ℕ) → byDigit l n d ≡ Ends → ⊥
+    by-digit : (l : Value) (n : NumberSoFar) (d : ℕ) → byDigit l n d ≡ Ends → ⊥
     by-digit l Unread d h = let z : _≡_ {A = ℕ} 0 1 = cc in omega arith
     by-digit l (Open v) d h = let z : _≡_ {A = ℕ} 0 1 = cc in omega arith
     by-digit l (Closed v) d h = let z : _≡_ {A = ℕ} 0 1 = cc in omega arith
 ends-comma c (isBlank e) p h = absurd (by-blank (p .left) (p .number) h)
   where
-    by-blank : (l : Value) (n : Number) → byBlank l n ≡ Ends → ⊥
+    by-blank : (l : Value) (n : NumberSoFar) → byBlank l n ≡ Ends → ⊥
     by-blank l Unread h = let z : _≡_ {A = ℕ} 0 1 = cc in omega arith
     by-blank l (Open v) h = let z : _≡_ {A = ℕ} 0 1 = cc in omega arith
     by-blank l (Closed v) h = let z : _≡_ {A = ℕ} 0 1 = cc in omega arith
@@ -147,12 +147,12 @@ ends-comma c (isComma e) p h = e
 ends-comma c isOther p h = let z : _≡_ {A = ℕ} 0 1 = cc in absurd (omega arith)
 
 -- a token that ended
-ranged-sound : (l v : Value) (a b : ℕ) → ranged l v ≡ Ranging a b
+ranged-correct : (l v : Value) (a b : ℕ) → ranged l v ≡ Ranging a b
     → ((l ≡ Missing) × (v ≡ Of b) × (a ≡ b)) ⊎ ((l ≡ Of a) × (v ≡ Of b) × (a ≤ b))
-ranged-sound Missing Missing a b e = let z : _≡_ {A = ℕ} 0 1 = cc in absurd (omega arith)
-ranged-sound Missing (Of y) a b e = inl (refl, cc, cc)
-ranged-sound (Of x) Missing a b e = let z : _≡_ {A = ℕ} 0 1 = cc in absurd (omega arith)
-ranged-sound (Of x) (Of y) a b e = go (leb x y) refl e
+ranged-correct Missing Missing a b e = let z : _≡_ {A = ℕ} 0 1 = cc in absurd (omega arith)
+ranged-correct Missing (Of y) a b e = inl (refl, cc, cc)
+ranged-correct (Of x) Missing a b e = let z : _≡_ {A = ℕ} 0 1 = cc in absurd (omega arith)
+ranged-correct (Of x) (Of y) a b e = go (leb x y) refl e
   where
     go : (t : Bool) → leb x y ≡ t → choose t (Ranging x y) NoRange ≡ Ranging a b → ((Of x ≡ Missing) × (Of y ≡ Of b) × (a ≡ b)) ⊎ ((Of x ≡ Of a) × (Of y ≡ Of b) × (a ≤ b))
     go true f h =
@@ -172,43 +172,43 @@ ranged-full (Of x) (Of y) e = go (leb x y) e
     go true h = let z : _≡_ {A = ℕ} 0 1 = cc in omega arith
     go false h = let z : _≡_ {A = ℕ} 0 1 = cc in omega arith
 
-unread-is : (n : Number) → unread n ≡ true → n ≡ Unread
+unread-is : (n : NumberSoFar) → unread n ≡ true → n ≡ Unread
 unread-is Unread e = refl
 unread-is (Open v) e = absurd (false≢true e)
 unread-is (Closed v) e = absurd (false≢true e)
 
-begun-unread : {n : Number} {y : List ℕ} → Begun n y → n ≡ Unread → g.Blanks y
+begun-unread : {n : NumberSoFar} {y : List ℕ} → Begun n y → n ≡ Unread → g.Blanks y
 begun-unread (blanks b) e = b
 begun-unread (opened u d v b s ex ey) e = let z : _≡_ {A = ℕ} 0 1 = cc in absurd (omega arith)
 begun-unread (closed u d w v b s b' ex ey) e = let z : _≡_ {A = ℕ} 0 1 = cc in absurd (omega arith)
 
-empty-sound : (l : Value) (n : Number) (y : List ℕ) → Part-of l n y → token (part l n) ≡ Empty → g.Blanks y
+empty-correct : (l : Value) (n : NumberSoFar) (y : List ℕ) → Part-of l n y → token (part l n) ≡ Empty → g.Blanks y
 unfolding token empty
-empty-sound Missing n y (first b) e = go (unread n) refl e
+empty-correct Missing n y (first b) e = go (unread n) refl e
   where
     go : (t : Bool) → unread n ≡ t → choose t Empty (ranged Missing (value n)) ≡ Empty → g.Blanks y
     go true f h = begun-unread b (unread-is n f)
     go false f h = absurd (ranged-full Missing (value n) h)
-empty-sound (Of a) n z (second t y x b f) e = absurd (ranged-full (Of a) (value n) e)
+empty-correct (Of a) n z (second t y x b f) e = absurd (ranged-full (Of a) (value n) e)
 
-token-sound : (l : Value) (n : Number) (y : List ℕ) → Part-of l n y → (a b : ℕ) → token (part l n) ≡ Ranging a b → g.Token y (range a b)
+token-correct : (l : Value) (n : NumberSoFar) (y : List ℕ) → Part-of l n y → (a b : ℕ) → token (part l n) ≡ Ranging a b → g.Token y (range a b)
 unfolding token empty
-token-sound Missing n y (first x) a b e = go (unread n) e
+token-correct Missing n y (first x) a b e = go (unread n) e
   where
     go : (t : Bool) → choose t Empty (ranged Missing (value n)) ≡ Ranging a b → g.Token y (range a b)
     go true h = let z : _≡_ {A = ℕ} 0 1 = cc in absurd (omega arith)
     go false h =
         ⊎-elim
-        (λ w. subst (λ (m : ℕ). g.Token y (range m b)) (sym (w .2)) (g.single (value-sound n y b x (w .1))))
+        (λ w. subst (λ (m : ℕ). g.Token y (range m b)) (sym (w .2)) (g.single (value-correct n y b x (w .1))))
         (λ w. let z : _≡_ {A = ℕ} 0 1 = cc (w .0) in absurd (omega arith))
-        (ranged-sound Missing (value n) a b h)
-token-sound (Of c) n z (second t y u x f) a b e =
+        (ranged-correct Missing (value n) a b h)
+token-correct (Of c) n z (second t y u x f) a b e =
     ⊎-elim
     (λ w. let z : _≡_ {A = ℕ} 0 1 = cc (w .0) in absurd (omega arith))
     (λ w.
     let k : c ≡ a = cc (w .0) in
-    subst (λ (m : List ℕ). g.Token m (range a b)) (sym f) (g.pair (subst (g.Number t) k u) (value-sound n y b x (w .1)) (w .2)))
-    (ranged-sound (Of c) (value n) a b e)
+    subst (λ (m : List ℕ). g.Token m (range a b)) (sym f) (g.pair (subst (g.Numeral t) k u) (value-correct n y b x (w .1)) (w .2)))
+    (ranged-correct (Of c) (value n) a b e)
 
 -- the tokens before, each with its comma
 record Front (f : List ℕ) (rs : List Range) : Type 0 where
@@ -238,51 +238,51 @@ unfolding parsed
 bad-none t qs e = no-ranges (sym (ap parsed (reads-bad t)) ∙ e)
 
 -- the text's end
-end-sound : (f y : List ℕ) (rs : List Range) (l : Value) (n : Number) (k : Token) → Front f rs → Part-of l n y → token (part l n) ≡ k → (qs : List Range) → textEnds rs k ≡ ranges qs
+end-correct : (f y : List ℕ) (rs : List Range) (l : Value) (n : NumberSoFar) (k : Token) → Front f rs → Part-of l n y → token (part l n) ≡ k → (qs : List Range) → textEnds rs k ≡ ranges qs
     → g.Listed (f ++ y) qs
-end-sound f y rs l n (Ranging a b) x p e qs h =
-    subst (g.Listed (f ++ y)) (same-ranges h) (x .on y (range a b ∷ []) (g.last (token-sound l n y p a b e)))
-end-sound f y [] l n Empty x p e qs h = absurd (no-ranges h)
-end-sound f y (r ∷ rs) l n Empty x p e qs h =
-    subst (g.Listed (f ++ y)) (same-ranges h) (x .end refl y (empty-sound l n y p e))
-end-sound f y rs l n NoRange x p e qs h = absurd (no-ranges h)
+end-correct f y rs l n (Ranging a b) x p e qs h =
+    subst (g.Listed (f ++ y)) (same-ranges h) (x .on y (range a b ∷ []) (g.last (token-correct l n y p a b e)))
+end-correct f y [] l n Empty x p e qs h = absurd (no-ranges h)
+end-correct f y (r ∷ rs) l n Empty x p e qs h =
+    subst (g.Listed (f ++ y)) (same-ranges h) (x .end refl y (empty-correct l n y p e))
+end-correct f y rs l n NoRange x p e qs h = absurd (no-ranges h)
 
-comma-sound : (f y t : List ℕ) (rs : List Range) (l : Value) (n : Number) (k : Token) → Front f rs → Part-of l n y → token (part l n) ≡ k → (qs : List Range)
+comma-correct : (f y t : List ℕ) (rs : List Range) (l : Value) (n : NumberSoFar) (k : Token) → Front f rs → Part-of l n y → token (part l n) ≡ k → (qs : List Range)
     → ((f' : List ℕ) (rs' : List Range) → Front f' rs' → parsed (reads (reading rs' fresh) t) ≡ ranges qs → g.Listed (f' ++ t) qs)
     → parsed (reads (tokenEnds rs k) t) ≡ ranges qs → g.Listed (f ++ (y ++ comma ∷ []) ++ t) qs
-comma-sound f y t rs l n (Ranging a b) x p e qs ih h =
-    ih (f ++ (y ++ comma ∷ [])) (rs ++ range a b ∷ []) (front-more f y rs (range a b) x (token-sound l n y p a b e)) h
-comma-sound f y t rs l n Empty x p e qs ih h = absurd (bad-none t qs h)
-comma-sound f y t rs l n NoRange x p e qs ih h = absurd (bad-none t qs h)
+comma-correct f y t rs l n (Ranging a b) x p e qs ih h =
+    ih (f ++ (y ++ comma ∷ [])) (rs ++ range a b ∷ []) (front-more f y rs (range a b) x (token-correct l n y p a b e)) h
+comma-correct f y t rs l n Empty x p e qs ih h = absurd (bad-none t qs h)
+comma-correct f y t rs l n NoRange x p e qs ih h = absurd (bad-none t qs h)
 
-list-sound : (t f y : List ℕ) (rs : List Range) (l : Value) (n : Number) → Front f rs → Part-of l n y → (qs : List Range) → parsed (reads (reading rs (part l n)) t) ≡ ranges qs
+list-correct : (t f y : List ℕ) (rs : List Range) (l : Value) (n : NumberSoFar) → Front f rs → Part-of l n y → (qs : List Range) → parsed (reads (reading rs (part l n)) t) ≡ ranges qs
     → g.Listed (f ++ y ++ t) qs
 unfolding reads parsed
-list-sound [] f y rs l n x p qs e = subst (λ (z : List ℕ). g.Listed z qs) (sym (append-nil (f ++ y))) (end-sound f y rs l n (token (part l n)) x p refl qs e)
-list-sound (c ∷ t) f y rs l n x p qs e =
-    go (list-sound t) (step (part l n) (kind c)) refl
-    (ap (λ (z : Reading). parsed (reads z t)) (sym (next-at rs (part l n) c refl)) ∙ e)
+list-correct [] f y rs l n x p qs e = subst (λ (z : List ℕ). g.Listed z qs) (sym (append-nil (f ++ y))) (end-correct f y rs l n (token (part l n)) x p refl qs e)
+list-correct (c ∷ t) f y rs l n x p qs e =
+    go (list-correct t) (byKind (part l n) (kind c)) refl
+    (ap (λ (z : TextSoFar). parsed (reads z t)) (sym (next-at rs (part l n) c refl)) ∙ e)
   where
     shift : (m : ℕ) → f ++ (y ++ m ∷ []) ++ t ≡ f ++ y ++ m ∷ t
     shift m = append-assoc f (y ++ m ∷ []) t ∙ ap (λ (z : List ℕ). f ++ z) (append-assoc y (m ∷ []) t) ∙ sym (append-assoc f y (m ∷ t))
 
-    go : ((f y : List ℕ) (rs : List Range) (l : Value) (n : Number) → Front f rs → Part-of l n y → (qs : List Range) → parsed (reads (reading rs (part l n)) t) ≡ ranges qs
+    go : ((f y : List ℕ) (rs : List Range) (l : Value) (n : NumberSoFar) → Front f rs → Part-of l n y → (qs : List Range) → parsed (reads (reading rs (part l n)) t) ≡ ranges qs
         → g.Listed (f ++ y ++ t) qs)
-        → (s : Step) → step (part l n) (kind c) ≡ s → parsed (reads (after rs (part l n) s) t) ≡ ranges qs → g.Listed (f ++ y ++ c ∷ t) qs
+        → (s : Step) → byKind (part l n) (kind c) ≡ s → parsed (reads (after rs (part l n) s) t) ≡ ranges qs → g.Listed (f ++ y ++ c ∷ t) qs
     go ih (Go q) h k =
-        subst (λ (z : List ℕ). g.Listed z qs) (shift c) (ih f (y ++ c ∷ []) rs (q .left) (q .number) x (step-sound c (kind-is c) l n y p q h) qs k)
+        subst (λ (z : List ℕ). g.Listed z qs) (shift c) (ih f (y ++ c ∷ []) rs (q .left) (q .number) x (step-correct c (kind-is c) l n y p q h) qs k)
     go ih Ends h k =
         let ec : c ≡ comma = ends-comma c (kind-is c) (part l n) h in
         subst (λ (m : ℕ). g.Listed (f ++ y ++ m ∷ t) qs) (sym ec)
         (subst (λ (z : List ℕ). g.Listed z qs) (shift comma)
-        (comma-sound f y t rs l n (token (part l n)) x p refl qs
+        (comma-correct f y t rs l n (token (part l n)) x p refl qs
         (λ f' rs' x' k'. subst (λ (z : List ℕ). g.Listed (z ++ t) qs) (append-nil f') (ih f' [] rs' Missing Unread x' (first (blanks g.nil)) qs k')) k))
     go ih Stop h k = absurd (bad-none t qs k)
 
-pub sound : (t : List ℕ) (rs : List Range) → parse t ≡ ranges rs → g.Listed t rs
+pub correct : (t : List ℕ) (rs : List Range) → parse t ≡ ranges rs → g.Listed t rs
 unfolding parse
-sound t rs e = list-sound t [] [] [] Missing Unread front-none (first (blanks g.nil)) rs e
+correct t rs e = list-correct t [] [] [] Missing Unread front-none (first (blanks g.nil)) rs e
 
 -- the parser takes exactly the grammar's texts, each with its ranges
 pub reads-exactly : (t : List ℕ) (rs : List Range) → g.Listed t rs ↔ (parse t ≡ ranges rs)
-reads-exactly t rs = (λ x. complete x, λ e. sound t rs e)
+reads-exactly t rs = (λ x. complete x, λ e. correct t rs e)

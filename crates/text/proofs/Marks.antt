@@ -8,7 +8,7 @@ use lib.Dec.{ltb, leb}
 use lib.ListN.{length}
 use borrow.Author.Tests.{lt-ltb, le-ltb, le-leb, lt-leb}
 use Rattle.word.specs.Sets.{choose}
-use Rattle.word.specs.Bits.{member}
+use Rattle.word.specs.Places.{member}
 use Rattle.word.proofs.Cases.{by-lt, or-false, or-true}
 use Rattle.word.proofs.Lists.{Fit, member-at, length-words, words-fit, words-is, member-words}
 use Rattle.arch.specs.Scans.{filled}
@@ -16,18 +16,18 @@ use Rattle.text.specs.Lists.{Range, range, covers}
 use Rattle.text.specs.Kernels.{marked}
 
 -- i lies in the range
-abbrev pub between : ℕ → ℕ → ℕ → Bool
-between a b i = leb a i && leb i b
+abbrev pub betweenMarks : ℕ → ℕ → ℕ → Bool
+betweenMarks a b i = leb a i && leb i b
 
-pub between-in : (a b i : ℕ) → a ≤ i → i ≤ b → between a b i ≡ true
+pub between-in : (a b i : ℕ) → a ≤ i → i ≤ b → betweenMarks a b i ≡ true
 between-in a b i h l = ap (λ (t : Bool). t && leb i b) (le-leb a i h) ∙ le-leb i b l
 
-pub covers-end : (rs : List Range) (a b i : ℕ) → covers (rs ++ range a b ∷ []) i ≡ covers rs i || between a b i
+pub covers-end : (rs : List Range) (a b i : ℕ) → covers (rs ++ range a b ∷ []) i ≡ covers rs i || betweenMarks a b i
 unfolding covers
-covers-end [] a b i = or-false (between a b i)
+covers-end [] a b i = or-false (betweenMarks a b i)
 covers-end (q ∷ rs) a b i =
-    ap (λ (t : Bool). between (q .low) (q .high) i || t) (covers-end rs a b i)
-    ∙ sym (or-assoc (between (q .low) (q .high) i) (covers rs i) (between a b i))
+    ap (λ (t : Bool). betweenMarks (q .low) (q .high) i || t) (covers-end rs a b i)
+    ∙ sym (or-assoc (betweenMarks (q .low) (q .high) i) (covers rs i) (betweenMarks a b i))
 
 pub marked-none : (ws : List ℕ) → Fit ws → ws ≡ marked [] ws
 unfolding marked covers
@@ -41,7 +41,7 @@ pub member-marked : (rs : List Range) (ws : List ℕ) (i : ℕ) → i < 64 * len
 unfolding marked
 member-marked rs ws i h = member-words (λ i. member ws i || covers rs i) (length ws) i h
 
-up-to : (a b i : ℕ) → leb a i && ltb i (b + 1) ≡ between a b i
+up-to : (a b i : ℕ) → leb a i && ltb i (b + 1) ≡ betweenMarks a b i
 up-to a b i =
     ap (λ (t : Bool). leb a i && t)
     (by-lt b i (λ h. le-ltb i (b + 1) (omega arith) ∙ sym (lt-leb i b h)) (λ h. lt-ltb i (b + 1) (omega arith) ∙ sym (le-leb i b h)))
@@ -73,5 +73,5 @@ marked-more rs a b ws ws' us e f =
     at i h =
         ap (λ (y : List ℕ). member y i) f ∙ member-words t (length ws') i (omega (arith, same))
         ∙ ap₂ (λ (x y : Bool). choose x true y) (up-to a b i) (ap (λ (y : List ℕ). member y i) e ∙ member-marked rs ws i h)
-        ∙ chosen-or (between a b i) (member ws i) (covers rs i)
+        ∙ chosen-or (betweenMarks a b i) (member ws i) (covers rs i)
         ∙ ap (λ (x : Bool). member ws i || x) (sym (covers-end rs a b i))

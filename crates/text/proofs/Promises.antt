@@ -10,15 +10,15 @@ use borrow.Author.Tests.{ltb-true, ltb-false, leb-true}
 use Rattle.word.proofs.Cases.{by-lt, by-test, and-true, or-true}
 use Rattle.storage.specs.Refusals.{numberOf}
 use Rattle.storage.specs.Stores.{Bits, Bounded, Outcome, refused, done}
-use Rattle.storage.specs.Promises.{Sound}
+use Rattle.storage.specs.Promises.{Contained}
 use Rattle.storage.proofs.Checks.{within-ok, within-no}
 use Rattle.text.specs.Lists.{plain, Range, covers, highest}
 use Rattle.text.specs.Grammar as g
 use Rattle.text.specs.Readings.{Parsed, notList, ranges, parse, union, readingList}
 use Rattle.text.specs.Promises.{ReadsGrammar, Within, Union, High, ListRead, ListRefused, ReadsList}
 use Rattle.text.proofs.Accepts.{complete}
-use Rattle.text.proofs.Grammar.{sound, reads-exactly}
-use Rattle.text.proofs.Marks.{between, between-in}
+use Rattle.text.proofs.Grammar.{correct, reads-exactly}
+use Rattle.text.proofs.Marks.{betweenMarks, between-in}
 use Rattle.text.proofs.Taken.{list-not-plain, list-is}
 
 -- ---- the grammar
@@ -34,7 +34,7 @@ reads-grammar = record {
   where
     go : (t : List ℕ) → ((rs : List Range) → g.Listed t rs → ⊥) → (p : Parsed) → parse t ≡ p → parse t ≡ notList
     go t f notList e = e
-    go t f (ranges rs) e = absurd (f rs (sound t rs e))
+    go t f (ranges rs) e = absurd (f rs (correct t rs e))
 
 -- ---- the ranges as a set
 
@@ -42,7 +42,7 @@ pub covers-within : (rs : List Range) (i : ℕ) → covers rs i ≡ true → Wit
 unfolding covers
 covers-within [] i e = absurd (false≢true e)
 covers-within (r ∷ rs) i e =
-    by-test (between (r .low) (r .high) i)
+    by-test (betweenMarks (r .low) (r .high) i)
     (λ f.
     let a = and-true (leb (r .low) i) (leb i (r .high)) f in
     inl (leb-true (r .low) i (a .0), leb-true i (r .high) (a .1)))
@@ -52,7 +52,7 @@ pub within-covers : (rs : List Range) (i : ℕ) → Within rs i → covers rs i 
 unfolding covers
 within-covers [] i w = absurd w
 within-covers (r ∷ rs) i (inl w) = ap (λ (t : Bool). t || covers rs i) (between-in (r .low) (r .high) i (w .0) (w .1))
-within-covers (r ∷ rs) i (inr w) = ap (λ (t : Bool). between (r .low) (r .high) i || t) (within-covers rs i w) ∙ or-true (between (r .low) (r .high) i)
+within-covers (r ∷ rs) i (inr w) = ap (λ (t : Bool). betweenMarks (r .low) (r .high) i || t) (within-covers rs i w) ∙ or-true (betweenMarks (r .low) (r .high) i)
 
 within-highest : (rs : List Range) (i : ℕ) → Within rs i → i ≤ highest rs
 unfolding highest
@@ -119,15 +119,15 @@ fate t c b =
     low : plain t ≡ true → (High t → ⊥) → (p : Parsed) → parse t ≡ p → Fate t c (readingList t c b)
     low e h notList f = subst (Fate t c) (sym (list-is t c b notList e f)) (inr (inl (refl, h, reads-grammar .refused t .1 f)))
     low e h (ranges rs) f =
-        let x : g.Listed t rs = sound t rs f in
+        let x : g.Listed t rs = correct t rs f in
         by-lt c (union rs .count)
         (λ l. subst (Fate t c) (sym (list-is t c b (ranges rs) e f ∙ within-no c (union rs) l))
         (inr (inr (refl, h, (rs, x, (highest rs, highest-within rs (listed-good x), omega arith))))))
         (λ l. subst (Fate t c) (sym (list-is t c b (ranges rs) e f ∙ within-ok c (union rs) l))
         ((h, (rs, x, union-is rs (listed-good x))), l))
 
-pub sound-list : (t : List ℕ) → Sound (readingList t)
-sound-list t = record {
+pub contained-list : (t : List ℕ) → Contained (readingList t)
+contained-list t = record {
   space = λ c b s h l e. subst (Fate t c) e (fate t c b) .1;
   bound = λ c b s h l e. bounded (subst (Fate t c) e (fate t c b) .0 .1 .0) s (subst (Fate t c) e (fate t c b) .0 .1 .2);
 }
@@ -139,6 +139,6 @@ sound-list t = record {
 pub reads-list : ReadsList
 reads-list t = record {
   made = λ c b s e. subst (Fate t c) e (fate t c b) .0;
-  sound = sound-list t;
+  contained = contained-list t;
   why = λ c b d e. subst (Fate t c) e (fate t c b);
 }

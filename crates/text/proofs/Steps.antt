@@ -10,10 +10,10 @@ use lib.ListN.{length, getD, drop, drop-of-length-le}
 use lib.Seq.{drop-cons}
 use borrow.Author.Tests.{lt-ltb, le-ltb, leb-true, ne-eqb, eq-eqb}
 use Rattle.word.specs.Sets.{choose}
-use Rattle.text.specs.Lists.{comma, joiner, zeroDigit, limit, blank, digit, plain}
+use Rattle.text.specs.Lists.{comma, joiner, zeroDigit, listLimit, blank, digit, plain}
 use Rattle.text.specs.Readings as read
-use Rattle.text.specs.Readings.{kind, Number, Unread, Open, Closed, value, unread, missing, empty, ranged, token, part, grown, Go, Stop, byDigit, byBlank, byJoiner, step}
-use Rattle.text.specs.Kernels.{numberOf, leftOf, partOf}
+use Rattle.text.specs.Readings.{kind, NumberSoFar, Unread, Open, Closed, value, unread, missing, empty, ranged, token, part, grown, Go, Stop, byDigit, byBlank, byJoiner, byKind}
+use Rattle.text.specs.Kernels.{numberSoFar, leftOf, partOf}
 use Rattle.text.specs.declared.Kind.{Kind}
 use Rattle.text.specs.declared.Kind.the-variants.{Digit, Blank, Joiner, Comma, Other}
 use Rattle.text.specs.declared.Value.{Value}
@@ -21,8 +21,8 @@ use Rattle.text.specs.declared.Value.the-variants.{Of, Missing}
 use Rattle.text.specs.declared.Part.{Part}
 use Rattle.text.specs.declared.Token.the-variants.{Range as Ranging, Empty, NoRange}
 
-pub step-at : (p : read.Part) {k k' : Kind} {l : Value} {n : Number} → k ≡ k' → p .left ≡ l → p .number ≡ n → step p k ≡ step (record { left = l; number = n }) k'
-step-at p e f g = λ i. step (record { left = f i; number = g i }) (e i)
+pub step-at : (p : read.Part) {k k' : Kind} {l : Value} {n : NumberSoFar} → k ≡ k' → p .left ≡ l → p .number ≡ n → byKind p k ≡ byKind (record { left = l; number = n }) k'
+step-at p e f g = λ i. byKind (record { left = f i; number = g i }) (e i)
 
 pub token-at : (p : read.Part) {l v : Value} → empty p ≡ false → p .left ≡ l → value (p .number) ≡ v → token p ≡ ranged l v
 unfolding token
@@ -92,38 +92,38 @@ ranged-limit (Of x) (Of y) a b e = go (leb x y) e
     go true h = cc
     go false h = let z : _≡_ {A = ℕ} 0 1 = cc in absurd (omega arith)
 
-allowed-limit : (v b : ℕ) (t : Bool) → leb v limit ≡ t → choose t (Of v) Missing ≡ Of b → b ≤ limit
-allowed-limit v b true e h = let q : v ≡ b = cc in omega (arith, leb-true v limit e)
+allowed-limit : (v b : ℕ) (t : Bool) → leb v listLimit ≡ t → choose t (Of v) Missing ≡ Of b → b ≤ listLimit
+allowed-limit v b true e h = let q : v ≡ b = cc in omega (arith, leb-true v listLimit e)
 allowed-limit v b false e h = let z : _≡_ {A = ℕ} 0 1 = cc in absurd (omega arith)
 
-value-limit : (n : Number) (b : ℕ) → value n ≡ Of b → b ≤ limit
+value-limit : (n : NumberSoFar) (b : ℕ) → value n ≡ Of b → b ≤ listLimit
 unfolding value
 value-limit Unread b e = let z : _≡_ {A = ℕ} 0 1 = cc in absurd (omega arith)
-value-limit (Open v) b e = allowed-limit v b (leb v limit) refl e
-value-limit (Closed v) b e = allowed-limit v b (leb v limit) refl e
+value-limit (Open v) b e = allowed-limit v b (leb v listLimit) refl e
+value-limit (Closed v) b e = allowed-limit v b (leb v listLimit) refl e
 
-pub token-limit : (p : read.Part) (a b : ℕ) → token p ≡ Ranging a b → b ≤ limit
+pub token-limit : (p : read.Part) (a b : ℕ) → token p ≡ Ranging a b → b ≤ listLimit
 unfolding token
 token-limit p a b e = go (empty p) e
   where
-    go : (t : Bool) → choose t Empty (ranged (p .left) (value (p .number))) ≡ Ranging a b → b ≤ limit
+    go : (t : Bool) → choose t Empty (ranged (p .left) (value (p .number))) ≡ Ranging a b → b ≤ listLimit
     go true h = let z : _≡_ {A = ℕ} 0 1 = cc in absurd (omega arith)
     go false h = value-limit (p .number) b (ranged-limit (p .left) (value (p .number)) a b h)
 
 -- ---- the code's numbers as a token's state
 
-pub number-none : (n v : ℕ) → n ≡ 0 → numberOf n v ≡ Unread
-number-none n v e = ap (λ (x : ℕ). numberOf x v) e
+pub number-none : (n v : ℕ) → n ≡ 0 → numberSoFar n v ≡ Unread
+number-none n v e = ap (λ (x : ℕ). numberSoFar x v) e
 
-pub number-open : (n v : ℕ) → n ≡ 1 → numberOf n v ≡ Open v
-number-open n v e = ap (λ (x : ℕ). numberOf x v) e
+pub number-open : (n v : ℕ) → n ≡ 1 → numberSoFar n v ≡ Open v
+number-open n v e = ap (λ (x : ℕ). numberSoFar x v) e
 
-pub number-closed : (n v : ℕ) → (n ≡ 0 → ⊥) → (n ≡ 1 → ⊥) → numberOf n v ≡ Closed v
+pub number-closed : (n v : ℕ) → (n ≡ 0 → ⊥) → (n ≡ 1 → ⊥) → numberSoFar n v ≡ Closed v
 number-closed zero v e f = absurd (e refl)
 number-closed (suc zero) v e f = absurd (f refl)
 number-closed (suc (suc n)) v e f = refl
 
-pub number-some : (n v : ℕ) → (n ≡ 0 → ⊥) → value (numberOf n v) ≡ choose (leb v limit) (Of v) Missing
+pub number-some : (n v : ℕ) → (n ≡ 0 → ⊥) → value (numberSoFar n v) ≡ choose (leb v listLimit) (Of v) Missing
 unfolding value
 number-some zero v e = absurd (e refl)
 number-some (suc zero) v e = refl
@@ -136,29 +136,29 @@ pub left-some : (n a : ℕ) → (n ≡ 0 → ⊥) → leftOf n a ≡ Of a
 left-some zero a e = absurd (e refl)
 left-some (suc n) a e = refl
 
-unread-is : (n v : ℕ) → unread (numberOf n v) ≡ eqb n 0
+unread-is : (n v : ℕ) → unread (numberSoFar n v) ≡ eqb n 0
 unread-is zero v = refl
 unread-is (suc zero) v = refl
 unread-is (suc (suc n)) v = sym (eqb·suc-zero (suc n))
 
 pub empty-none : (p : Part) → p .split ≡ 0 → eqb (p .phase) 0 ≡ empty (partOf p)
 unfolding empty
-empty-none p e = sym (ap (λ (x : ℕ). missing (leftOf x (p .left)) && unread (numberOf (p .phase) (p .value))) e ∙ unread-is (p .phase) (p .value))
+empty-none p e = sym (ap (λ (x : ℕ). missing (leftOf x (p .left)) && unread (numberSoFar (p .phase) (p .value))) e ∙ unread-is (p .phase) (p .value))
 
 pub empty-some : (p : Part) → (p .split ≡ 0 → ⊥) → false ≡ empty (partOf p)
 unfolding empty
-empty-some p e = sym (ap (λ (x : Value). missing x && unread (numberOf (p .phase) (p .value))) (left-some (p .split) (p .left) e))
+empty-some p e = sym (ap (λ (x : Value). missing x && unread (numberSoFar (p .phase) (p .value))) (left-some (p .split) (p .left) e))
 
 -- ---- the code's steps
 
-pub by-digit-none : (l : Value) (n v d : ℕ) → n ≡ 0 → Go (part l (Open d)) ≡ byDigit l (numberOf n v) d
-by-digit-none l n v d e = sym (ap (λ (x : Number). byDigit l x d) (number-none n v e))
+pub by-digit-none : (l : Value) (n v d : ℕ) → n ≡ 0 → Go (part l (Open d)) ≡ byDigit l (numberSoFar n v) d
+by-digit-none l n v d e = sym (ap (λ (x : NumberSoFar). byDigit l x d) (number-none n v e))
 
-pub by-digit-open : (l : Value) (n v d x : ℕ) → n ≡ 1 → x ≡ grown v d → Go (part l (Open x)) ≡ byDigit l (numberOf n v) d
-by-digit-open l n v d x e f = ap (λ (y : ℕ). Go (part l (Open y))) f ∙ sym (ap (λ (y : Number). byDigit l y d) (number-open n v e))
+pub by-digit-open : (l : Value) (n v d x : ℕ) → n ≡ 1 → x ≡ grown v d → Go (part l (Open x)) ≡ byDigit l (numberSoFar n v) d
+by-digit-open l n v d x e f = ap (λ (y : ℕ). Go (part l (Open y))) f ∙ sym (ap (λ (y : NumberSoFar). byDigit l y d) (number-open n v e))
 
-pub by-digit-closed : (l : Value) (n v d : ℕ) → (n ≡ 0 → ⊥) → (n ≡ 1 → ⊥) → Stop ≡ byDigit l (numberOf n v) d
-by-digit-closed l n v d e f = sym (ap (λ (x : Number). byDigit l x d) (number-closed n v e f))
+pub by-digit-closed : (l : Value) (n v d : ℕ) → (n ≡ 0 → ⊥) → (n ≡ 1 → ⊥) → Stop ≡ byDigit l (numberSoFar n v) d
+by-digit-closed l n v d e f = sym (ap (λ (x : NumberSoFar). byDigit l x d) (number-closed n v e f))
 
 pub by-joiner-twice : (n a : ℕ) (v : Value) → (n ≡ 0 → ⊥) → Stop ≡ byJoiner (leftOf n a) v
 by-joiner-twice n a v e = sym (ap (λ (x : Value). byJoiner x v) (left-some n a e))
@@ -167,11 +167,11 @@ pub by-joiner-is : (n a : ℕ) (u v : Value) → n ≡ 0 → v ≡ u → byJoine
 by-joiner-is n a u v e f = sym (λ i. byJoiner (left-none n a e i) (f i))
 
 -- a blank after no digit, or after another blank
-pub blank-keeps : (p : Part) {k : Kind} → k ≡ Blank → (p .phase ≡ 1 → ⊥) → read.Go (partOf p) ≡ step (partOf p) k
-unfolding step
-blank-keeps p e f = go (p .phase) f ∙ ap (step (partOf p)) (sym e)
+pub blank-keeps : (p : Part) {k : Kind} → k ≡ Blank → (p .phase ≡ 1 → ⊥) → read.Go (partOf p) ≡ byKind (partOf p) k
+unfolding byKind
+blank-keeps p e f = go (p .phase) f ∙ ap (byKind (partOf p)) (sym e)
   where
-    go : (n : ℕ) → (n ≡ 1 → ⊥) → read.Go (record { left = leftOf (p .split) (p .left); number = numberOf n (p .value) }) ≡ byBlank (leftOf (p .split) (p .left)) (numberOf n (p .value))
+    go : (n : ℕ) → (n ≡ 1 → ⊥) → read.Go (record { left = leftOf (p .split) (p .left); number = numberSoFar n (p .value) }) ≡ byBlank (leftOf (p .split) (p .left)) (numberSoFar n (p .value))
     go zero h = refl
     go (suc zero) h = absurd (h refl)
     go (suc (suc n)) h = refl

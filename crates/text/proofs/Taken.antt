@@ -8,8 +8,8 @@ use native.Mathlib.Omega.{arith}
 use lib.ListN.{length, getD, take, drop}
 use lib.Seq.{length-take-le, getD-take}
 use Rattle.word.specs.Sets.{choose}
-use Rattle.word.specs.Bits.{bit, member, wordsOf}
-use Rattle.word.proofs.Bits.{bit-zero}
+use Rattle.word.specs.Places.{bit, member, wordsOf}
+use Rattle.word.proofs.Places.{bit-zero}
 use Rattle.word.proofs.Lists.{member-at, at-place}
 use Rattle.storage.specs.Stores.{Bits, refused, withCount, view, within, zeroed, Changes}
 use Rattle.storage.specs.Guards.{Passed}
@@ -20,8 +20,8 @@ use Rattle.storage.specs.declared.Refusal.the-variants.{NoSpace, NotList, NotAs
 use Rattle.storage.proofs.Checks.{within-ok, within-no}
 use Rattle.storage.proofs.Stores.{Stored, changes-done, changes-refused, part-stored, length-zeroed, zeroed-in, zeroed-out}
 use Rattle.text.specs.Lists.{plain, Range, covers, highest}
-use Rattle.text.specs.Readings.{Parsed, notList, ranges, parse, union, taken, readingList}
-use Rattle.text.specs.Kernels.{topOf, marked, Walked}
+use Rattle.text.specs.Readings.{Parsed, notList, ranges, parse, union, listOutcome, readingList}
+use Rattle.text.specs.Kernels.{measuredOf, marked, Walked}
 use Rattle.text.specs.declared.Measured.{Measured}
 use Rattle.text.specs.declared.Measured.the-variants.{Top, NotList as NoList}
 
@@ -29,22 +29,22 @@ use Rattle.text.specs.declared.Measured.the-variants.{Top, NotList as No
 
 pub list-not-plain : (t : List ℕ) (c : ℕ) (b : Bits) → plain t ≡ false → readingList t c b ≡ refused NotAscii
 unfolding readingList
-list-not-plain t c b e = ap (λ (x : Bool). choose x (taken c (parse t)) (refused NotAscii)) e
+list-not-plain t c b e = ap (λ (x : Bool). choose x (listOutcome c (parse t)) (refused NotAscii)) e
 
-pub list-is : (t : List ℕ) (c : ℕ) (b : Bits) (p : Parsed) → plain t ≡ true → parse t ≡ p → readingList t c b ≡ taken c p
+pub list-is : (t : List ℕ) (c : ℕ) (b : Bits) (p : Parsed) → plain t ≡ true → parse t ≡ p → readingList t c b ≡ listOutcome c p
 unfolding readingList
-list-is t c b p e f = ap (λ (x : Bool). choose x (taken c (parse t)) (refused NotAscii)) e ∙ ap (taken c) f
+list-is t c b p e f = ap (λ (x : Bool). choose x (listOutcome c (parse t)) (refused NotAscii)) e ∙ ap (listOutcome c) f
 
 -- ---- what a measurement says of the text
 
-measured-top : (p : Parsed) (x : ℕ) → topOf p ≡ Top x → (rs : List Range) × (p ≡ ranges rs) × (x ≡ highest rs)
+measured-top : (p : Parsed) (x : ℕ) → measuredOf p ≡ Top x → (rs : List Range) × (p ≡ ranges rs) × (x ≡ highest rs)
 measured-top notList x e = let z : _≡_ {A = ℕ} 0 1 = cc in absurd (omega arith)
 measured-top (ranges rs) x e = (rs, refl, top-same e)
   where
     top-same : Top (highest rs) ≡ Top x → x ≡ highest rs
     top-same f = cc
 
-measured-none : (p : Parsed) → topOf p ≡ NoList → p ≡ notList
+measured-none : (p : Parsed) → measuredOf p ≡ NoList → p ≡ notList
 measured-none notList e = refl
 measured-none (ranges rs) e = let z : _≡_ {A = ℕ} 0 1 = cc in absurd (omega arith)
 

@@ -10,8 +10,8 @@ use lib.Seq.{drop-cons}
 use Rattle.word.proofs.Lists.{Fit}
 use Rattle.arch.specs.Scans.{filled}
 use Rattle.text.specs.Lists.{Range, range, highest}
-use Rattle.text.specs.Readings.{kind, Part, fresh, token, Step, Go, Ends, Stop, step, Reading, bad, reading, tokenEnds, after, next, reads, notList, ranges, textEnds, parsed, parse}
-use Rattle.text.specs.Kernels.{topOf, marked, Walked}
+use Rattle.text.specs.Readings.{kind, Part, fresh, token, Step, Go, Ends, Stop, byKind, TextSoFar, bad, reading, tokenEnds, after, next, reads, notList, ranges, textEnds, parsed, parse}
+use Rattle.text.specs.Kernels.{measuredOf, marked, Walked}
 use Rattle.text.specs.declared.Kind.{Kind}
 use Rattle.text.specs.declared.Token.{Token}
 use Rattle.text.specs.declared.Token.the-variants.{Range as Ranging, Empty, NoRange}
@@ -25,12 +25,12 @@ unfolding reads next
 reads-bad [] = refl
 reads-bad (c ∷ t) = reads-bad t
 
-reads-at : (x : Reading) (t : List ℕ) (i : ℕ) → i < length t → reads x (drop i t) ≡ reads (next x (getD t i 0)) (drop (i + 1) t)
+reads-at : (x : TextSoFar) (t : List ℕ) (i : ℕ) → i < length t → reads x (drop i t) ≡ reads (next x (getD t i 0)) (drop (i + 1) t)
 unfolding reads
 reads-at x t i h = rw (add-one, drop-cons t i 0 h)
 
 -- the byte at i makes s of the token p
-reads-step : (rs : List Range) (p : Part) (t : List ℕ) (i : ℕ) {s : Step} → i < length t → step p (kind (getD t i 0)) ≡ s
+reads-step : (rs : List Range) (p : Part) (t : List ℕ) (i : ℕ) {s : Step} → i < length t → byKind p (kind (getD t i 0)) ≡ s
     → reads (reading rs p) (drop i t) ≡ reads (after rs p s) (drop (i + 1) t)
 unfolding next
 reads-step rs p t i h e = reads-at (reading rs p) t i h ∙ ap (λ (x : Step). reads (after rs p x) (drop (i + 1) t)) e
@@ -45,9 +45,9 @@ pub inside-start : (t : List ℕ) (a : ℕ) → a ≤ length t → Inside t a a 
 inside-start t a h = record { from = omega arith; within = h; same = λ rs. refl }
 
 -- one byte
-module _ (t : List ℕ) (a i : ℕ) (p : Part) (k : Kind) (r : Step) (x : Inside t a i p) (h : i < length t) (ek : k ≡ kind (getD t i 0)) (er : r ≡ step p k) where
-  at-byte : {s : Step} → r ≡ s → step p (kind (getD t i 0)) ≡ s
-  at-byte e = sym (er ∙ ap (step p) ek) ∙ e
+module _ (t : List ℕ) (a i : ℕ) (p : Part) (k : Kind) (r : Step) (x : Inside t a i p) (h : i < length t) (ek : k ≡ kind (getD t i 0)) (er : r ≡ byKind p k) where
+  at-byte : {s : Step} → r ≡ s → byKind p (kind (getD t i 0)) ≡ s
+  at-byte e = sym (er ∙ ap (byKind p) ek) ∙ e
 
   pub inside-go : (q : Part) → r ≡ Go q → Inside t a (i + 1) q
   inside-go q e = record {
@@ -71,7 +71,7 @@ pub ended-left : (t : List ℕ) (a i : ℕ) (p : Part) (m : Bool) → Inside t a
 unfolding reads
 ended-left t a i p m x h e j = atEnd e (λ rs. x .same rs ∙ ap (reads (reading rs p)) (drop-of-length-le t h))
 
-pub ended-comma : (t : List ℕ) (a i : ℕ) (p : Part) (k : Kind) (r : Step) → Inside t a i p → i < length t → k ≡ kind (getD t i 0) → r ≡ step p k → r ≡ Ends
+pub ended-comma : (t : List ℕ) (a i : ℕ) (p : Part) (k : Kind) (r : Step) → Inside t a i p → i < length t → k ≡ kind (getD t i 0) → r ≡ byKind p k → r ≡ Ends
     → (j : ℕ) (m : Bool) → j ≡ i + 1 → m ≡ true → Ended t a p j m
 ended-comma t a i p k r x h ek er e j m ej em =
     atComma {i = j} em (omega (arith, x .from)) (omega arith)
@@ -85,14 +85,14 @@ some [] = false
 some (r ∷ rs) = true
 
 -- the tokens with the ranges rs are passed
-pub record Going (t ws ws' : List ℕ) (top : ℕ) (any : Bool) (at : ℕ) (rs : List Range) : Type 0 where
+pub record TokensTo (t ws ws' : List ℕ) (top : ℕ) (any : Bool) (at : ℕ) (rs : List Range) : Type 0 where
   pub within : at ≤ length t
   pub rest : parse t ≡ parsed (reads (reading rs fresh) (drop at t))
   pub top-is : top ≡ highest rs
   pub any-is : any ≡ some rs
   pub marks : ws' ≡ marked rs ws
 
-pub going-start : (t ws : List ℕ) → Fit ws → Going t ws ws 0 false 0 []
+pub going-start : (t ws : List ℕ) → Fit ws → TokensTo t ws ws 0 false 0 []
 unfolding parse highest
 going-start t ws f = record { within = omega arith; rest = refl; top-is = refl; any-is = refl; marks = marked-none ws f }
 
@@ -110,15 +110,15 @@ not-whole : (t : List ℕ) (rs qs : List Range) → parse t ≡ notList → pars
 not-whole t rs qs e f = let z : _≡_ {A = ℕ} 0 1 = cc in absurd (omega arith)
 
 pub walked-bad : (t ws ws' : List ℕ) (rs : List Range) → ws' ≡ marked rs ws → parse t ≡ notList → Walked t NotList ws ws'
-walked-bad t ws ws' rs m e = record { measures = ap topOf (sym e); passed = rs; whole = λ qs f. not-whole t qs rs e f; marks = m }
+walked-bad t ws ws' rs m e = record { measures = ap measuredOf (sym e); passed = rs; whole = λ qs f. not-whole t qs rs e f; marks = m }
 
 pub walked-good : (t ws ws' : List ℕ) (rs : List Range) (top : ℕ) → ws' ≡ marked rs ws → parse t ≡ ranges rs → top ≡ highest rs → Walked t (Top top) ws ws'
-walked-good t ws ws' rs top m e f = record { measures = ap Top f ∙ ap topOf (sym e); passed = rs; whole = λ qs g. same-ranges (sym e ∙ g); marks = m }
+walked-good t ws ws' rs top m e f = record { measures = ap Top f ∙ ap measuredOf (sym e); passed = rs; whole = λ qs g. same-ranges (sym e ∙ g); marks = m }
   where
     same-ranges : {qs : List Range} → ranges rs ≡ ranges qs → rs ≡ qs
     same-ranges g = cc
 
-module _ (t ws ws' : List ℕ) (top : ℕ) (any : Bool) (a : ℕ) (rs : List Range) (g : Going t ws ws' top any a rs) where
+module _ (t ws ws' : List ℕ) (top : ℕ) (any : Bool) (a : ℕ) (rs : List Range) (g : TokensTo t ws ws' top any a rs) where
   pub going-length : length ws' ≡ length ws
   going-length = ap length (g .marks) ∙ length-marked rs ws
 
@@ -151,7 +151,7 @@ module _ (t ws ws' : List ℕ) (top : ℕ) (any : Bool) (a : ℕ) (rs : List Ran
       where
         go : {j : ℕ} {m : Bool} → Ended t a p j m → parse t ≡ notList
         go (atEnd x s) = g .rest ∙ ap parsed (s rs) ∙ e
-        go (atComma {i = j} x l h s) = g .rest ∙ ap parsed (s rs ∙ ap (λ (y : Reading). reads y (drop j t)) f ∙ reads-bad (drop j t))
+        go (atComma {i = j} x l h s) = g .rest ∙ ap parsed (s rs ∙ ap (λ (y : TextSoFar). reads y (drop j t)) f ∙ reads-bad (drop j t))
 
     pub none-at : r ≡ NoRange → Walked t NotList ws ws'
     none-at e = walked-bad t ws ws' rs (g .marks) (bad-at (ap (textEnds rs) (sym er ∙ e)) (ap (tokenEnds rs) (sym er ∙ e)))
@@ -175,7 +175,7 @@ module _ (t ws ws' : List ℕ) (top : ℕ) (any : Bool) (a : ℕ) (rs : List Ran
     unfolding parsed
     empty-inner e f =
         walked-bad t ws ws' rs (g .marks)
-        (goes-parse f .2 ∙ ap (λ (y : Reading). parsed (reads y (drop i t))) (ap (tokenEnds rs) (sym er ∙ e)) ∙ ap parsed (reads-bad (drop i t)))
+        (goes-parse f .2 ∙ ap (λ (y : TextSoFar). parsed (reads y (drop i t))) (ap (tokenEnds rs) (sym er ∙ e)) ∙ ap parsed (reads-bad (drop i t)))
 
     pub empty-last : r ≡ Empty → any ≡ true → more ≡ false → Walked t (Top top) ws ws'
     empty-last e f h =
@@ -195,10 +195,10 @@ module _ (t ws ws' : List ℕ) (top : ℕ) (any : Bool) (a : ℕ) (rs : List Ran
       pub range-last : more ≡ false → Walked t (Top top') ws us
       range-last f = walked-good t ws us (rs ++ range x y ∷ []) top' more-marks (ends-parse f ∙ ap (textEnds rs) (sym er ∙ e)) more-top
 
-      pub range-more : more ≡ true → Going t ws us top' true i (rs ++ range x y ∷ [])
+      pub range-more : more ≡ true → TokensTo t ws us top' true i (rs ++ range x y ∷ [])
       range-more f = record {
         within = goes-parse f .1;
-        rest = goes-parse f .2 ∙ ap (λ (z : Reading). parsed (reads z (drop i t))) (ap (tokenEnds rs) (sym er ∙ e));
+        rest = goes-parse f .2 ∙ ap (λ (z : TextSoFar). parsed (reads z (drop i t))) (ap (tokenEnds rs) (sym er ∙ e));
         top-is = more-top;
         any-is = some-end rs (range x y);
         marks = more-marks;

@@ -23,13 +23,13 @@ pub data Digits : List ℕ → ℕ → Type 0 where
   more : {t : List ℕ} {v : ℕ} (c : ℕ) → Digits t v → Digit c → Digits (t ++ c ∷ []) (10 * v + (c - 48))
 
 -- a number: digits within the limit, blanks around them
-pub data Number : List ℕ → ℕ → Type 0 where
-  number : {u d w : List ℕ} {v : ℕ} → Blanks u → Digits d v → Blanks w → v ≤ 4_294_967_295 → Number (u ++ d ++ w) v
+pub data Numeral : List ℕ → ℕ → Type 0 where
+  number : {u d w : List ℕ} {v : ℕ} → Blanks u → Digits d v → Blanks w → v ≤ 4_294_967_295 → Numeral (u ++ d ++ w) v
 
 -- a token: a number, or two at a hyphen, the second not smaller
 pub data Token : List ℕ → Range → Type 0 where
-  single : {t : List ℕ} {a : ℕ} → Number t a → Token t (record { low = a; high = a })
-  pair : {t u : List ℕ} {a b : ℕ} → Number t a → Number u b → a ≤ b → Token (t ++ 45 ∷ u) (record { low = a; high = b })
+  single : {t : List ℕ} {a : ℕ} → Numeral t a → Token t (record { low = a; high = a })
+  pair : {t u : List ℕ} {a b : ℕ} → Numeral t a → Numeral u b → a ≤ b → Token (t ++ 45 ∷ u) (record { low = a; high = b })
 
 -- a list: tokens with commas between them; after the last one a comma and blanks may stand
 pub data Listed : List ℕ → List Range → Type 0 where

@@ -4,10 +4,10 @@ use mathlib.Core.Path.{_≡_}
 use mathlib.Core.Bool.{_||_}
 use mathlib.Core.List.{List}
 use lib.ListN.{length}
-use Rattle.word.specs.Bits.{member, wordsOf}
+use Rattle.word.specs.Places.{member, wordsOf}
 use Rattle.text.specs.Lists.{Range, covers, highest}
 use Rattle.text.specs.Readings as read
-use Rattle.text.specs.Readings.{Number, Unread, Open, Closed, Parsed, notList, ranges, parse}
+use Rattle.text.specs.Readings.{NumberSoFar, Unread, Open, Closed, Parsed, notList, ranges, parse}
 use Rattle.text.specs.declared.Value.{Value}
 use Rattle.text.specs.declared.Value.the-variants.{Of, Missing}
 use Rattle.text.specs.declared.Part.{Part}
@@ -17,10 +17,10 @@ use Rattle.text.specs.declared.Measured.{Measured}
 use Rattle.text.specs.declared.Measured.the-variants.{Top, NotList}
 
 -- phase 0, 1 or 2, and the number so far
-abbrev pub numberOf : ℕ → ℕ → Number
-numberOf zero v = Unread
-numberOf (suc zero) v = Open v
-numberOf (suc (suc k)) v = Closed v
+abbrev pub numberSoFar : ℕ → ℕ → NumberSoFar
+numberSoFar zero v = Unread
+numberSoFar (suc zero) v = Open v
+numberSoFar (suc (suc k)) v = Closed v
 
 -- whether a joiner came, and the number before it
 abbrev pub leftOf : ℕ → ℕ → Value
@@ -28,16 +28,16 @@ leftOf zero a = Missing
 leftOf (suc k) a = Of a
 
 abbrev pub partOf : Part → read.Part
-partOf p = read.part (leftOf (p .split) (p .left)) (numberOf (p .phase) (p .value))
+partOf p = read.part (leftOf (p .split) (p .left)) (numberSoFar (p .phase) (p .value))
 
 abbrev pub stepOf : Step → read.Step
 stepOf (Go p) = read.Go (partOf p)
 stepOf Ends = read.Ends
 stepOf Stop = read.Stop
 
-abbrev pub topOf : Parsed → Measured
-topOf notList = NotList
-topOf (ranges rs) = Top (highest rs)
+abbrev pub measuredOf : Parsed → Measured
+measuredOf notList = NotList
+measuredOf (ranges rs) = Top (highest rs)
 
 -- the words with the numbers of the ranges, as far as they go
 unfoldable pub marked : List Range → List ℕ → List ℕ
@@ -45,7 +45,7 @@ marked rs ws = wordsOf (λ i. member ws i || covers rs i) (length ws)
 
 -- the text is measured, and the ranges of its good tokens are marked: those of all of them, where it is a list
 pub record Walked (t : List ℕ) (r : Measured) (ws ws' : List ℕ) : Type 0 where
-  pub measures : r ≡ topOf (parse t)
+  pub measures : r ≡ measuredOf (parse t)
   pub passed : List Range
   pub whole : (rs : List Range) → parse t ≡ ranges rs → passed ≡ rs
   pub marks : ws' ≡ marked passed ws

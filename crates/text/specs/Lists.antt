@@ -21,8 +21,8 @@ abbrev pub zeroDigit : ℕ
 zeroDigit = 48
 
 -- the largest number that a list may hold
-abbrev pub limit : ℕ
-limit = 4_294_967_295
+abbrev pub listLimit : ℕ
+listLimit = 4_294_967_295
 
 -- what is trimmed: bytes 9 to 13 and 32
 abbrev pub blank : ℕ → Bool

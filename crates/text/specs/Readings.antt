@@ -6,7 +6,7 @@ use lib.Dec.{leb, eqb}
 use Rattle.word.specs.Sets.{choose}
 use Rattle.storage.specs.Stores.{Bits, Outcome, refused, Op, within, upTo}
 use Rattle.storage.specs.declared.Refusal.the-variants.{NotList, NotAscii}
-use Rattle.text.specs.Lists.{comma, joiner, zeroDigit, limit, blank, digit, withDigit, plain, Range, range, covers, highest}
+use Rattle.text.specs.Lists.{comma, joiner, zeroDigit, listLimit, blank, digit, withDigit, plain, Range, range, covers, highest}
 use Rattle.text.specs.declared.Kind.{Kind}
 use Rattle.text.specs.declared.Kind.the-variants.{Digit, Blank, Joiner, Comma, Other}
 use Rattle.text.specs.declared.Value.{Value}
@@ -21,20 +21,20 @@ kind c =
 
 -- one digit more; limit + 1 stands for every larger number
 abbrev pub grown : ℕ → ℕ → ℕ
-grown v d = min (limit + 1) (withDigit v d)
+grown v d = min (listLimit + 1) (withDigit v d)
 
 -- how far a number is read: no digit yet, its last byte a digit, or blanks after it
-pub data Number : Type 0 where
-  Unread : Number
-  Open : ℕ → Number
-  Closed : ℕ → Number
+pub data NumberSoFar : Type 0 where
+  Unread : NumberSoFar
+  Open : ℕ → NumberSoFar
+  Closed : ℕ → NumberSoFar
 
 -- how far a token is read: the number before its joiner, and the number at hand
 pub record Part : Type 0 where
   pub left : Value
-  pub number : Number
+  pub number : NumberSoFar
 
-abbrev pub part : Value → Number → Part
+abbrev pub part : Value → NumberSoFar → Part
 part l n = record { left = l; number = n }
 
 abbrev pub fresh : Part
@@ -42,15 +42,15 @@ fresh = part Missing Unread
 
 -- a number that ended, if a list may hold it
 abbrev pub allowed : ℕ → Value
-allowed v = choose (leb v limit) (Of v) Missing
+allowed v = choose (leb v listLimit) (Of v) Missing
 
-unfoldable pub value : Number → Value
+unfoldable pub value : NumberSoFar → Value
 value Unread = Missing
 value (Open v) = allowed v
 value (Closed v) = allowed v
 
 -- nothing but blanks is read
-abbrev pub unread : Number → Bool
+abbrev pub unread : NumberSoFar → Bool
 unread Unread = true
 unread (Open v) = false
 unread (Closed v) = false
@@ -77,12 +77,12 @@ pub data Step : Type 0 where
   Ends : Step
   Stop : Step
 
-abbrev pub byDigit : Value → Number → ℕ → Step
+abbrev pub byDigit : Value → NumberSoFar → ℕ → Step
 byDigit l Unread d = Go (part l (Open d))
 byDigit l (Open v) d = Go (part l (Open (grown v d)))
 byDigit l (Closed v) d = Stop
 
-abbrev pub byBlank : Value → Number → Step
+abbrev pub byBlank : Value → NumberSoFar → Step
 byBlank l Unread = Go (part l Unread)
 byBlank l (Open v) = Go (part l (Closed v))
 byBlank l (Closed v) = Go (part l (Closed v))
@@ -92,34 +92,34 @@ byJoiner (Of a) v = Stop
 byJoiner Missing Missing = Stop
 byJoiner Missing (Of a) = Go (part (Of a) Unread)
 
-unfoldable pub step : Part → Kind → Step
-step p (Digit d) = byDigit (p .left) (p .number) d
-step p Blank = byBlank (p .left) (p .number)
-step p Joiner = byJoiner (p .left) (value (p .number))
-step p Comma = Ends
-step p Other = Stop
+unfoldable pub byKind : Part → Kind → Step
+byKind p (Digit d) = byDigit (p .left) (p .number) d
+byKind p Blank = byBlank (p .left) (p .number)
+byKind p Joiner = byJoiner (p .left) (value (p .number))
+byKind p Comma = Ends
+byKind p Other = Stop
 
 -- how far a text is read: the ranges of the tokens that ended, and the token at hand
-pub data Reading : Type 0 where
-  bad : Reading
-  reading : List Range → Part → Reading
+pub data TextSoFar : Type 0 where
+  bad : TextSoFar
+  reading : List Range → Part → TextSoFar
 
 -- a comma after a token
-abbrev pub tokenEnds : List Range → Token → Reading
+abbrev pub tokenEnds : List Range → Token → TextSoFar
 tokenEnds rs (Ranging a b) = reading (rs ++ range a b ∷ []) fresh
 tokenEnds rs Empty = bad
 tokenEnds rs NoRange = bad
 
-abbrev pub after : List Range → Part → Step → Reading
+abbrev pub after : List Range → Part → Step → TextSoFar
 after rs p (Go q) = reading rs q
 after rs p Ends = tokenEnds rs (token p)
 after rs p Stop = bad
 
-unfoldable pub next : Reading → ℕ → Reading
+unfoldable pub next : TextSoFar → ℕ → TextSoFar
 next bad c = bad
-next (reading rs p) c = after rs p (step p (kind c))
+next (reading rs p) c = after rs p (byKind p (kind c))
 
-unfoldable pub reads : Reading → List ℕ → Reading
+unfoldable pub reads : TextSoFar → List ℕ → TextSoFar
 reads x [] = x
 reads x (c ∷ t) = reads (next x c) t
 
@@ -135,7 +135,7 @@ textEnds [] Empty = notList
 textEnds (r ∷ rs) Empty = ranges (r ∷ rs)
 textEnds rs NoRange = notList
 
-unfoldable pub parsed : Reading → Parsed
+unfoldable pub parsed : TextSoFar → Parsed
 parsed bad = notList
 parsed (reading rs p) = textEnds rs (token p)
 
@@ -146,10 +146,10 @@ parse t = parsed (reads (reading [] fresh) t)
 abbrev pub union : List Range → Bits
 union rs = record { members = covers rs; count = upTo (highest rs) }
 
-abbrev pub taken : ℕ → Parsed → Outcome
-taken c notList = refused NotList
-taken c (ranges rs) = within c (union rs)
+abbrev pub listOutcome : ℕ → Parsed → Outcome
+listOutcome c notList = refused NotList
+listOutcome c (ranges rs) = within c (union rs)
 
 -- the earlier set is discarded; refusals 8, 7 and 6, in this order
 unfoldable pub readingList : List ℕ → Op
-readingList t c b = let o = taken c (parse t) in choose (plain t) o (refused NotAscii)
+readingList t c b = let o = listOutcome c (parse t) in choose (plain t) o (refused NotAscii)

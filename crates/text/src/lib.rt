@@ -7,8 +7,8 @@ use storage::Guard;
 use storage::Refusal;
 ghost use mathlib.Core.Path.{_≡_};
 ghost use Rattle.storage.specs.Stores.{Changes};
-ghost use Rattle.text.specs.Readings.{kind, grown, fresh, value, token, empty, byDigit, byJoiner, step, readingList};
-ghost use Rattle.text.specs.Kernels.{numberOf, leftOf, partOf, stepOf, Walked};
+ghost use Rattle.text.specs.Readings.{kind, grown, fresh, value, token, empty, byDigit, byJoiner, byKind, readingList};
+ghost use Rattle.text.specs.Kernels.{numberSoFar, leftOf, partOf, stepOf, Walked};
 
 pub const COMMA: u8 = 44;
 
@@ -95,7 +95,7 @@ fn grown(v: usize, d: u8) -> usize
 
 // A number that ended, if it has digits and is within the limit.
 fn value_of(phase: usize, v: usize) -> Value
-    ensures { λ r. ⌜ r ≡ value (numberOf phase v) ⌝ }
+    ensures { λ r. ⌜ r ≡ value (numberSoFar phase v) ⌝ }
 {
     if phase == 0 {
         return Value::Missing;
@@ -152,7 +152,7 @@ fn token_of(p: Part) -> Token
 
 // A token and a digit.
 fn by_digit(p: Part, d: u8) -> Step
-    ensures { λ r. ⌜ stepOf r ≡ byDigit (leftOf (p .split) (p .left)) (numberOf (p .phase) (p .value)) d ⌝ }
+    ensures { λ r. ⌜ stepOf r ≡ byDigit (leftOf (p .split) (p .left)) (numberSoFar (p .phase) (p .value)) d ⌝ }
 {
     if p.phase == 0 {
         return Step::Go(Part {
@@ -175,7 +175,7 @@ fn by_digit(p: Part, d: u8) -> Step
 
 // A token and a joiner.
 fn by_joiner(p: Part) -> Step
-    ensures { λ r. ⌜ stepOf r ≡ byJoiner (leftOf (p .split) (p .left)) (value (numberOf (p .phase) (p .value))) ⌝ }
+    ensures { λ r. ⌜ stepOf r ≡ byJoiner (leftOf (p .split) (p .left)) (value (numberSoFar (p .phase) (p .value))) ⌝ }
 {
     if p.split != 0 {
         return Step::Stop;
@@ -193,7 +193,7 @@ fn by_joiner(p: Part) -> Step
 
 // A token and the next byte.
 fn step_by(p: Part, k: Kind) -> Step
-    ensures { λ r. ⌜ stepOf r ≡ step (partOf p) k ⌝ }
+    ensures { λ r. ⌜ stepOf r ≡ byKind (partOf p) k ⌝ }
 {
     match k {
         Kind::Digit(d) => by_digit(p, d),
@@ -280,7 +280,7 @@ pub fn from_list(words: &mut [u64], b: Bitmap, text: &[u8]) -> Change
     if count > words.len() {
         return Change::Refused(Refusal::NoSpace, b);
     }
-    storage::grow(words, 0, word::max(n, count));
+    storage::zero_words(words, 0, word::max(n, count));
     walk(&mut words[..count], text);
     Change::Done(Bitmap { count: count, ..b })
 }

@@ -1,32 +1,31 @@
 -- The promises of specs/Promises. Assumes nothing.
-use Prim.Native.Nat.{ℕ}
-use mathlib.Core.Logic.{_↔_}
+use mathlib.Core.Path.{refl}
 use Rattle.told.specs.declared.Told.{Told}
-use Rattle.told.specs.Tellings.{Tells}
 use Rattle.told.specs.Promises.{Four, FourNumbers}
 
-four : {n t v a : ℕ} (r : Told) → Tells r n t v a ↔ Four r n t v a
-four r = ((λ o. (o .number, o .tag, o .value, o .also)), (λ q. record { number = q .0; tag = q .1; value = q .2; also = q .3 }))
+same : (r : Told) → Four r (r .number) (r .tag) (r .value) (r .also)
+same r = (refl, refl, refl, refl)
 
 pub four-numbers : FourNumbers
 four-numbers = record {
-  tells = λ n t v a r. four r;
-  found-at = λ p r. four r;
-  found-nothing = four;
-  found-refused = λ e r. four r;
-  number-is = λ n r. four r;
-  number-refused = λ e r. four r;
-  field-is = λ x r. four r;
-  field-refused = λ e r. four r;
-  truth-true = four;
-  truth-false = four;
-  truth-refused = λ e r. four r;
-  change-done = λ b r. four r;
-  change-refused = λ e b r. four r;
-  split-done = λ h u r. four r;
-  split-refused = λ e b r. four r;
-  word-at = λ k w r. four r;
-  word-nothing = four;
-  guard-pass = four;
-  guard-stop = λ e r. four r;
+  alike = λ r t. ((λ o. (o .number, o .tag, o .value, o .also)), (λ q. record { number = q .0; tag = q .1; value = q .2; also = q .3 }));
+  four = λ n t v a. same _;
+  found-at = λ p. same _;
+  found-nothing = same _;
+  found-refused = λ e. same _;
+  amount-is = λ n. same _;
+  amount-refused = λ e. same _;
+  field-is = λ x. same _;
+  field-refused = λ e. same _;
+  truth-true = same _;
+  truth-false = same _;
+  truth-refused = λ e. same _;
+  change-done = λ b. same _;
+  change-refused = λ e b. same _;
+  split-done = λ h u. same _;
+  split-refused = λ e b. same _;
+  word-at = λ k w. same _;
+  word-nothing = same _;
+  guard-pass = same _;
+  guard-stop = λ e. same _;
 }

@@ -1,5 +1,5 @@
 -- A walk to the least member from a place on, word by word. Assumes nothing.
-use mathlib.Core.Path.{_≡_, sym, ap, ap₂, _∙_, subst}
+use mathlib.Core.Path.{_≡_, refl, sym, ap, ap₂, _∙_, subst}
 use mathlib.Core.Bool.{Bool, true, false, _&&_, false≢true}
 use mathlib.Core.List.{List}
 use Prim.Native.Nat.{ℕ, _+_, _-_, _*_, _/_, _%_, _^_, _≤_, _<_}
@@ -10,13 +10,14 @@ use lib.Dec.{leb}
 use lib.Pow.{pow-pos}
 use borrow.Author.Tests.{lt-ltb, le-ltb, le-leb, lt-leb, leb-true}
 use Rattle.word.specs.Sets.{choose, leastFrom, Least}
-use Rattle.word.specs.Bits.{bit, member}
+use Rattle.word.specs.Places.{bit, member}
 use Rattle.word.proofs.Cases.{by-lt, by-eq, and-true}
-use Rattle.word.proofs.Bits.{bit-zero, bit-from}
+use Rattle.word.proofs.Places.{bit-zero, bit-from}
 use Rattle.word.proofs.Sets.{least, least-is}
 use Rattle.word.proofs.Words.{least-bit}
-use Rattle.word.proofs.Lists.{past, at-place, member-at, member-past}
-use Rattle.storage.specs.Stores.{Bits, limit, checked, combined, foundBelow, nextFrom}
+use Rattle.word.proofs.Lists.{Fit, past, at-place, member-at, member-past}
+use Rattle.storage.specs.Stores.{Bits, storeLimit, checked, combined, foundBelow, nextFrom}
+use Rattle.storage.specs.Kernels.{allWords}
 use Rattle.storage.specs.Guards.{PassedTwo}
 use Rattle.storage.specs.declared.Bitmap.{Bitmap}
 use Rattle.storage.specs.declared.Refusal.{Refusal}
@@ -24,31 +25,28 @@ use Rattle.storage.specs.declared.Guard.the-variants.{Pass, Stop}
 use Rattle.storage.specs.declared.Found.{Found}
 use Rattle.storage.specs.declared.Found.the-variants.{At, Nothing, Refused}
 use Rattle.storage.proofs.Checks.{both-stopped}
+use Rattle.storage.proofs.Combined.{both-read, all-count, all-member}
 use Rattle.arch.specs.Scans.{Alike}
-use Rattle.arch.proofs.Scans.{alike-join}
-use Rattle.pairs.specs.Pairs.{tableOf, wordsBy}
-use Rattle.pairs.specs.Kernels.{endBy}
+use Rattle.pairs.specs.Pairs.{wordsBy}
 use Rattle.pairs.specs.declared.SetOp.{SetOp}
-use Rattle.pairs.proofs.Tables.{by-length, by-fit, by-member}
-use Rattle.pairs.proofs.Scans.{past-end}
-use Rattle.algebra.specs.Kernels.{made}
-use Rattle.algebra.proofs.Readings.{both-read}
-use Rattle.algebra.proofs.Tables.{Holds}
+use Rattle.pairs.proofs.Tables.{by-length}
 use Rattle.walk.specs.Walks.{walkOf}
+use Rattle.walk.specs.Kernels.{Clear, NextBelow}
 
 -- no member from i on is below word k, and w has those of word k that are
-pub record Ahead (c : Bits) (i k w : ℕ) : Type 0 where
-  pub fits : w < 2 ^ 64
-  pub near : i < 64 * k + 64
-  pub under : (q : ℕ) → i ≤ q → q < 64 * k → c .members q ≡ false
-  pub bits : (j : ℕ) → j < 64 → bit w j ≡ leb i (64 * k + j) && c .members (64 * k + j)
+record Ahead (c : Bits) (i k w : ℕ) : Type 0 where
+  fits : w < 2 ^ 64
+  near : i < 64 * k + 64
+  under : (q : ℕ) → i ≤ q → q < 64 * k → c .members q ≡ false
+  bits : (j : ℕ) → j < 64 → bit w j ≡ leb i (64 * k + j) && c .members (64 * k + j)
 
-pub ahead-start : {c : Bits} (i : ℕ) {x : ℕ} → Holds c (i / 64) x → Ahead c i (i / 64) (x / 2 ^ (i % 64) * 2 ^ (i % 64) % 2 ^ 64)
-ahead-start {c} i {x} h = record {
+ahead-start : {c : Bits} (i x : ℕ) → ((j : ℕ) → j < 64 → bit x j ≡ c .members (64 * (i / 64) + j))
+    → Ahead c i (i / 64) (x / 2 ^ (i % 64) * 2 ^ (i % 64) % 2 ^ 64)
+ahead-start {c} i x h = record {
   fits = mod-lt _ (pow-pos 64);
   near = omega arith;
   under = λ q p l. absurd (omega arith);
-  bits = λ j l. bit-from x (i % 64) 64 j l ∙ ap₂ (λ (p q : Bool). p && q) (same j) (h .bits j l);
+  bits = λ j l. bit-from x (i % 64) 64 j l ∙ ap₂ (λ (p q : Bool). p && q) (same j) (h j l);
 }
   where
     same : (j : ℕ) → leb (i % 64) j ≡ leb i (64 * (i / 64) + j)
@@ -58,7 +56,7 @@ ahead-start {c} i {x} h = record {
         (λ p. le-leb (i % 64) j p ∙ sym (le-leb i (64 * (i / 64) + j) (omega arith)))
 
 -- where w is 0, no member from i on is below the next word
-pub ahead-passed : {c : Bits} {i k w : ℕ} → Ahead c i k w → w ≡ 0 → (q : ℕ) → i ≤ q → q < 64 * (k + 1) → c .members q ≡ false
+ahead-passed : {c : Bits} {i k w : ℕ} → Ahead c i k w → w ≡ 0 → (q : ℕ) → i ≤ q → q < 64 * (k + 1) → c .members q ≡ false
 ahead-passed {c} {i} {k} {w} a e q p l =
     by-lt q (64 * k)
     (λ h. a .under q p h)
@@ -72,7 +70,7 @@ ahead-passed {c} {i} {k} {w} a e q p l =
 -- ---- where it stops
 
 -- p is the least member from i on
-pub found-is : (c : Bits) (i p : ℕ) → p < 64 * c .count → i ≤ p → c .members p ≡ true → ((q : ℕ) → i ≤ q → q < p → c .members q ≡ false) → At p ≡ nextFrom c i
+found-is : (c : Bits) (i p : ℕ) → p < 64 * c .count → i ≤ p → c .members p ≡ true → ((q : ℕ) → i ≤ q → q < p → c .members q ≡ false) → At p ≡ nextFrom c i
 unfolding nextFrom foundBelow
 found-is c i p l h e u =
     sym
@@ -80,7 +78,7 @@ found-is c i p l h e u =
     (least-is (c .members) i (64 * c .count - i) p (record { from = h; within = omega arith; here = λ m. e; under = u }))
     ∙ ap (λ (t : Bool). choose t (At p) Nothing) (lt-ltb p (64 * c .count) l))
 
-pub none-is : (c : Bits) (i : ℕ) → ((q : ℕ) → i ≤ q → q < 64 * c .count → c .members q ≡ false) → Nothing ≡ nextFrom c i
+none-is : (c : Bits) (i : ℕ) → ((q : ℕ) → i ≤ q → q < 64 * c .count → c .members q ≡ false) → Nothing ≡ nextFrom c i
 unfolding nextFrom foundBelow
 none-is c i u = sym (ap (λ (t : Bool). choose t (At p) Nothing) (le-ltb p (64 * c .count) past))
   where
@@ -122,93 +120,90 @@ ahead-found {c} {i} {k} {w} {t} a z h e =
 pub least64 : (w : ℕ) → leastFrom (bit w) 0 64 ≤ 64
 least64 w = least (bit w) 0 64 .within
 
--- ---- a set that an operation makes of two lists of words
+-- ---- the words of a list
 
-module _ (op : SetOp) (xs ys : List ℕ) where
-  abbrev words : List ℕ
-  words = wordsBy op xs ys
+-- a word that is not 0 is one of the longer list's
+pub word-below : (op : SetOp) (xs ys : List ℕ) (k x : ℕ) → x ≡ getD (wordsBy op xs ys) k 0 → (x ≡ 0 → ⊥) → length xs ≤ storeLimit → length ys ≤ storeLimit → k < storeLimit
+word-below op xs ys k x e z h l =
+    by-lt k (length (wordsBy op xs ys)) (λ m. omega (arith, by-length op xs ys)) (λ m. absurd (z (e ∙ past (wordsBy op xs ys) k m)))
 
+module _ (ws : List ℕ) (fit : Fit ws) where
   abbrev set : Bits
-  set = made (tableOf op) xs ys
+  set = allWords ws
 
-  holds-word : (k x : ℕ) → x ≡ getD (wordsBy op xs ys) k 0 → Holds (made (tableOf op) xs ys) k x
-  unfolding combined
-  holds-word k x e = record {
-    fits = subst (λ (y : ℕ). y < 2 ^ 64) (sym e) (by-fit op xs ys k);
-    bits = λ j l. ap (λ (y : ℕ). bit y j) e ∙ sym (member-at words k j l) ∙ by-member op xs ys (64 * k + j);
+  word-bits : (k x : ℕ) → x ≡ getD ws k 0 → (j : ℕ) → j < 64 → bit x j ≡ allWords ws .members (64 * k + j)
+  word-bits k x e j l = ap (λ (y : ℕ). bit y j) e ∙ sym (member-at ws k j l) ∙ sym (all-member ws (64 * k + j))
+
+  -- past words that are 0 it is clear
+  pub clear-on : {i k e : ℕ} → Clear ws i k → k ≤ e → Alike ws 0 k e → Clear ws i e
+  clear-on {i} {k} {e} c h z = record {
+    far = omega (arith, c .far);
+    none = λ q p l. by-lt q (64 * k) (λ m. c .none q p m) (λ m.
+        ap (member ws) (sym (at-place q)) ∙ member-at ws (q / 64) (q % 64) (omega arith)
+        ∙ ap (λ (y : ℕ). bit y (q % 64)) (z .at (q / 64) (omega arith) (omega arith)) ∙ bit-zero (q % 64));
   }
 
-  count-long : made (tableOf op) xs ys .count ≡ length (wordsBy op xs ys)
-  unfolding combined
-  count-long = sym (by-length op xs ys)
-
-  -- words that are 0 have no member, nor has what is past the end
-  no-member : {a e : ℕ} → Alike (wordsBy op xs ys) 0 a e → (q : ℕ) → 64 * a ≤ q → q < 64 * e → made (tableOf op) xs ys .members q ≡ false
-  unfolding combined
-  no-member z q p l =
-      sym (by-member op xs ys q) ∙ ap (member words) (sym (at-place q)) ∙ member-at words (q / 64) (q % 64) (omega arith)
-      ∙ ap (λ (y : ℕ). bit y (q % 64)) (z .at (q / 64) (omega arith) (omega arith)) ∙ bit-zero (q % 64)
-
-  no-past : (q : ℕ) → 64 * length (wordsBy op xs ys) ≤ q → made (tableOf op) xs ys .members q ≡ false
-  unfolding combined
-  no-past q l = sym (by-member op xs ys q) ∙ member-past words q l
-
-  -- a word that is not 0 is one of the longer list's
-  pub word-below : (k x : ℕ) → x ≡ getD (wordsBy op xs ys) k 0 → (x ≡ 0 → ⊥) → length xs ≤ limit → length ys ≤ limit → k < limit
-  word-below k x e z h l = by-lt k (length words) (λ m. omega (arith, by-length op xs ys)) (λ m. absurd (z (e ∙ past words k m)))
-
-  module _ (i x : ℕ) (e : x ≡ getD (wordsBy op xs ys) (i / 64) 0) where
+  module _ (i x : ℕ) (e : x ≡ getD ws (i / 64) 0) where
     abbrev here : ℕ
     here = x / 2 ^ (i % 64) * 2 ^ (i % 64) % 2 ^ 64
 
-    ahead : Ahead (made (tableOf op) xs ys) i (i / 64) (x / 2 ^ (i % 64) * 2 ^ (i % 64) % 2 ^ 64)
-    ahead = ahead-start i (holds-word (i / 64) x e)
+    ahead : Ahead (allWords ws) i (i / 64) (x / 2 ^ (i % 64) * 2 ^ (i % 64) % 2 ^ 64)
+    ahead = ahead-start i x (word-bits (i / 64) x e)
 
-    pub next-here : {v : ℕ} → (here ≡ 0 → ⊥) → v ≡ leastFrom (bit here) 0 64 → At (64 * (i / 64) + v) ≡ nextFrom set i
-    next-here z t = ahead-found ahead z (omega (arith, count-long, inside)) t
+    pub next-here : {v : ℕ} → (here ≡ 0 → ⊥) → v ≡ leastFrom (bit here) 0 64 → At (64 * (i / 64) + v) ≡ nextFrom (allWords ws) i
+    next-here z t = ahead-found ahead z (omega (arith, all-count ws, inside)) t
       where
-        inside : i / 64 < length (wordsBy op xs ys)
+        inside : i / 64 < length ws
         inside =
             let b = ahead-bit ahead z in
-            by-lt (i / 64) (length words) (λ l. l)
-            (λ l. absurd (false≢true (sym (no-past (64 * (i / 64) + leastFrom (bit here) 0 64) (omega arith)) ∙ b .2)))
+            let p : ℕ = 64 * (i / 64) + leastFrom (bit here) 0 64 in
+            by-lt (i / 64) (length ws) (λ l. l) (λ l. absurd (false≢true (sym (all-member ws p ∙ member-past ws p (omega arith)) ∙ b .2)))
 
     pub here-below : (here ≡ 0 → ⊥) → leastFrom (bit here) 0 64 < 64
     here-below z = ahead-bit ahead z .0
 
-    -- further on, past words that are 0
-    module _ (z : here ≡ 0) (p : ℕ) (h : i / 64 + 1 ≤ p) (s : Alike (wordsBy op xs ys) 0 (i / 64 + 1) p) where
-      far : (y : ℕ) → y ≡ getD (wordsBy op xs ys) p 0 → Ahead (made (tableOf op) xs ys) i p y
-      far y g = record {
-        fits = holds-word p y g .fits;
-        near = omega arith;
-        under = λ q a l. by-lt q (64 * (i / 64 + 1)) (λ m. ahead-passed ahead z q a m) (λ m. no-member s q m l);
-        bits = λ j l. holds-word p y g .bits j l ∙ ap (λ (t : Bool). t && made (tableOf op) xs ys .members (64 * p + j)) (sym (le-leb i (64 * p + j) (omega arith)));
-      }
+    pub clear-here : here ≡ 0 → Clear ws i (i / 64 + 1)
+    clear-here z = record { far = omega arith; none = λ q p l. sym (all-member ws q) ∙ ahead-passed ahead z q p l }
 
-      pub next-later : {y v : ℕ} → y ≡ getD (wordsBy op xs ys) p 0 → (y ≡ 0 → ⊥) → v ≡ leastFrom (bit y) 0 64 → At (64 * p + v) ≡ nextFrom set i
-      next-later {y} g n t =
-          ahead-found (far y g) n
-          (by-lt p (length words) (λ l. omega (arith, count-long)) (λ l. absurd (n (g ∙ past words p l)))) t
+  -- further on, past words that are 0
+  module _ {i k : ℕ} (c : Clear ws i k) where
+    pub next-later : {y v : ℕ} → y ≡ getD ws k 0 → (y ≡ 0 → ⊥) → v ≡ leastFrom (bit y) 0 64 → At (64 * k + v) ≡ nextFrom (allWords ws) i
+    next-later {y} g n t = ahead-found there n (by-lt k (length ws) (λ l. omega (arith, all-count ws)) (λ l. absurd (n (g ∙ past ws k l)))) t
+      where
+        there : Ahead (allWords ws) i k y
+        there = record {
+          fits = subst (λ (x : ℕ). x < 2 ^ 64) (sym g) (fit k);
+          near = omega (arith, c .far);
+          under = λ q a l. all-member ws q ∙ c .none q a l;
+          bits = λ j l. word-bits k y g j l ∙ ap (λ (t : Bool). t && allWords ws .members (64 * k + j)) (sym (le-leb i (64 * k + j) (omega (arith, c .far))));
+        }
 
-      pub next-none : (e : ℕ) → e ≡ endBy op (length xs) (length ys) → e ≤ p → Nothing ≡ nextFrom set i
-      next-none e q l =
-          none-is set i
-          (λ r a m.
-          by-lt r (64 * (i / 64 + 1))
-          (λ n. ahead-passed ahead z r a n)
-          (λ n. no-member (alike-join s (past-end op xs ys e q (length words)) l) r n (omega (arith, count-long))))
+    pub next-none : length ws ≤ k → Nothing ≡ nextFrom (allWords ws) i
+    next-none l = none-is (allWords ws) i (λ q a m. all-member ws q ∙ c .none q a (omega (arith, all-count ws)))
+
+-- ---- the answer of a part of the walk
+
+abbrev pub isNone : Found → Bool
+isNone (At p) = false
+isNone Nothing = true
+isNone (Refused e) = false
+
+pub below-at : {ws : List ℕ} {i k p : ℕ} → At p ≡ nextFrom (allWords ws) i → NextBelow ws i k (At p)
+below-at e = record { found = λ n. e; nothing = λ q. absurd (false≢true (ap isNone q)) }
+
+pub below-none : {ws : List ℕ} {i k : ℕ} → Clear ws i k → NextBelow ws i k Nothing
+below-none c = record { found = λ n. absurd (n refl); nothing = λ q. c }
+
+pub below-found : {ws : List ℕ} {i k : ℕ} {r s : Found} → NextBelow ws i k r → r ≡ s → isNone s ≡ false → s ≡ nextFrom (allWords ws) i
+below-found h e n = sym e ∙ h .found (λ q. false≢true (sym n ∙ ap isNone (sym e ∙ q)))
 
 -- ---- the call
 
-abbrev pub isNext : (Bool → Bool → Bool) → ℕ → Bits → Bits → Found
-isNext f i b o = nextFrom (combined f b o) i
-
-module _ (f : Bool → Bool → Bool) (ws : List ℕ) (b : Bitmap) (os : List ℕ) (o : Bitmap) where
-  pub walk-stopped : (i : ℕ) {e : Refusal} → Stop e ≡ checked ws b Stop (checked os o Stop Pass) → Refused e ≡ walkOf f ws b os o i
+module _ (op : SetOp) (ws : List ℕ) (b : Bitmap) (os : List ℕ) (o : Bitmap) where
+  pub walk-stopped : (i : ℕ) {e : Refusal} → Stop e ≡ checked ws b Stop (checked os o Stop Pass) → Refused e ≡ walkOf op ws b os o i
   unfolding walkOf
-  walk-stopped i {e} p = sym (both-stopped ws b os o Refused (isNext f i) e p)
+  walk-stopped i {e} p = sym (both-stopped ws b os o Refused (λ s t. nextFrom (combined op s t) i) e p)
 
-  pub walked : (i : ℕ) {r : Found} → PassedTwo ws b os o → r ≡ nextFrom (made f (take (b .count) ws) (take (o .count) os)) i → r ≡ walkOf f ws b os o i
+  pub walked : (i : ℕ) {r : Found} → PassedTwo ws b os o → r ≡ nextFrom (allWords (wordsBy op (take (b .count) ws) (take (o .count) os))) i → r ≡ walkOf op ws b os o i
   unfolding walkOf
-  walked i p e = e ∙ sym (both-read ws b os o Refused (isNext f i) p)
+  walked i p e = e ∙ sym (both-read op ws b os o Refused (λ c. nextFrom c i) p)

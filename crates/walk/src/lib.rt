@@ -3,18 +3,17 @@
 // Every call refuses for the first store and then for the second, and changes nothing. Each kernel takes the words in use of the two bitmaps.
 mod kernels;
 
+use pairs::SetOp;
 use storage::Bitmap;
 use storage::Found;
 use storage::Guard;
 ghost use mathlib.Core.Path.{_≡_};
-ghost use mathlib.Core.Bool.{_&&_, _||_};
-ghost use Rattle.word.specs.Sets.{xorb};
-ghost use Rattle.storage.specs.Stores.{andNot};
+ghost use Rattle.pairs.specs.declared.SetOp.the-variants.{And, AndNot, Or, Xor};
 ghost use Rattle.walk.specs.Walks.{walkOf};
 
 // The least number from i on that is in both bitmaps, or nothing.
 pub fn iter_and(words: &[u64], b: Bitmap, other: &[u64], o: Bitmap, i: usize) -> Found
-    ensures { λ r. ⌜ r ≡ walkOf (λ p q. p && q) (now (words .entry)) b (now (other .entry)) o i ⌝ }
+    ensures { λ r. ⌜ r ≡ walkOf And (now (words .entry)) b (now (other .entry)) o i ⌝ }
 {
     let n = b.count;
     let m = o.count;
@@ -22,12 +21,16 @@ pub fn iter_and(words: &[u64], b: Bitmap, other: &[u64], o: Bitmap, i: usize) ->
         Guard::Stop(e) => return Found::Refused(e),
         Guard::Pass => {}
     }
-    kernels::next_and(&words[..n], &other[..m], i)
+    match kernels::near(SetOp::And, &words[..n], &other[..m], i) {
+        Found::Nothing => kernels::far(SetOp::And, &words[..n], &other[..m], i / 64 + 2),
+        Found::At(p) => Found::At(p),
+        Found::Refused(e) => Found::Refused(e),
+    }
 }
 
 // The least number from i on that is in either bitmap, or nothing.
 pub fn iter_or(words: &[u64], b: Bitmap, other: &[u64], o: Bitmap, i: usize) -> Found
-    ensures { λ r. ⌜ r ≡ walkOf (λ p q. p || q) (now (words .entry)) b (now (other .entry)) o i ⌝ }
+    ensures { λ r. ⌜ r ≡ walkOf Or (now (words .entry)) b (now (other .entry)) o i ⌝ }
 {
     let n = b.count;
     let m = o.count;
@@ -35,12 +38,16 @@ pub fn iter_or(words: &[u64], b: Bitmap, other: &[u64], o: Bitmap, i: usize) -> 
         Guard::Stop(e) => return Found::Refused(e),
         Guard::Pass => {}
     }
-    kernels::next_or(&words[..n], &other[..m], i)
+    match kernels::near(SetOp::Or, &words[..n], &other[..m], i) {
+        Found::Nothing => kernels::far(SetOp::Or, &words[..n], &other[..m], i / 64 + 2),
+        Found::At(p) => Found::At(p),
+        Found::Refused(e) => Found::Refused(e),
+    }
 }
 
 // The least number from i on that is in one bitmap and not in both, or nothing.
 pub fn iter_xor(words: &[u64], b: Bitmap, other: &[u64], o: Bitmap, i: usize) -> Found
-    ensures { λ r. ⌜ r ≡ walkOf xorb (now (words .entry)) b (now (other .entry)) o i ⌝ }
+    ensures { λ r. ⌜ r ≡ walkOf Xor (now (words .entry)) b (now (other .entry)) o i ⌝ }
 {
     let n = b.count;
     let m = o.count;
@@ -48,12 +55,16 @@ pub fn iter_xor(words: &[u64], b: Bitmap, other: &[u64], o: Bitmap, i: usize) ->
         Guard::Stop(e) => return Found::Refused(e),
         Guard::Pass => {}
     }
-    kernels::next_xor(&words[..n], &other[..m], i)
+    match kernels::near(SetOp::Xor, &words[..n], &other[..m], i) {
+        Found::Nothing => kernels::far(SetOp::Xor, &words[..n], &other[..m], i / 64 + 2),
+        Found::At(p) => Found::At(p),
+        Found::Refused(e) => Found::Refused(e),
+    }
 }
 
 // The least number from i on that is in the first bitmap and not in the second, or nothing.
 pub fn iter_andnot(words: &[u64], b: Bitmap, other: &[u64], o: Bitmap, i: usize) -> Found
-    ensures { λ r. ⌜ r ≡ walkOf andNot (now (words .entry)) b (now (other .entry)) o i ⌝ }
+    ensures { λ r. ⌜ r ≡ walkOf AndNot (now (words .entry)) b (now (other .entry)) o i ⌝ }
 {
     let n = b.count;
     let m = o.count;
@@ -61,5 +72,9 @@ pub fn iter_andnot(words: &[u64], b: Bitmap, other: &[u64], o: Bitmap, i: usize)
         Guard::Stop(e) => return Found::Refused(e),
         Guard::Pass => {}
     }
-    kernels::next_andnot(&words[..n], &other[..m], i)
+    match kernels::near(SetOp::AndNot, &words[..n], &other[..m], i) {
+        Found::Nothing => kernels::far(SetOp::AndNot, &words[..n], &other[..m], i / 64 + 2),
+        Found::At(p) => Found::At(p),
+        Found::Refused(e) => Found::Refused(e),
+    }
 }

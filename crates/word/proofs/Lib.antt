@@ -1,6 +1,6 @@
 pub mod Cases
 pub mod Eights
-pub mod Bits
+pub mod Places
 pub mod Sets
 pub mod Words
 pub mod Reverse

@@ -7,9 +7,9 @@ use native.Mathlib.Nat.{not-suc-le-zero, le-of-suc-le-suc, add-zero, add-suc, su
 use native.Mathlib.Omega.{arith}
 use lib.ListN.{length, getD, List·getD-eq-default}
 use lib.Seq.{ext-getD}
-use Rattle.word.specs.Bits.{bit, wordOf, member, tabFrom, wordsOf}
+use Rattle.word.specs.Places.{bit, wordOf, member, tabFrom, wordsOf}
 use Rattle.word.proofs.Cases.{by-lt}
-use Rattle.word.proofs.Bits.{bit-zero, pack-lt, bit-pack, pack-is}
+use Rattle.word.proofs.Places.{bit-zero, pack-lt, bit-pack, pack-is}
 
 -- every word has 64 digits
 abbrev pub Fit : List ℕ → Type 0

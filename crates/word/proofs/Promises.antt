@@ -13,11 +13,11 @@ use lib.Arith.{lt-of-le-ne}
 use lib.Seq.{ext-getD}
 use lib.Pow.{pow-pos, pow-mono, pow-lt, pow-add, split, high, low, ones-lt}
 use Rattle.word.specs.Sets.{choose, countBelow, leastFrom, nth, Least, Top, Counted}
-use Rattle.word.specs.Bits.{isOne, bit, pack, wordOf, tabFrom, wordsOf}
+use Rattle.word.specs.Places.{isOne, bit, pack, wordOf, tabFrom, wordsOf}
 use Rattle.word.specs.Words.{lowMask, mirrored, withoutLeast, lowProduct, funneled, pairBit}
-use Rattle.word.specs.Promises.{TestsMean, Ranked, SetsMean, HasDigit, Digits, BitsMean, MasksMean, WordsMean}
+use Rattle.word.specs.Promises.{TestsMean, Ranked, SetsMean, HasDigit, HasDigits, BitsMean, MasksMean, WordsMean}
 use Rattle.word.proofs.Cases.{by-lt, by-test, and-true, or-true}
-use Rattle.word.proofs.Bits.{bit-ones, bit-pack, pack-lt, pack-is}
+use Rattle.word.proofs.Places.{bit-ones, bit-pack, pack-lt, pack-is}
 use Rattle.word.proofs.Sets.{Nth, counts, counted, count-more, least, least-is, top, top-is, nth-is, nth-none, nth-has}
 use Rattle.word.proofs.Words.{all-mask, single-is, up-out, mirrors, from-place}
 use Rattle.word.proofs.Lists.{length-tab, getD-tab, tab-is, length-words, word-at, member-at, member-past}
@@ -112,7 +112,7 @@ same-test true b e = sym (e .0 refl)
 same-test false b e = by-test b (λ t. absurd (true≢false (sym (e .1 t)))) (λ t. sym t)
 
 -- the number that is packed from a test
-packs : (w : ℕ) (p : ℕ → Bool) (P : ℕ → Type 0) → ((i : ℕ) → i < w → (p i ≡ true) ↔ P i) → (x : ℕ) → (x ≡ pack w p) ↔ Digits w P x
+packs : (w : ℕ) (p : ℕ → Bool) (P : ℕ → Type 0) → ((i : ℕ) → i < w → (p i ≡ true) ↔ P i) → (x : ℕ) → (x ≡ pack w p) ↔ HasDigits w P x
 packs w p P h x = (
   λ e. (
     subst (λ (y : ℕ). y < 2 ^ w) (sym e) (pack-lt w p),
@@ -123,7 +123,7 @@ packs w p P h x = (
   λ d. pack-is w x p (d .0) (λ i l. same-test (bit x i) (p i) ((λ t. h i l .1 (d .1 i l .0 t)), (λ t. d .1 i l .1 (h i l .0 t)))),
 )
 
-word-means : (s : ℕ → Bool) (k x : ℕ) → (x ≡ wordOf s k) ↔ Digits 64 (λ j. s (64 * k + j) ≡ true) x
+word-means : (s : ℕ → Bool) (k x : ℕ) → (x ≡ wordOf s k) ↔ HasDigits 64 (λ j. s (64 * k + j) ≡ true) x
 unfolding wordOf
 word-means s k x = packs 64 (λ j. s (64 * k + j)) (λ j. s (64 * k + j) ≡ true) (λ j l. ((λ t. t), (λ t. t))) x
 
@@ -136,7 +136,7 @@ list-means i n f xs = (
 )
 
 set-means : (s : ℕ → Bool) (n : ℕ) (ws : List ℕ)
-    → (ws ≡ wordsOf s n) ↔ ((length ws ≡ n) × ((k : ℕ) → k < n → Digits 64 (λ j. s (64 * k + j) ≡ true) (getD ws k 0)))
+    → (ws ≡ wordsOf s n) ↔ ((length ws ≡ n) × ((k : ℕ) → k < n → HasDigits 64 (λ j. s (64 * k + j) ≡ true) (getD ws k 0)))
 unfolding wordsOf
 set-means s n ws = (
   λ e. (ap length e ∙ length-words s n, λ k l. word-means s k (getD ws k 0) .0 (ap (λ (xs : List ℕ). getD xs k 0) e ∙ word-at s n k l)),
@@ -171,14 +171,14 @@ masks-mean = record {
 
 -- ---- what is made of a word
 
-mirror-means : (w x y : ℕ) → (y ≡ mirrored w x) ↔ Digits w (λ i. (j : ℕ) × (i + j + 1 ≡ w) × (bit x j ≡ true)) y
+mirror-means : (w x y : ℕ) → (y ≡ mirrored w x) ↔ HasDigits w (λ i. (j : ℕ) × (i + j + 1 ≡ w) × (bit x j ≡ true)) y
 unfolding mirrored
 mirror-means w x y =
     packs w (λ i. bit x (w - suc i)) (λ i. (j : ℕ) × (i + j + 1 ≡ w) × (bit x j ≡ true))
     (λ i l. ((λ t. (w - suc i, omega arith, t)), (λ c. ap (bit x) (omega (arith, c .1)) ∙ c .2))) y
 
 -- a place other than the least has the least below it
-cleared-means : (w x y : ℕ) → (y ≡ withoutLeast w x) ↔ Digits w (λ i. (bit x i ≡ true) × ((j : ℕ) × (j < i) × (bit x j ≡ true))) y
+cleared-means : (w x y : ℕ) → (y ≡ withoutLeast w x) ↔ HasDigits w (λ i. (bit x i ≡ true) × ((j : ℕ) × (j < i) × (bit x j ≡ true))) y
 unfolding withoutLeast
 cleared-means w x y =
     packs w (λ i. bit x i && not (eqb i t)) (λ i. (bit x i ≡ true) × ((j : ℕ) × (j < i) × (bit x j ≡ true))) (λ i l. (there i l, back i l)) y
@@ -212,7 +212,7 @@ product-means w x y z = (
 )
 
 funnel-means : (w lo hi down up y : ℕ)
-    → (y ≡ funneled w lo hi down up) ↔ Digits w (λ j. (bit lo (down + j) ≡ true) ⊎ ((i : ℕ) × (i + up ≡ j) × (bit hi i ≡ true))) y
+    → (y ≡ funneled w lo hi down up) ↔ HasDigits w (λ j. (bit lo (down + j) ≡ true) ⊎ ((i : ℕ) × (i + up ≡ j) × (bit hi i ≡ true))) y
 unfolding funneled
 funnel-means w lo hi down up y =
     packs w (λ j. bit lo (down + j) || (leb up j && bit hi (j - up))) (λ j. (bit lo (down + j) ≡ true) ⊎ ((i : ℕ) × (i + up ≡ j) × (bit hi i ≡ true)))

@@ -6,10 +6,10 @@ use native.Mathlib.Omega.{arith}
 use lib.Dec.{T, leb, eqb, eqb→eq}
 use lib.Bits.{bitAnd, bitOr}
 use Rattle.word.specs.Sets.{choose}
-use Rattle.word.specs.Bits.{bit}
+use Rattle.word.specs.Places.{bit}
 use Rattle.word.specs.Words.{mirrored}
 use Rattle.word.proofs.Cases.{every, every-at, or-false, and-false, and-keep}
-use Rattle.word.proofs.Bits.{bit-and, bit-or, bit-shr, bit-shl-mod, pack-is}
+use Rattle.word.proofs.Places.{bit-and, bit-or, bit-shr, bit-shl-mod, pack-is}
 
 -- ---- one swap
 

@@ -6,7 +6,7 @@ use Prim.Native.Nat.{ℕ, _+_, _-_, _*_, _^_, _≤_, _<_}
 use native.Mathlib.Omega.{arith}
 use lib.ListN.{length, getD, set, take, drop, length-set, length-append, length-drop, List·getD-append}
 use lib.Seq.{getD-set-same, getD-set-other, getD-append-add, getD-take, getD-drop, length-take-le}
-use Rattle.word.specs.Bits.{bit, wordsOf}
+use Rattle.word.specs.Places.{bit, wordsOf}
 use Rattle.word.proofs.Cases.{by-eq}
 use Rattle.word.proofs.Lists.{words-is}
 

@@ -11,12 +11,12 @@ use lib.Count.{ones, ones-cat, leadingZeros, leading-top, leading-of-zero, trail
 use lib.Pow.{pow-pos, pow-mono, pow-lt, pow-add, split, ones-lt, ones-sub-lt, shr-lt}
 use lib.Bits.{bitAnd, bitOr, and-lt, or-lt}
 use Rattle.word.specs.Sets.{choose, val, countBelow, leastFrom, topBelow, Least}
-use Rattle.word.specs.Bits.{isOne, bit}
+use Rattle.word.specs.Places.{isOne, bit}
 use Rattle.word.specs.Words.{lowMask, single, mirrored, withoutLeast, funneled, pairBit}
 use Rattle.word.specs.Promises.{FromPlace}
 use Rattle.word.proofs.Cases.{by-lt, by-eq, or-false, and-keep, and-same}
-use Rattle.word.proofs.Bits.{bit-and, bit-or, bit-zero, bit-shr, bit-past, bit-mod, bit-cat-low, bit-cat-high, bit-shl-mod, bit-ones, bit-not}
-use Rattle.word.proofs.Bits.{bit-suc, bits-ext, pack-lt, bit-pack, pack-is, bit-one, no-bits}
+use Rattle.word.proofs.Places.{bit-and, bit-or, bit-zero, bit-shr, bit-past, bit-mod, bit-cat-low, bit-cat-high, bit-shl-mod, bit-ones, bit-not}
+use Rattle.word.proofs.Places.{bit-suc, bits-ext, pack-lt, bit-pack, pack-is, bit-one, no-bits}
 use Rattle.word.proofs.Sets.{count-ext, least, least-suc, least-ext, top-is}
 
 -- ---- the language's counts

@@ -1,4 +1,4 @@
 pub mod Sets
-pub mod Bits
+pub mod Places
 pub mod Words
 pub mod Promises

@@ -7,7 +7,7 @@ use mathlib.Core.List.{List}
 use mathlib.Core.Logic.{_↔_, _⊎_}
 use lib.ListN.{length, getD}
 use Rattle.word.specs.Sets.{choose, xorb, val, countBelow, leastFrom, topBelow, nth, Least, Top, Counted}
-use Rattle.word.specs.Bits.{isOne, bit, pack, wordOf, member, tabFrom, wordsOf}
+use Rattle.word.specs.Places.{isOne, bit, pack, wordOf, member, tabFrom, wordsOf}
 use Rattle.word.specs.Words.{allOnes, lowMask, single, mirrored, withoutLeast, lowProduct, funneled, pairBit}
 
 -- truth values, line by line
@@ -39,19 +39,19 @@ abbrev pub HasDigit : ℕ → ℕ → Type 0
 HasDigit x i = (q : ℕ) × (r : ℕ) × (x ≡ q * 2 ^ (i + 1) + 2 ^ i + r) × (r < 2 ^ i)
 
 -- x has w digits, and digit i is 1 exactly where P i holds: there is one such number
-abbrev pub Digits : ℕ → (ℕ → Type 0) → ℕ → Type 0
-Digits w P x = (x < 2 ^ w) × ((i : ℕ) → i < w → (bit x i ≡ true) ↔ P i)
+abbrev pub HasDigits : ℕ → (ℕ → Type 0) → ℕ → Type 0
+HasDigits w P x = (x < 2 ^ w) × ((i : ℕ) → i < w → (bit x i ≡ true) ↔ P i)
 
 -- numbers as sets of places, and words as sets of numbers: number 64 * k + j is digit j of word k
 pub record BitsMean : Type 0 where
   pub digit : (x i : ℕ) → (bit x i ≡ true) ↔ HasDigit x i
-  pub packed : (w : ℕ) (p : ℕ → Bool) (x : ℕ) → (x ≡ pack w p) ↔ Digits w (λ i. p i ≡ true) x
-  pub word : (s : ℕ → Bool) (k x : ℕ) → (x ≡ wordOf s k) ↔ Digits 64 (λ j. s (64 * k + j) ≡ true) x
+  pub packed : (w : ℕ) (p : ℕ → Bool) (x : ℕ) → (x ≡ pack w p) ↔ HasDigits w (λ i. p i ≡ true) x
+  pub word : (s : ℕ → Bool) (k x : ℕ) → (x ≡ wordOf s k) ↔ HasDigits 64 (λ j. s (64 * k + j) ≡ true) x
   pub place : (ws : List ℕ) (k j : ℕ) → j < 64 → member ws (64 * k + j) ≡ bit (getD ws k 0) j
   pub past : (ws : List ℕ) (i : ℕ) → 64 * length ws ≤ i → member ws i ≡ false
   pub listed : (i n : ℕ) (f : ℕ → ℕ) (xs : List ℕ) → (xs ≡ tabFrom i n f) ↔ ((length xs ≡ n) × ((k : ℕ) → k < n → getD xs k 0 ≡ f (i + k)))
   pub words : (s : ℕ → Bool) (n : ℕ) (ws : List ℕ)
-      → (ws ≡ wordsOf s n) ↔ ((length ws ≡ n) × ((k : ℕ) → k < n → Digits 64 (λ j. s (64 * k + j) ≡ true) (getD ws k 0)))
+      → (ws ≡ wordsOf s n) ↔ ((length ws ≡ n) × ((k : ℕ) → k < n → HasDigits 64 (λ j. s (64 * k + j) ≡ true) (getD ws k 0)))
 
 -- masks, as numbers
 pub record MasksMean : Type 0 where
@@ -69,16 +69,22 @@ pub record FromPlace (w lo hi place y : ℕ) : Type 0 where
 -- what the functions of word.rs make of a word
 pub record WordsMean : Type 0 where
   -- `reverse_bits`: the places counted from the other end; twice gives the word back
-  pub mirror : (w x y : ℕ) → (y ≡ mirrored w x) ↔ Digits w (λ i. (j : ℕ) × (i + j + 1 ≡ w) × (bit x j ≡ true)) y
+  pub mirror : (w x y : ℕ) → (y ≡ mirrored w x) ↔ HasDigits w (λ i. (j : ℕ) × (i + j + 1 ≡ w) × (bit x j ≡ true)) y
   pub back : (w x : ℕ) → x < 2 ^ w → mirrored w (mirrored w x) ≡ x
   -- `clear_lowest_set`: a place stays exactly where there is one below it
-  pub cleared : (w x y : ℕ) → (y ≡ withoutLeast w x) ↔ Digits w (λ i. (bit x i ≡ true) × ((j : ℕ) × (j < i) × (bit x j ≡ true))) y
+  pub cleared : (w x y : ℕ) → (y ≡ withoutLeast w x) ↔ HasDigits w (λ i. (bit x i ≡ true) × ((j : ℕ) × (j < i) × (bit x j ≡ true))) y
   -- `wrapping_mul`
   pub product : (w x y z : ℕ) → (z ≡ lowProduct w x y) ↔ ((z < 2 ^ w) × ((q : ℕ) × (x * y ≡ q * 2 ^ w + z)))
   -- `funnel`, whatever the amounts; those that add up to the width take the pair's places from one on
   pub funnel : (w lo hi down up y : ℕ)
-      → (y ≡ funneled w lo hi down up) ↔ Digits w (λ j. (bit lo (down + j) ≡ true) ⊎ ((i : ℕ) × (i + up ≡ j) × (bit hi i ≡ true))) y
+      → (y ≡ funneled w lo hi down up) ↔ HasDigits w (λ j. (bit lo (down + j) ≡ true) ⊎ ((i : ℕ) × (i + up ≡ j) × (bit hi i ≡ true))) y
   pub from : (w lo hi down up : ℕ) → lo < 2 ^ w → down + up ≡ w → FromPlace w lo hi down (funneled w lo hi down up)
   -- two neighbouring words
   pub lower : (w lo hi i : ℕ) → i < w → pairBit w lo hi i ≡ bit lo i
   pub upper : (w lo hi i : ℕ) → pairBit w lo hi (w + i) ≡ bit hi i
+
+-- words that a function of the crates above makes of others: their number stays, and the rule holds of the length, the old set and the new one
+abbrev pub MovesWords : (ℕ → (ℕ → Bool) → ℕ → Bool) → (ℕ → (ℕ → Bool) → (ℕ → Bool) → Type 0) → Type 0
+MovesWords f rule =
+    (ws ws' : List ℕ) → ws' ≡ wordsOf (f (64 * length ws) (member ws)) (length ws)
+    → (length ws' ≡ length ws) × rule (64 * length ws) (member ws) (member ws')

@@ -3,7 +3,7 @@ use Prim.Native.Nat.{ℕ, suc, _+_, _-_, _*_, _%_, _^_}
 use mathlib.Core.Bool.{Bool, not, _&&_, _||_}
 use lib.Dec.{eqb, ltb, leb}
 use Rattle.word.specs.Sets.{choose, leastFrom}
-use Rattle.word.specs.Bits.{bit, pack}
+use Rattle.word.specs.Places.{bit, pack}
 
 -- every place of a word
 abbrev pub allOnes : ℕ

@@ -4,7 +4,7 @@
 ghost use mathlib.Core.Path.{_≡_};
 ghost use Prim.Native.Nat.{_-_, _*_, _/_, _%_, _^_, _<_, min, max};
 ghost use Rattle.word.specs.Sets.{countBelow, leastFrom, topBelow};
-ghost use Rattle.word.specs.Bits.{bit};
+ghost use Rattle.word.specs.Places.{bit};
 ghost use Rattle.word.specs.Words.{lowMask, single, mirrored, withoutLeast, lowProduct, funneled};
 ghost use lib.Bits.{bitAnd, bitOr};
 

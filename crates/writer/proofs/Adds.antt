@@ -21,7 +21,7 @@ use Rattle.sheet.proofs.Turns.{none-some, take-true, take-false, header?, heade
 use Rattle.frames.specs.Frames.{guardBy}
 use Rattle.writer.specs.Kernels.{Given}
 use Rattle.writer.proofs.Answers.{writes}
-use Rattle.writer.proofs.Places.{Laid}
+use Rattle.writer.proofs.Places.{LaidAt}
 
 -- what is asked comes to a refusal, or to a record
 module _ (buf : List ℕ) (len : ℕ) (c : Checked) where
@@ -45,7 +45,7 @@ module _ (kind : ℕ) (p : List ℕ) where
     unfolding checkedOf
     remark-good h = take-false _ _ (le-ltb 127 kind k) ∙ take-false _ _ (le-ltb most (length p) h)
 
-  pub remark-laid : Laid (note kind p) kind p (length p)
+  pub remark-laid : LaidAt (note kind p) kind p (length p)
   unfolding bytesOf
   remark-laid = record { shaped = refl; sized = refl }
 

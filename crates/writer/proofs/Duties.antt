@@ -18,7 +18,7 @@ use Rattle.sheet.proofs.Requests.{Says, checks-say, kind-kept}
 use Rattle.writer.specs.Kernels.{orZero, partsOf}
 use Rattle.writer.specs.declared.Parts.{Parts}
 use Rattle.writer.specs.declared.Parts.the-variants.{Are, Refused}
-use Rattle.writer.proofs.Places.{Laid}
+use Rattle.writer.proofs.Places.{LaidAt}
 
 -- a kind is refused, or makes an edit of that kind
 data Made (kind : ℕ) : Checked → Type 0 where
@@ -37,7 +37,7 @@ made kind f = go (checkedOf (duty kind f)) (checks-say (duty kind f))
 pub record Duty (kind h l n : ℕ) (c : Checked) : Type 0 where
   pub entry : Entry
   pub asked : c ≡ good entry
-  pub laid-out : Laid entry (128 + kind) (bytes n (h * 2 ^ 64 + l)) n
+  pub laid-out : LaidAt entry (128 + kind) (bytes n (h * 2 ^ 64 + l)) n
   pub small : n ≤ most
   pub kinds : kind ≤ length table
 

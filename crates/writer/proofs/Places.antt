@@ -36,15 +36,15 @@ module _ (buf : List ℕ) (len n : ℕ) where
       same (no h) = lt-ltb (length buf - len) (3 + n) (omega arith) ∙ sym (lt-ltb (length buf) (len + 3 + n) (omega arith))
 
   -- neither test of `roomlessIn` holds
-  pub record Room : Type 0 where
+  pub record RoomLeft : Type 0 where
     pub few : leb most (countIn buf) ≡ false
     pub fits : len + 3 + n ≤ length buf
 
-  pub room : (t : Bool) → t ≡ roomlessIn buf len n → t ≡ false → Room
+  pub room : (t : Bool) → t ≡ roomlessIn buf len n → t ≡ false → RoomLeft
   unfolding roomlessIn
   room t e f = go (leb most (countIn buf)) refl (ltb (length buf) (len + 3 + n)) refl (sym e ∙ f)
     where
-      go : (x : Bool) → leb most (countIn buf) ≡ x → (y : Bool) → ltb (length buf) (len + 3 + n) ≡ y → (x || y) ≡ false → Room
+      go : (x : Bool) → leb most (countIn buf) ≡ x → (y : Bool) → ltb (length buf) (len + 3 + n) ≡ y → (x || y) ≡ false → RoomLeft
       go true p y q z = absurd (let v : _≡_ {A = ℕ} 0 1 = cc in omega arith)
       go false p true q z = absurd (let v : _≡_ {A = ℕ} 0 1 = cc in omega arith)
       go false p false q z = record { few = p; fits = ltb-false (length buf) (len + 3 + n) q }
@@ -56,11 +56,11 @@ put-head b b₁ b₂ len first n r e p q =
     q ∙ ap₂ (λ (c : List ℕ) (k : ℕ). sets (set c len first) k (bytes 2 n)) (p ∙ ap (λ (m : ℕ). sets b 2 (bytes 2 (m + 1))) e) (add-one len)
 
 -- a record is laid out as its first byte and n bytes of payload
-pub record Laid (e : Entry) (first : ℕ) (body : List ℕ) (n : ℕ) : Type 0 where
+pub record LaidAt (e : Entry) (first : ℕ) (body : List ℕ) (n : ℕ) : Type 0 where
   pub shaped : bytesOf e ≡ laid first body
   pub sized : n ≡ length body
 
-module _ (buf : List ℕ) (len : ℕ) (e : Entry) (first : ℕ) (body : List ℕ) (n : ℕ) (a : Laid e first body n) where
+module _ (buf : List ℕ) (len : ℕ) (e : Entry) (first : ℕ) (body : List ℕ) (n : ℕ) (a : LaidAt e first body n) where
   long : length (bytesOf e) ≡ 3 + n
   long =
       ap length (a .shaped) ∙ ap suc (length-append (bytes 2 (length body)) body)
@@ -72,7 +72,7 @@ module _ (buf : List ℕ) (len : ℕ) (e : Entry) (first : ℕ) (body : List ℕ
       let end : len + 3 + n ≡ len + length (bytesOf e) = omega (arith, long) in
       writes _ (refuse NoSpace buf) (take-true _ _ (ap (λ (k : ℕ). leb most (countIn buf) || ltb (length buf) k) (sym end) ∙ sym p ∙ q))
 
-  pub done : (b₁ b₂ : List ℕ) → Room buf len n → b₁ ≡ sets (sets buf 2 (bytes 2 (countIn buf + 1))) len (first ∷ bytes 2 n) → b₂ ≡ sets b₁ (len + 3) body
+  pub done : (b₁ b₂ : List ℕ) → RoomLeft buf len n → b₁ ≡ sets (sets buf 2 (bytes 2 (countIn buf + 1))) len (first ∷ bytes 2 n) → b₂ ≡ sets b₁ (len + 3) body
       → Writes (placed buf len e) (Done (len + 3 + n)) b₂
   unfolding placed
   done b₁ b₂ r p q =

@@ -5,7 +5,7 @@ use borrow.Author.Needs.{needs}
 use lib.ListN.{length}
 use Rattle.arch.proofs.Counts.{count-start, count-next, count-end}
 use Rattle.word.specs.Sets.{countBelow}
-use Rattle.word.specs.Bits.{member}
+use Rattle.word.specs.Places.{member}
 use Rattle.arch.proofs.count_set_bits.Statement.{statement}
 use Rattle.arch.proofs.count_set_bits.Tie as tie
 

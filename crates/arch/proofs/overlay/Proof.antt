@@ -3,7 +3,7 @@ use native.Mathlib.Omega.{arith}
 use borrow.Author.Needs.{needs}
 use lib.Seq.{set-out}
 use lib.ListN.{getD, set}
-use Rattle.arch.specs.Kernels.{overlaid}
+use Rattle.arch.specs.Kernels.{filledPlaces}
 use Rattle.arch.proofs.Regions.{overlaid-set, overlaid-clear}
 use Rattle.arch.proofs.overlay.Statement.{statement}
 use Rattle.arch.proofs.overlay.Tie as tie
@@ -42,7 +42,7 @@ returns-2 : tie.Need-returns-2
 returns-2 c =
     ap (set (c .before .before .before .args .words .now) (c .before .before .before .args .k))
     (overlaid-set _ _ (omega (arith, c .slice-known .given (c .before .before .before .args .k))) (omega arith)
-    ∙ ap (overlaid (getD (c .before .before .before .args .words .now) (c .before .before .before .args .k) 0) (c .before .before .before .args .mask)) (sym (c .before .if2 .taken)))
+    ∙ ap (filledPlaces (getD (c .before .before .before .args .words .now) (c .before .before .before .args .k) 0) (c .before .before .before .args .mask)) (sym (c .before .if2 .taken)))
 
 same-length-2 : tie.Need-same-length-2
 same-length-2 c = search needs
@@ -51,7 +51,7 @@ returns-3 : tie.Need-returns-3
 returns-3 c =
     ap (set (c .before .before .before .args .words .now) (c .before .before .before .args .k))
     (overlaid-clear _ _ (omega (arith, c .slice-known2 .given (c .before .before .before .args .k))) (omega arith)
-    ∙ ap (overlaid (getD (c .before .before .before .args .words .now) (c .before .before .before .args .k) 0) (c .before .before .before .args .mask)) (sym (c .before .if2 .left)))
+    ∙ ap (filledPlaces (getD (c .before .before .before .args .words .now) (c .before .before .before .args .k) 0) (c .before .before .before .args .mask)) (sym (c .before .if2 .left)))
 
 pub overlay-spec : {M : Type 1} → statement M
 overlay-spec =

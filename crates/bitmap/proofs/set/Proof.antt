@@ -34,11 +34,11 @@ same-length-2 c = search needs
 returns-2 : tie.Need-returns-2
 returns-2 c = set-refused _ _ _ (λ k. omega (arith, c .before .before .before .before .before .slice-known .given k)) (ok (c .before)) (c .if1 .taken)
 
-add-grow : tie.Need-add-grow
-add-grow c = search needs
+add-zero-words : tie.Need-add-zero-words
+add-zero-words c = search needs
 
-grow-requires : tie.Need-grow-requires
-grow-requires c κs = search needs
+zero-words-requires : tie.Need-zero-words-requires
+zero-words-requires c κs = search needs
 
 mul-words : tie.Need-mul-words
 mul-words c = search needs
@@ -69,7 +69,7 @@ returns-3 c =
     set-changes _ _ _ (λ k. omega
     (arith, c .before .before .before .before .before .before .before .before .before .before .before .before .slice-known .given k))
     (ok (c .before .before .before .before .before .before .before .before)) _ _ _
-    (c .before .before .before .before .before .before .before .if1 .left) (c .before .before .before .before .before .grow .ensures)
+    (c .before .before .before .before .before .before .before .if1 .left) (c .before .before .before .before .before .zero-words .ensures)
     (c .before .bit .ensures) (c .max .ensures)
 
 pub set-spec : {M : Type 1} → statement M
@@ -83,8 +83,8 @@ set-spec =
     enum-told
     same-length-2
     returns-2
-    add-grow
-    grow-requires
+    add-zero-words
+    zero-words-requires
     mul-words
     slice-read-words
     bit-requires

@@ -81,11 +81,11 @@ returns-5 c =
     (some-digit _ _ _ (omega arith) (omega arith) (c .before .before .before .low-mask .ensures) (c .before .before .if2 .left)) _
     (omega arith) refl (c .if4 .taken)
 
-add-grow : tie.Need-add-grow
-add-grow c = search needs
+add-zero-words : tie.Need-add-zero-words
+add-zero-words c = search needs
 
-grow-requires : tie.Need-grow-requires
-grow-requires c κs = search needs
+zero-words-requires : tie.Need-zero-words-requires
+zero-words-requires c κs = search needs
 
 add-max : tie.Need-add-max
 add-max c = search needs
@@ -107,7 +107,7 @@ returns-6 c =
     (c .before .before .before .before .before .before .before .before .before .before .before .before .low-mask .ensures)
     (c .before .before .before .before .before .before .before .before .before .before .before .if2 .left)) _ (omega arith) refl _ _ _ _
     (c .before .before .before .before .before .before .before .before .before .if4 .left)
-    (c .before .before .before .before .before .before .before .grow .ensures) (c .before .before .before .before .max .ensures)
+    (c .before .before .before .before .before .before .before .zero-words .ensures) (c .before .before .before .before .max .ensures)
     (c .before .before .set-field-strict .ensures)
 
 pub set-field-spec : {M : Type 1} → statement M
@@ -133,8 +133,8 @@ set-field-spec =
     add-w
     same-length-5
     returns-5
-    add-grow
-    grow-requires
+    add-zero-words
+    zero-words-requires
     add-max
     max-requires
     set-field-strict-requires

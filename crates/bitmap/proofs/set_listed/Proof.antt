@@ -4,13 +4,13 @@ use Prim.Native.Nat.{_-_, _≤_, ℕ}
 use native.Mathlib.Omega.{arith}
 use lib.ListN.{length, take}
 use borrow.Author.Needs.{needs}
-use Rattle.bitmap.specs.Kernels.{Listed}
+use Rattle.bitmap.specs.Kernels.{SetsListed}
 use Rattle.bitmap.proofs.Many.{reach-in, take-all, listed-none, listed-next}
 use Rattle.bitmap.proofs.set_listed.Statement.{statement}
 use Rattle.bitmap.proofs.set_listed.Tie as tie
 
 abbrev Inv-loop : tie.InvT-loop
-Inv-loop words₀ bits t₀ words t = (t ≤ length bits) × Listed words₀ (take t bits) words
+Inv-loop words₀ bits t₀ words t = (t ≤ length bits) × SetsListed words₀ (take t bits) words
 
 abbrev μ-loop : tie.MeasureT-loop
 μ-loop words₀ bits t₀ words t = length bits - t
@@ -67,7 +67,7 @@ same-length c = c .before .loop .inv .1 .long
 
 returns : tie.Need-returns Inv-loop μ-loop
 returns c =
-    subst (λ (is : List ℕ). Listed (c .before .before .before .before .args .words .now) is (c .before .loop .words))
+    subst (λ (is : List ℕ). SetsListed (c .before .before .before .before .args .words .now) is (c .before .loop .words))
     (take-all (c .before .before .before .before .args .bits .now) (c .before .loop .t) (omega arith)) (c .before .loop .inv .1)
 
 pub set-listed-spec : {M : Type 1} → statement M

@@ -41,8 +41,8 @@ returns-2 c =
     (λ k. omega (arith, c .before .before .before .before .before .before .before .slice-known .given k))
     (ok (c .before .before)) (omega (arith, c .before .reach .ensures, c .if1 .taken))
 
-grow-requires : tie.Need-grow-requires
-grow-requires c κs = search needs
+zero-words-requires : tie.Need-zero-words-requires
+zero-words-requires c κs = search needs
 
 set-listed-requires : tie.Need-set-listed-requires
 set-listed-requires c κs = search needs
@@ -62,7 +62,7 @@ returns-3 c =
     (ok (c .before .before .before .before .before .before .before .before .before .before .before)) _ _ _ _
     (c .before .before .before .before .before .before .before .before .before .before .reach .ensures)
     (c .before .before .before .before .before .before .before .before .before .if1 .left)
-    (c .before .before .before .before .before .before .before .grow .ensures) (c .before .before .before .set-listed .ensures) (c .max .ensures)
+    (c .before .before .before .before .before .before .before .zero-words .ensures) (c .before .before .before .set-listed .ensures) (c .max .ensures)
 
 pub set-many-spec : {M : Type 1} → statement M
 set-many-spec =
@@ -76,7 +76,7 @@ set-many-spec =
     reach-requires
     same-length-2
     returns-2
-    grow-requires
+    zero-words-requires
     set-listed-requires
     max-requires
     same-length-3

@@ -95,11 +95,11 @@ returns-5 c =
     (c .before .before .before .before .before .before .before .before .before .args .k - 1)) (c .before .before .before .if1 .left)
     (omega arith) (omega arith) _ (not-false _ (c .before .if3 .left)) (c .if4 .taken)
 
-add-grow : tie.Need-add-grow
-add-grow c = search needs
+add-zero-words : tie.Need-add-zero-words
+add-zero-words c = search needs
 
-grow-requires : tie.Need-grow-requires
-grow-requires c κs = search needs
+zero-words-requires : tie.Need-zero-words-requires
+zero-words-requires c κs = search needs
 
 add-fill-region-2 : tie.Need-add-fill-region-2
 add-fill-region-2 c =
@@ -127,7 +127,7 @@ returns-6 c =
     (c .before .before .before .before .before .before .before .before .before .before .before .before .if1 .left) (omega arith)
     (omega arith) _ _ _ _ (not-false _ (c .before .before .before .before .before .before .before .before .before .before .if3 .left))
     (c .before .before .before .before .before .before .before .before .before .if4 .left)
-    (c .before .before .before .before .before .before .before .grow .ensures) (c .before .before .before .fill-region2 .ensures)
+    (c .before .before .before .before .before .before .before .zero-words .ensures) (c .before .before .before .fill-region2 .ensures)
     (c .max .ensures)
 
 pub set-region-spec : {M : Type 1} → statement M
@@ -157,8 +157,8 @@ set-region-spec =
     returns-4
     same-length-5
     returns-5
-    add-grow
-    grow-requires
+    add-zero-words
+    zero-words-requires
     add-fill-region-2
     fill-region-requires-2
     add-max

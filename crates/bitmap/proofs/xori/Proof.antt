@@ -35,11 +35,11 @@ same-length-2 c = search needs
 returns-2 : tie.Need-returns-2
 returns-2 c = xori-refused _ _ _ (λ k. omega (arith, c .before .before .before .before .before .slice-known .given k)) (ok (c .before)) (c .if1 .taken)
 
-add-grow : tie.Need-add-grow
-add-grow c = search needs
+add-zero-words : tie.Need-add-zero-words
+add-zero-words c = search needs
 
-grow-requires : tie.Need-grow-requires
-grow-requires c κs = search needs
+zero-words-requires : tie.Need-zero-words-requires
+zero-words-requires c κs = search needs
 
 mul-words : tie.Need-mul-words
 mul-words c = search needs
@@ -74,7 +74,7 @@ returns-3 c =
     (arith, c .before .before .before .before .before .before .before .before .before .before .before .before .before .before .slice-known .given k))
     (ok (c .before .before .before .before .before .before .before .before .before .before)) _ _ _ _
     (c .before .before .before .before .before .before .before .before .before .if1 .left)
-    (c .before .before .before .before .before .before .before .grow .ensures) (c .before .before .before .bit .ensures)
+    (c .before .before .before .before .before .before .before .zero-words .ensures) (c .before .before .before .bit .ensures)
     (c .before .max .ensures) (c .tidy .ensures)
 
 pub xori-spec : {M : Type 1} → statement M
@@ -88,8 +88,8 @@ xori-spec =
     enum-told
     same-length-2
     returns-2
-    add-grow
-    grow-requires
+    add-zero-words
+    zero-words-requires
     mul-words
     slice-read-words
     bit-requires

@@ -1,6 +1,6 @@
 use native.Mathlib.Omega.{arith}
 use borrow.Author.Needs.{needs}
-use Rattle.word.specs.Bits.{member}
+use Rattle.word.specs.Places.{member}
 use Rattle.bits.proofs.Counts.{between-none, range-one, range-even, range-odd, most-le, odd-le}
 use Rattle.bits.proofs.count_between.Statement.{statement}
 use Rattle.bits.proofs.count_between.Tie as tie

@@ -4,7 +4,7 @@ use borrow.Author.Needs.{needs}
 use lib.Seq.{length-take-le}
 use Rattle.storage.specs.Guards.{Passed}
 use Rattle.storage.proofs.Checks.{passed, reading-ok, reading-stopped}
-use Rattle.storage.specs.declared.Number.{Number}
+use Rattle.storage.specs.declared.Amount.{Amount}
 use Rattle.bits.proofs.Counts.{clear-size, counted-le}
 use Rattle.bits.proofs.count_clear_bits.Statement.{statement}
 use Rattle.bits.proofs.count_clear_bits.Tie as tie
@@ -38,7 +38,7 @@ sub-t10 : tie.Need-sub-t10
 sub-t10 c = omega (arith, counted-le _ _ _ (ok (c .before .before)) (c .count-set-bits .ensures))
 
 returns-2 : tie.Need-returns-2
-returns-2 c = ap Number.Is (clear-size _ _ _ (ok (c .before .before)) (c .count-set-bits .ensures)) ∙ sym (reading-ok _ _ _ _ (ok (c .before .before)))
+returns-2 c = ap Amount.Is (clear-size _ _ _ (ok (c .before .before)) (c .count-set-bits .ensures)) ∙ sym (reading-ok _ _ _ _ (ok (c .before .before)))
 
 pub count-clear-bits-spec : {M : Type 1} → statement M
 count-clear-bits-spec =

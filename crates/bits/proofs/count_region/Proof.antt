@@ -5,7 +5,7 @@ use borrow.Author.Needs.{needs}
 use lib.Seq.{length-take-le}
 use Rattle.storage.specs.Guards.{Passed}
 use Rattle.storage.proofs.Checks.{passed, reading-ok, reading-stopped}
-use Rattle.storage.specs.declared.Number.{Number}
+use Rattle.storage.specs.declared.Amount.{Amount}
 use Rattle.bits.proofs.Counts.{region-none, region-counted}
 use Rattle.bits.proofs.count_region.Statement.{statement}
 use Rattle.bits.proofs.count_region.Tie as tie
@@ -30,7 +30,7 @@ mul-if1 : tie.Need-mul-if1
 mul-if1 c = omega (arith, ok c)
 
 returns-2 : tie.Need-returns-2
-returns-2 c = ap Number.Is (region-none _ _ _ _ (c .if1 .taken)) ∙ sym (reading-ok _ _ _ _ (ok (c .before)))
+returns-2 c = ap Amount.Is (region-none _ _ _ _ (c .if1 .taken)) ∙ sym (reading-ok _ _ _ _ (ok (c .before)))
 
 mul-min : tie.Need-mul-min
 mul-min c = omega (arith, ok (c .before))
@@ -55,7 +55,7 @@ count-between-requires c κs =
 
 returns-3 : tie.Need-returns-3
 returns-3 c =
-    ap Number.Is (region-counted _ _ _ _ _ _ (ok (c .before .before .before .before) .inside) (c .before .before .before .if1 .left)
+    ap Amount.Is (region-counted _ _ _ _ _ _ (ok (c .before .before .before .before) .inside) (c .before .before .before .if1 .left)
     (ap (λ (x : ℕ). c .before .before .before .before .before .before .before .before .args .i + x) (c .before .before .min .ensures))
     (c .count-between .ensures)) ∙ sym (reading-ok _ _ _ _ (ok (c .before .before .before .before)))
 

@@ -5,7 +5,7 @@ use borrow.Author.Needs.{needs}
 use lib.Seq.{length-take-le}
 use Rattle.storage.specs.Guards.{Passed}
 use Rattle.storage.proofs.Checks.{passed, reading-ok, reading-stopped}
-use Rattle.storage.specs.declared.Number.{Number}
+use Rattle.storage.specs.declared.Amount.{Amount}
 use Rattle.bits.proofs.Counts.{rank-counted}
 use Rattle.bits.proofs.rank.Statement.{statement}
 use Rattle.bits.proofs.rank.Tie as tie
@@ -42,7 +42,7 @@ count-between-requires c κs =
 
 returns-2 : tie.Need-returns-2
 returns-2 c =
-    ap Number.Is (rank-counted _ _ _ _ _ (ok (c .before .before .before) .inside) (c .before .min .ensures) (c .count-between .ensures)) ∙ sym (reading-ok _ _ _ _ (ok (c .before .before .before)))
+    ap Amount.Is (rank-counted _ _ _ _ _ (ok (c .before .before .before) .inside) (c .before .min .ensures) (c .count-between .ensures)) ∙ sym (reading-ok _ _ _ _ (ok (c .before .before .before)))
 
 pub rank-spec : {M : Type 1} → statement M
 rank-spec =

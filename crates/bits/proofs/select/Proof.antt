@@ -3,7 +3,7 @@ use native.Mathlib.Omega.{arith}
 use borrow.Author.Needs.{needs}
 use lib.Seq.{length-take-le}
 use lib.ListN.{getD}
-use Rattle.word.specs.Bits.{bit}
+use Rattle.word.specs.Places.{bit}
 use Rattle.word.proofs.Sets.{nth-le}
 use Rattle.storage.specs.Guards.{Passed}
 use Rattle.storage.proofs.Checks.{passed, reading-ok, reading-stopped}

@@ -1,12 +1,12 @@
-use mathlib.Core.Path.{_≡_, sym, _∙_}
-use lib.ListN.{length, take}
+-- The guard, and then the words of the longer.
+use mathlib.Core.Path.{sym, _∙_}
+use native.Mathlib.Omega.{arith}
 use lib.Seq.{length-take-le}
-use Rattle.word.proofs.Lists.{Fit}
 use Rattle.storage.specs.Guards.{PassedThree}
 use Rattle.storage.proofs.Checks.{passed-three}
+use Rattle.storage.proofs.Combined.{all-hold}
 use Rattle.combine.proofs.Guards.{all-stopped}
-use Rattle.combine.proofs.Froms.{union-changes, union-refused, or-made}
-use native.Mathlib.Omega.{arith}
+use Rattle.combine.proofs.Froms.{union-changes}
 use borrow.Author.Needs.{needs}
 use Rattle.combine.proofs.or_from.Statement.{statement}
 use Rattle.combine.proofs.or_from.Tie as tie
@@ -16,22 +16,6 @@ ok : (c : tie.After-enum-told)
     → let a = c .before .before .before .before .before .before .before .args in
     PassedThree (a .words .now) (a .b) (a .left .now) (a .l) (a .right .now) (a .r)
 ok c = passed-three _ _ _ _ _ _ (sym (c .enum-told .given .1) ∙ c .before .before .check-three .ensures)
-
-fit-left : (c : tie.After-enum-told) → Fit (c .before .before .before .before .before .before .before .args .left .now)
-fit-left c k = omega (arith, c .before .before .before .before .before .shared-slice-known .given k)
-
-fit-right : (c : tie.After-enum-told) → Fit (c .before .before .before .before .before .before .before .args .right .now)
-fit-right c k = omega (arith, c .before .before .before .before .shared-slice-known2 .given k)
-
-left-long : (c : tie.After-enum-told)
-    → let a = c .before .before .before .before .before .before .before .args in
-    length (take (a .l .count) (a .left .now)) ≡ a .l .count
-left-long c = length-take-le _ _ (ok c .left .inside)
-
-right-long : (c : tie.After-enum-told)
-    → let a = c .before .before .before .before .before .before .before .args in
-    length (take (a .r .count) (a .right .now)) ≡ a .r .count
-right-long c = length-take-le _ _ (ok c .right .inside)
 
 check-three-requires : tie.Need-check-three-requires
 check-three-requires c κs = search needs
@@ -48,49 +32,28 @@ returns c = all-stopped _ _ _ _ _ _ _ _ (sym (c .before .e .given .1) ∙ c .bef
 enum-told : tie.Need-enum-told
 enum-told c = search needs
 
+slice-aggregate-put : tie.Need-slice-aggregate-put
+slice-aggregate-put c = sym (length-take-le _ _ (ok (c .before .before) .left .inside))
+
+slice-aggregate-put-2 : tie.Need-slice-aggregate-put-2
+slice-aggregate-put-2 c = sym (length-take-le _ _ (ok (c .before .before .before) .right .inside))
+
 max-requires : tie.Need-max-requires
 max-requires c κs = search needs
+
+put-requires : tie.Need-put-requires
+put-requires c κs =
+    let p = ok (c .before .before .before .before) in
+    let a = c .before .before .before .before .before .before .before .before .before .before .before .args in (
+      all-hold _ _ _ _ _ (record { own = p .left; other = p .right }) _ (c .max .ensures),
+      omega (arith, length-take-le (a .l .count) (a .left .now) (p .left .inside), length-take-le (a .r .count) (a .right .now) (p .right .inside)),
+    )
 
 same-length-2 : tie.Need-same-length-2
 same-length-2 c = search needs
 
 returns-2 : tie.Need-returns-2
-returns-2 c =
-    let g = c .before .before in
-    union-refused _ _ _ _ _ _ (ok g) (fit-left g) (fit-right g) _ (c .before .max .ensures) (c .if1 .taken)
-
-slice-aggregate-x : tie.Need-slice-aggregate-x
-slice-aggregate-x c = sym (left-long (c .before .before .before))
-
-slice-aggregate-y : tie.Need-slice-aggregate-y
-slice-aggregate-y c = sym (right-long (c .before .before .before .before))
-
-min-requires : tie.Need-min-requires
-min-requires c κs = search needs
-
-or-words-requires : tie.Need-or-words-requires
-or-words-requires c κs = omega (arith, left-long (c .before .before .before .before .before .before), right-long (c .before .before .before .before .before .before))
-
-copy-tail-requires : tie.Need-copy-tail-requires
-copy-tail-requires c κs =
-    let g = c .before .before .before .before .before .before .before .before .before .before in
-    omega (arith, c .before .before .before .or-words .ensures .long, left-long g, right-long g)
-
-finish-requires : tie.Need-finish-requires
-finish-requires c κs = search needs
-
-same-length-3 : tie.Need-same-length-3
-same-length-3 c = search needs
-
-returns-3 : tie.Need-returns-3
-returns-3 c =
-    let w = c .before .before .before .before .before .before .before .before .before .before in
-    let t = w .before .before .before .before .before in
-    let g = t .before .before in
-    union-changes _ _ _ _ _ _ (ok g) (fit-left g) (fit-right g) _ (t .before .max .ensures) _ _ _ (omega (arith, t .if1 .left))
-    (or-made _ _ _ _ _ _ _ (ok g .left .inside) (ok g .right .inside) _ _ (t .before .max .ensures)
-    (w .before .min .ensures) (w .or-words .ensures)
-    (c .before .before .before .before .before .before .copy-tail .ensures)) (c .before .before .finish .ensures)
+returns-2 c = union-changes _ _ _ _ _ _ (ok (c .before .before .before .before .before .before .before)) _ _ _ (c .before .before .before .max .ensures) (c .before .before .put .ensures)
 
 pub or-from-spec : {M : Type 1} → statement M
 or-from-spec =
@@ -101,14 +64,9 @@ or-from-spec =
     same-length
     returns
     enum-told
+    slice-aggregate-put
+    slice-aggregate-put-2
     max-requires
+    put-requires
     same-length-2
-    returns-2
-    slice-aggregate-x
-    slice-aggregate-y
-    min-requires
-    or-words-requires
-    copy-tail-requires
-    finish-requires
-    same-length-3
-    returns-3)
+    returns-2)

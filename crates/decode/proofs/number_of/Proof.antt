@@ -3,12 +3,12 @@ use mathlib.Core.Path.{refl}
 use native.Mathlib.Omega.{arith}
 use lib.ListN.{length, getD}
 use borrow.Author.Needs.{needs}
-use Rattle.decode.proofs.Numbers.{Read, fits-word, read-none, read-more, read-all}
+use Rattle.decode.proofs.Numbers.{ReadUpTo, fits-word, read-none, read-more, read-all}
 use Rattle.decode.proofs.number_of.Statement.{statement}
 use Rattle.decode.proofs.number_of.Tie as tie
 
 abbrev Inv-loop : tie.InvT-loop
-Inv-loop bytes x₀ i₀ x i = Read bytes i x
+Inv-loop bytes x₀ i₀ x i = ReadUpTo bytes i x
 
 abbrev μ-loop : tie.MeasureT-loop
 μ-loop bytes x₀ i₀ x i = length bytes - i

@@ -75,11 +75,11 @@ same-length-5 c = search needs
 returns-5 : tie.Need-returns-5
 returns-5 c = open-no-space _ _ _ _ (ok (c .before .before .before .before)) _ (top (c .before .before .before .before)) (omega arith) (omega arith) (c .if3 .taken)
 
-add-grow : tie.Need-add-grow
-add-grow c = search needs
+add-zero-words : tie.Need-add-zero-words
+add-zero-words c = search needs
 
-grow-requires : tie.Need-grow-requires
-grow-requires c κs = search needs
+zero-words-requires : tie.Need-zero-words-requires
+zero-words-requires c κs = search needs
 
 add-max : tie.Need-add-max
 add-max c = search needs
@@ -107,7 +107,7 @@ returns-6 c =
     open-changes _ _ _ _ (ok (c .before .before .before .before .before .before .before .before .before .before .before .before .before)) _
     (top (c .before .before .before .before .before .before .before .before .before .before .before .before .before)) (omega arith) (omega arith) _ _ _
     (c .before .before .before .before .before .before .before .before .before .if3 .left)
-    (c .before .before .before .before .before .before .before .grow .ensures) (c .before .before .before .before .max .ensures)
+    (c .before .before .before .before .before .before .before .zero-words .ensures) (c .before .before .before .before .max .ensures)
     (c .before .before .open-words .ensures)
 
 pub open-gap-spec : {M : Type 1} → statement M
@@ -132,8 +132,8 @@ open-gap-spec =
     add-w
     same-length-5
     returns-5
-    add-grow
-    grow-requires
+    add-zero-words
+    zero-words-requires
     add-max
     max-requires
     slice-relend-prefix-open-words

@@ -4,9 +4,9 @@ use Rattle.word.proofs.Lists.{Fit}
 use borrow.Author.Needs.{needs}
 use Prim.Native.Nat.{_/_}
 use lib.ListN.{length, length-set}
-use Rattle.word.specs.Bits.{member}
+use Rattle.word.specs.Places.{member}
 use Rattle.word.proofs.Lists.{length-words}
-use Rattle.gap.specs.Kernels.{opened}
+use Rattle.gap.specs.Kernels.{gapOpened}
 use Rattle.gap.proofs.Tails.{open-out, after-set-long, open-tail}
 use Rattle.gap.proofs.open_words.Statement.{statement}
 use Rattle.gap.proofs.open_words.Tie as tie
@@ -80,7 +80,7 @@ returns-2 c =
 
 same-length : tie.Need-same-length
 same-length c =
-    ap length (returns-2 c) ∙ length-words (opened (c .before .before .before .before .before .before .before .before .before .args .p)
+    ap length (returns-2 c) ∙ length-words (gapOpened (c .before .before .before .before .before .before .before .before .before .args .p)
     (c .before .before .before .before .before .before .before .before .before .args .k)
     (member (c .before .before .before .before .before .before .before .before .before .args .words .now)))
     (length (c .before .before .before .before .before .before .before .before .before .args .words .now))

@@ -22,7 +22,7 @@ zero-eights-requires : tie.Need-zero-eights-requires Inv-loop μ-loop
 zero-eights-requires c κs = search needs
 
 loop-holds : tie.Need-loop-holds Inv-loop μ-loop
-loop-holds c = c .zero-eights .ensures
+loop-holds c = c .zero-eights .ensures .1
 
 word-at-requires : tie.Need-word-at-requires Inv-loop μ-loop
 word-at-requires c κs = search needs

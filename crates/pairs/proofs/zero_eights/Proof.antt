@@ -8,28 +8,28 @@ use Rattle.pairs.proofs.zero_eights.Statement.{statement}
 use Rattle.pairs.proofs.zero_eights.Tie as tie
 
 abbrev Inv-loop : tie.InvT-loop
-Inv-loop op a b both i₀ i = (i ≤ both) × Alike (wordsBy op a b) 0 0 i
+Inv-loop op a b from stop k₀ k = (from ≤ k) × Alike (wordsBy op a b) 0 from k
 
 abbrev μ-loop : tie.MeasureT-loop
-μ-loop op a b both i₀ i = both - i
+μ-loop op a b from stop k₀ k = stop - k
 
 min-requires : tie.Need-min-requires Inv-loop μ-loop
 min-requires c κs = search needs
 
+saturating-sub-requires : tie.Need-saturating-sub-requires Inv-loop μ-loop
+saturating-sub-requires c κs = search needs
+
 loop-holds : tie.Need-loop-holds Inv-loop μ-loop
 loop-holds c = (omega arith, alike-none _ _ _ _ (omega arith))
-
-sub-loop : tie.Need-sub-loop Inv-loop μ-loop
-sub-loop c = omega arith
 
 some-in-eight-requires : tie.Need-some-in-eight-requires Inv-loop μ-loop
 some-in-eight-requires c κs = (omega arith, omega arith)
 
 returns : tie.Need-returns Inv-loop μ-loop
-returns c = c .before .before .before .loop .inv .1
+returns c = c .before .before .before .loop .inv
 
-add-i : tie.Need-add-i Inv-loop μ-loop
-add-i c = omega arith
+add-k : tie.Need-add-k Inv-loop μ-loop
+add-k c = omega arith
 
 loop-less : tie.Need-loop-less Inv-loop μ-loop
 loop-less c = omega arith
@@ -38,7 +38,7 @@ loop-again : tie.Need-loop-again Inv-loop μ-loop
 loop-again c = (omega arith, alike-join (c .before .before .before .loop .inv .1) (c .before .some-in-eight .ensures (c .if1 .left)) (omega arith))
 
 returns-2 : tie.Need-returns-2 Inv-loop μ-loop
-returns-2 c = c .before .loop .inv .1
+returns-2 c = c .before .loop .inv
 
 pub zero-eights-spec : {M : Type 1} → statement M
 zero-eights-spec =
@@ -47,11 +47,11 @@ zero-eights-spec =
     Inv-loop
     μ-loop
     min-requires
+    saturating-sub-requires
     loop-holds
-    sub-loop
     some-in-eight-requires
     returns
-    add-i
+    add-k
     loop-less
     loop-again
     returns-2)

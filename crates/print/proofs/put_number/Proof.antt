@@ -3,12 +3,12 @@ use mathlib.Core.List.{List, []}
 use native.Mathlib.Omega.{arith}
 use Prim.Native.Nat.{ℕ, _+_, _-_, _%_}
 use lib.ListN.{length-set}
-use Rattle.print.proofs.Buffer.{Putting, putting-start, putting-place, putting-long, putting-two, putting-end, putting-last}
+use Rattle.print.proofs.Buffer.{PuttingDigits, putting-start, putting-place, putting-long, putting-two, putting-end, putting-last}
 use Rattle.print.proofs.put_number.Statement.{statement}
 use Rattle.print.proofs.put_number.Tie as tie
 
 abbrev Inv-loop : tie.InvT-loop
-Inv-loop out₀ at x end p₀ y₀ out p y = (s : List ℕ) × Putting at x out₀ out p y s
+Inv-loop out₀ at x end p₀ y₀ out p y = (s : List ℕ) × PuttingDigits at x out₀ out p y s
 
 abbrev μ-loop : tie.MeasureT-loop
 μ-loop out₀ at x end p₀ y₀ out p y = p - at

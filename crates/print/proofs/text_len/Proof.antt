@@ -5,12 +5,12 @@ use lib.ListN.{length}
 use borrow.Author.Needs.{needs}
 use Rattle.storage.specs.Stores.{held}
 use Rattle.storage.proofs.Views.{bounded-view, view-out}
-use Rattle.print.proofs.Printing.{Going, going-start, going-end, low-limit, high-limit, end-within, piece-short, going-more}
+use Rattle.print.proofs.Printing.{PrintingTo, going-start, going-end, low-limit, high-limit, end-within, piece-short, going-more}
 use Rattle.print.proofs.text_len.Statement.{statement}
 use Rattle.print.proofs.text_len.Tie as tie
 
 abbrev Inv-loop : tie.InvT-loop
-Inv-loop words b at₀ run₀ at run = Going (held words b) (64 * b .count) at run
+Inv-loop words b at₀ run₀ at run = PrintingTo (held words b) (64 * b .count) at run
 
 abbrev μ-loop : tie.MeasureT-loop
 μ-loop words b at₀ run₀ at run = 64 * b .count - run .low

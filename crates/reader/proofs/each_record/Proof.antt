@@ -3,12 +3,12 @@ use mathlib.Core.Path.{_∙_}
 use native.Mathlib.Omega.{arith}
 use borrow.Author.Needs.{needs}
 use Rattle.frames.proofs.Walks.{told-whole, told-cut}
-use Rattle.reader.proofs.Records.{Going, begins, cut, stops, goes-on, remain, finished, came-refused, came-done}
+use Rattle.reader.proofs.Records.{ReadingTo, begins, cut, stops, goes-on, remain, finished, came-refused, came-done}
 use Rattle.reader.proofs.each_record.Statement.{statement}
 use Rattle.reader.proofs.each_record.Tie as tie
 
 abbrev Inv-loop : tie.InvT-loop
-Inv-loop edition sheet n words₀ old count₀ i₀ at₀ words count i at = Going edition sheet n words₀ old words count i at
+Inv-loop edition sheet n words₀ old count₀ i₀ at₀ words count i at = ReadingTo edition sheet n words₀ old words count i at
 
 abbrev μ-loop : tie.MeasureT-loop
 μ-loop edition sheet n words₀ old count₀ i₀ at₀ words count i at = n - i

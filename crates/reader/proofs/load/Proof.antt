@@ -38,8 +38,8 @@ loop-less c = omega arith
 loop-again : tie.Need-loop-again Inv-loop μ-loop
 loop-again c = let l = c .before .before .loop in (omega arith, sweep-up _ _ _ _ _ _ (l .inv .1) (omega (arith, l .inv .1 .long)) (omega arith) refl)
 
-grow-requires : tie.Need-grow-requires Inv-loop μ-loop
-grow-requires c κs = search needs
+zero-words-requires : tie.Need-zero-words-requires Inv-loop μ-loop
+zero-words-requires c κs = search needs
 
 same-length : tie.Need-same-length Inv-loop μ-loop
 same-length c = c .before .result .given ∙ c .before .before .before .before .before .loop .inv .1 .long
@@ -49,7 +49,7 @@ returns c =
     let l = c .before .before .before .before .before .loop in
     loaded _ _ _ _ _ _ (l .inv .1) (omega arith)
     (λ k. omega (arith, c .before .before .before .before .before .before .shared-slice-known .given k)) (omega arith)
-    (c .before .before .grow .ensures)
+    (c .before .before .zero-words .ensures)
 
 pub load-spec : {M : Type 1} → statement M
 load-spec =
@@ -65,6 +65,6 @@ load-spec =
     add-k
     loop-less
     loop-again
-    grow-requires
+    zero-words-requires
     same-length
     returns)

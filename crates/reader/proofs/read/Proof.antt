@@ -44,8 +44,8 @@ enum-known-n c = search needs
 enum-known-why : tie.Need-enum-known-why
 enum-known-why c = search needs
 
-grow-requires : tie.Need-grow-requires
-grow-requires c κs = search needs
+zero-words-requires : tie.Need-zero-words-requires
+zero-words-requires c κs = search needs
 
 same-length-2 : tie.Need-same-length-2
 same-length-2 c = search needs
@@ -66,7 +66,7 @@ returns-5 c =
     let d = c .before .before .before .before .before .why .given in
     reads-refused _ _ _ _ _ (omega arith) (omega arith)
     (ok (c .before .before .before .before .before .before .before .before .before .before .before)) (r .result) (r .last .1 .1 .1 .1 .0)
-    (c .before .before .grow .last .0) (d .0 .0) (d .0 .1 .0) (d .1) (r .ensures) (c .before .before .grow .ensures)
+    (c .before .before .zero-words .last .0) (d .0 .0) (d .0 .1 .0) (d .1) (r .ensures) (c .before .before .zero-words .ensures)
 
 pub read-spec : {M : Type 1} → statement M
 read-spec =
@@ -82,7 +82,7 @@ read-spec =
     read-into-requires
     enum-known-n
     enum-known-why
-    grow-requires
+    zero-words-requires
     same-length-2
     returns-4
     same-length-3

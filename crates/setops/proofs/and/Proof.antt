@@ -1,20 +1,19 @@
+-- The guard, and then the words that both have.
 use mathlib.Core.Path.{sym, _∙_}
-use Prim.Native.Nat.{min}
 use native.Mathlib.Omega.{arith}
 use borrow.Author.Needs.{needs}
 use lib.Seq.{length-take-le}
 use Rattle.storage.specs.Guards.{PassedTwo}
 use Rattle.storage.proofs.Checks.{passed-two}
 use Rattle.storage.proofs.Stores.{two-stopped}
-use Rattle.setops.proofs.Combine.{and-changes}
+use Rattle.setops.proofs.Combine.{and-done}
 use Rattle.setops.proofs.and.Statement.{statement}
 use Rattle.setops.proofs.and.Tie as tie
 
 -- the guard has let both stores pass
 ok : (c : tie.After-enum-told)
-    → PassedTwo (c .before .before .before .before .before .before .args .words .now)
-    (c .before .before .before .before .before .before .args .b) (c .before .before .before .before .before .before .args .other .now)
-    (c .before .before .before .before .before .before .args .o)
+    → let a = c .before .before .before .before .before .before .args in
+    PassedTwo (a .words .now) (a .b) (a .other .now) (a .o)
 ok c = passed-two _ _ _ _ (sym (c .enum-told .given .1) ∙ c .before .before .check-two .ensures)
 
 check-two-requires : tie.Need-check-two-requires
@@ -35,20 +34,20 @@ enum-told c = search needs
 min-requires : tie.Need-min-requires
 min-requires c κs = search needs
 
-and-words-requires : tie.Need-and-words-requires
-and-words-requires c κs = omega (arith, ok (c .before .before) .own .inside, ok (c .before .before) .other .inside)
+slice-aggregate-put : tie.Need-slice-aggregate-put
+slice-aggregate-put c = sym (length-take-le _ _ (ok (c .before .before .before) .other .inside))
 
-fill-words-requires : tie.Need-fill-words-requires
-fill-words-requires c κs = search needs
+put-requires : tie.Need-put-requires
+put-requires c κs =
+    let p = ok (c .before .before .before) in
+    let a = c .before .before .before .before .before .before .before .before .before .args in
+    (omega (arith, p .own .inside), omega (arith, p .own .inside), omega (arith, length-take-le (a .o .count) (a .other .now) (p .other .inside)))
 
 slice-reshare-prefix-nonzero-len : tie.Need-slice-reshare-prefix-nonzero-len
-slice-reshare-prefix-nonzero-len c = omega (arith, ok (c .before .before .before .before .before .before .before .before .before) .own .inside)
+slice-reshare-prefix-nonzero-len c = omega (arith, ok (c .before .before .before .before .before .before) .own .inside, c .before .before .put .ensures .long)
 
 slice-aggregate-nonzero-len : tie.Need-slice-aggregate-nonzero-len
-slice-aggregate-nonzero-len c =
-    sym (length-take-le (c .before .before .before .before .before .before .before .before .before .before .before .before .before .before .before .before .args .b .count)
-    (c .before .before .before .fill-words .last .0)
-    (omega (arith, ok (c .before .before .before .before .before .before .before .before .before .before) .own .inside)))
+slice-aggregate-nonzero-len c = sym (length-take-le _ _ (omega (arith, ok (c .before .before .before .before .before .before .before) .own .inside, c .before .before .before .put .ensures .long)))
 
 nonzero-len-requires : tie.Need-nonzero-len-requires
 nonzero-len-requires c κs = search needs
@@ -58,13 +57,8 @@ same-length-2 c = search needs
 
 returns-2 : tie.Need-returns-2
 returns-2 c =
-    and-changes _ _ _ _ (ok (c .before .before .before .before .before .before .before .before .before .before .before) .own)
-    (ok (c .before .before .before .before .before .before .before .before .before .before .before) .other)
-    (λ k. omega (arith, c .before .before .before .before .before .before .before .before .before .before .before .before .before .before .before .before .slice-known .given k))
-    (λ k. omega (arith, c .before .before .before .before .before .before .before .before .before .before .before .before .before .before .before .shared-slice-known .given k)) _ _ _ _
-    (c .before .before .before .before .before .before .before .before .before .before .min .ensures)
-    (c .before .before .before .before .before .before .before .before .and-words .ensures)
-    (c .before .before .before .before .fill-words .ensures) (c .nonzero-len .ensures)
+    let m = c .before .before .before .before .before .before .before in
+    and-done _ _ _ _ (ok (m .before)) _ _ _ (m .min .ensures) (c .before .before .before .before .put .ensures) (c .nonzero-len .ensures)
 
 pub and-spec : {M : Type 1} → statement M
 and-spec =
@@ -76,8 +70,8 @@ and-spec =
     returns
     enum-told
     min-requires
-    and-words-requires
-    fill-words-requires
+    slice-aggregate-put
+    put-requires
     slice-reshare-prefix-nonzero-len
     slice-aggregate-nonzero-len
     nonzero-len-requires

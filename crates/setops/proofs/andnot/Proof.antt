@@ -1,20 +1,19 @@
-use mathlib.Core.Path.{sym, _∙_}
-use Prim.Native.Nat.{min}
+-- The guard, and then the words of the first.
+use mathlib.Core.Path.{refl, sym, _∙_}
 use native.Mathlib.Omega.{arith}
 use borrow.Author.Needs.{needs}
 use lib.Seq.{length-take-le}
 use Rattle.storage.specs.Guards.{PassedTwo}
 use Rattle.storage.proofs.Checks.{passed-two}
 use Rattle.storage.proofs.Stores.{two-stopped}
-use Rattle.setops.proofs.Combine.{andnot-changes}
+use Rattle.setops.proofs.Combine.{andnot-done}
 use Rattle.setops.proofs.andnot.Statement.{statement}
 use Rattle.setops.proofs.andnot.Tie as tie
 
 -- the guard has let both stores pass
 ok : (c : tie.After-enum-told)
-    → PassedTwo (c .before .before .before .before .before .before .args .words .now)
-    (c .before .before .before .before .before .before .args .b) (c .before .before .before .before .before .before .args .other .now)
-    (c .before .before .before .before .before .before .args .o)
+    → let a = c .before .before .before .before .before .before .args in
+    PassedTwo (a .words .now) (a .b) (a .other .now) (a .o)
 ok c = passed-two _ _ _ _ (sym (c .enum-told .given .1) ∙ c .before .before .check-two .ensures)
 
 check-two-requires : tie.Need-check-two-requires
@@ -32,19 +31,17 @@ returns c = two-stopped _ _ _ _ _ _ (sym (c .before .e .given .1) ∙ c .before 
 enum-told : tie.Need-enum-told
 enum-told c = search needs
 
-min-requires : tie.Need-min-requires
-min-requires c κs = search needs
+slice-aggregate-put : tie.Need-slice-aggregate-put
+slice-aggregate-put c = sym (length-take-le _ _ (ok (c .before .before) .other .inside))
 
-andnot-words-requires : tie.Need-andnot-words-requires
-andnot-words-requires c κs = omega (arith, ok (c .before .before) .own .inside, ok (c .before .before) .other .inside)
+put-requires : tie.Need-put-requires
+put-requires c κs = let p = ok (c .before .before) .own .inside in (omega arith, omega arith, refl)
 
 slice-reshare-prefix-nonzero-len : tie.Need-slice-reshare-prefix-nonzero-len
-slice-reshare-prefix-nonzero-len c = omega (arith, ok (c .before .before .before .before .before) .own .inside)
+slice-reshare-prefix-nonzero-len c = omega (arith, ok (c .before .before .before .before .before) .own .inside, c .before .before .put .ensures .long)
 
 slice-aggregate-nonzero-len : tie.Need-slice-aggregate-nonzero-len
-slice-aggregate-nonzero-len c =
-    sym (length-take-le (c .before .before .before .before .before .before .before .before .before .before .before .before .args .b .count)
-    (c .before .before .before .andnot-words .last .0) (omega (arith, ok (c .before .before .before .before .before .before) .own .inside)))
+slice-aggregate-nonzero-len c = sym (length-take-le _ _ (omega (arith, ok (c .before .before .before .before .before .before) .own .inside, c .before .before .before .put .ensures .long)))
 
 nonzero-len-requires : tie.Need-nonzero-len-requires
 nonzero-len-requires c κs = search needs
@@ -53,13 +50,7 @@ same-length-2 : tie.Need-same-length-2
 same-length-2 c = search needs
 
 returns-2 : tie.Need-returns-2
-returns-2 c =
-    andnot-changes _ _ _ _ (ok (c .before .before .before .before .before .before .before) .own)
-    (ok (c .before .before .before .before .before .before .before) .other)
-    (λ k. omega (arith, c .before .before .before .before .before .before .before .before .before .before .before .before .slice-known .given k))
-    (λ k. omega (arith, c .before .before .before .before .before .before .before .before .before .before .before .shared-slice-known .given k)) _ _ _
-    (c .before .before .before .before .before .before .min .ensures) (c .before .before .before .before .andnot-words .ensures)
-    (c .nonzero-len .ensures)
+returns-2 c = andnot-done _ _ _ _ (ok (c .before .before .before .before .before .before .before)) _ _ (c .before .before .before .before .put .ensures) (c .nonzero-len .ensures)
 
 pub andnot-spec : {M : Type 1} → statement M
 andnot-spec =
@@ -70,8 +61,8 @@ andnot-spec =
     same-length
     returns
     enum-told
-    min-requires
-    andnot-words-requires
+    slice-aggregate-put
+    put-requires
     slice-reshare-prefix-nonzero-len
     slice-aggregate-nonzero-len
     nonzero-len-requires

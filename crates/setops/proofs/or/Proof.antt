@@ -1,19 +1,19 @@
+-- The guard, and then the words of the longer.
 use mathlib.Core.Path.{sym, _∙_}
-use Prim.Native.Nat.{max}
 use native.Mathlib.Omega.{arith}
-use borrow.Author.Needs.{needs}
+use lib.Seq.{length-take-le}
 use Rattle.storage.specs.Guards.{PassedTwo}
 use Rattle.storage.proofs.Checks.{passed-two}
 use Rattle.storage.proofs.Stores.{two-stopped}
-use Rattle.setops.proofs.Combine.{or-refused, or-changes}
+use Rattle.setops.proofs.Combine.{union-refused, union-done}
+use borrow.Author.Needs.{needs}
 use Rattle.setops.proofs.or.Statement.{statement}
 use Rattle.setops.proofs.or.Tie as tie
 
 -- the guard has let both stores pass
 ok : (c : tie.After-enum-told)
-    → PassedTwo (c .before .before .before .before .before .before .args .words .now)
-    (c .before .before .before .before .before .before .args .b) (c .before .before .before .before .before .before .args .other .now)
-    (c .before .before .before .before .before .before .args .o)
+    → let a = c .before .before .before .before .before .before .args in
+    PassedTwo (a .words .now) (a .b) (a .other .now) (a .o)
 ok c = passed-two _ _ _ _ (sym (c .enum-told .given .1) ∙ c .before .before .check-two .ensures)
 
 check-two-requires : tie.Need-check-two-requires
@@ -31,35 +31,34 @@ returns c = two-stopped _ _ _ _ _ _ (sym (c .before .e .given .1) ∙ c .before 
 enum-told : tie.Need-enum-told
 enum-told c = search needs
 
+max-requires : tie.Need-max-requires
+max-requires c κs = search needs
+
 same-length-2 : tie.Need-same-length-2
 same-length-2 c = search needs
 
 returns-2 : tie.Need-returns-2
-returns-2 c =
-    or-refused _ _ _ _ (ok (c .before) .own) (ok (c .before) .other)
-    (λ k. omega (arith, c .before .before .before .before .before .before .slice-known .given k))
-    (λ k. omega (arith, c .before .before .before .before .before .shared-slice-known .given k)) (c .if1 .taken)
+returns-2 c = union-refused _ _ _ _ (ok (c .before .before)) _ (c .before .max .ensures) (c .if1 .taken)
 
-grow-requires : tie.Need-grow-requires
-grow-requires c κs = search needs
+slice-aggregate-put : tie.Need-slice-aggregate-put
+slice-aggregate-put c = sym (length-take-le _ _ (ok (c .before .before .before .before) .other .inside))
 
-or-words-requires : tie.Need-or-words-requires
-or-words-requires c κs = omega (arith, ok (c .before .before .before .before .before .before) .other .inside)
-
-max-requires : tie.Need-max-requires
-max-requires c κs = search needs
+put-requires : tie.Need-put-requires
+put-requires c κs =
+    let p = ok (c .before .before .before .before) in
+    let a = c .before .before .before .before .before .before .before .before .before .before .args in (
+      omega (arith, p .own .inside),
+      omega (arith, c .before .before .if1 .left),
+      omega (arith, c .before .before .before .max .ensures, length-take-le (a .o .count) (a .other .now) (p .other .inside)),
+    )
 
 same-length-3 : tie.Need-same-length-3
 same-length-3 c = search needs
 
 returns-3 : tie.Need-returns-3
 returns-3 c =
-    or-changes _ _ _ _ (ok (c .before .before .before .before .before .before .before .before .before .before) .own)
-    (ok (c .before .before .before .before .before .before .before .before .before .before) .other)
-    (λ k. omega (arith, c .before .before .before .before .before .before .before .before .before .before .before .before .before .before .before .slice-known .given k))
-    (λ k. omega (arith, c .before .before .before .before .before .before .before .before .before .before .before .before .before .before .shared-slice-known .given k)) _ _ _
-    (omega arith) (c .before .before .before .before .before .before .before .grow .ensures) (c .before .before .before .or-words .ensures)
-    (c .max .ensures)
+    let m = c .before .before .before .before .before .before in
+    union-done _ _ _ _ (ok (m .before)) _ (m .max .ensures) _ (omega (arith, c .before .before .before .before .before .if1 .left)) (c .before .before .put .ensures)
 
 pub or-spec : {M : Type 1} → statement M
 or-spec =
@@ -70,10 +69,10 @@ or-spec =
     same-length
     returns
     enum-told
+    max-requires
     same-length-2
     returns-2
-    grow-requires
-    or-words-requires
-    max-requires
+    slice-aggregate-put
+    put-requires
     same-length-3
     returns-3)

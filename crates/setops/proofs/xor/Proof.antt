@@ -1,24 +1,32 @@
-use mathlib.Core.Path.{sym, _∙_, ap}
-use Prim.Native.Nat.{ℕ, max}
+-- The guard, and then the words of the first and of the other up to its last that is not 0.
+use mathlib.Core.Path.{sym, _∙_}
+use Prim.Native.Nat.{_≤_}
 use native.Mathlib.Omega.{arith}
 use borrow.Author.Needs.{needs}
+use lib.ListN.{length}
 use lib.Seq.{length-take-le}
-use lib.ListN.{take}
-use Rattle.arch.specs.Scans.{nonzeroLen}
-use Rattle.arch.proofs.Scans.{nonzero-le}
 use Rattle.storage.specs.Guards.{PassedTwo}
 use Rattle.storage.proofs.Checks.{passed-two}
 use Rattle.storage.proofs.Stores.{two-stopped}
-use Rattle.setops.proofs.Combine.{xor-refused, xor-changes}
+use Rattle.word.proofs.Lists.{Fit}
+use Rattle.setops.proofs.Combine.{xor-refused, xor-done, xor-front}
 use Rattle.setops.proofs.xor.Statement.{statement}
 use Rattle.setops.proofs.xor.Tie as tie
 
 -- the guard has let both stores pass
 ok : (c : tie.After-enum-told)
-    → PassedTwo (c .before .before .before .before .before .before .args .words .now)
-    (c .before .before .before .before .before .before .args .b) (c .before .before .before .before .before .before .args .other .now)
-    (c .before .before .before .before .before .before .args .o)
+    → let a = c .before .before .before .before .before .before .args in
+    PassedTwo (a .words .now) (a .b) (a .other .now) (a .o)
 ok c = passed-two _ _ _ _ (sym (c .enum-told .given .1) ∙ c .before .before .check-two .ensures)
+
+fit : (c : tie.After-enum-told) → Fit (c .before .before .before .before .before .before .args .other .now)
+fit c k = omega (arith, c .before .before .before .before .shared-slice-known .given k)
+
+-- the words of the other that are looked at
+front : (c : tie.After-max)
+    → let s = c .before .before .before .before .before .before .before .before .before in
+    c .before .nonzero-len .result ≤ length (s .args .other .now)
+front c = xor-front _ _ _ _ (ok (c .before .before .before)) (fit (c .before .before .before)) _ _ (c .before .nonzero-len .ensures) (c .max .ensures)
 
 check-two-requires : tie.Need-check-two-requires
 check-two-requires c κs = search needs
@@ -41,43 +49,34 @@ slice-aggregate-nonzero-len c = sym (length-take-le _ _ (ok (c .before) .other .
 nonzero-len-requires : tie.Need-nonzero-len-requires
 nonzero-len-requires c κs = search needs
 
+max-requires : tie.Need-max-requires
+max-requires c κs = search needs
+
 same-length-2 : tie.Need-same-length-2
 same-length-2 c = search needs
 
 returns-2 : tie.Need-returns-2
 returns-2 c =
-    xor-refused _ _ _ _ (ok (c .before .before .before) .own) (ok (c .before .before .before) .other)
-    (λ k. omega (arith, c .before .before .before .before .before .before .before .before .slice-known .given k))
-    (λ k. omega (arith, c .before .before .before .before .before .before .before .shared-slice-known .given k)) _
-    (c .before .nonzero-len .ensures) (c .if1 .taken)
+    let g = c .before .before .before .before in
+    xor-refused _ _ _ _ (ok g) (fit g) _ _ (c .before .before .nonzero-len .ensures) (c .before .max .ensures) (c .if1 .taken)
 
-grow-requires : tie.Need-grow-requires
-grow-requires c κs = search needs
+slice-aggregate-put : tie.Need-slice-aggregate-put
+slice-aggregate-put c = sym (length-take-le _ _ (front (c .before .before .before)))
 
-xor-words-requires : tie.Need-xor-words-requires
-xor-words-requires c κs =
-    omega (
-      arith,
-      ok (c .before .before .before .before .before .before .before .before) .other .inside,
-      c .before .before .before .before .before .before .nonzero-len .ensures,
-      nonzero-le
-          (take (c .before .before .before .before .before .before .before .before .before .before .before .before .before .before .args .o .count)
-          (c .before .before .before .before .before .before .before .before .before .before .before .before .before .before .args .other .now)),
-      length-take-le (c .before .before .before .before .before .before .before .before .before .before .before .before .before .before .args .o .count)
-          (c .before .before .before .before .before .before .before .before .before .before .before .before .before .before .args .other .now)
-          (ok (c .before .before .before .before .before .before .before .before) .other .inside),
+put-requires : tie.Need-put-requires
+put-requires c κs =
+    let f = front (c .before .before .before) in
+    let s = c .before .before .before .before .before .before .before .before .before .before .before .before in (
+      omega (arith, ok (c .before .before .before .before .before .before) .own .inside),
+      omega (arith, c .before .before .if1 .left),
+      omega (arith, length-take-le (c .before .before .before .before .nonzero-len .result) (s .args .other .now) f),
     )
 
-max-requires : tie.Need-max-requires
-max-requires c κs = search needs
-
 slice-reshare-prefix-nonzero-len : tie.Need-slice-reshare-prefix-nonzero-len
-slice-reshare-prefix-nonzero-len c = omega (arith, ok (c .before .before .before .before .before .before .before .before .before .before .before .before) .own .inside)
+slice-reshare-prefix-nonzero-len c = omega (arith, c .before .before .before .before .before .if1 .left, c .before .before .put .ensures .long)
 
 slice-aggregate-nonzero-len-2 : tie.Need-slice-aggregate-nonzero-len-2
-slice-aggregate-nonzero-len-2 c =
-    sym (length-take-le (c .before .max .result) (c .before .before .before .before .xor-words .last .0)
-    (omega (arith, ok (c .before .before .before .before .before .before .before .before .before .before .before .before .before) .own .inside)))
+slice-aggregate-nonzero-len-2 c = sym (length-take-le _ _ (omega (arith, c .before .before .before .before .before .before .if1 .left, c .before .before .before .put .ensures .long)))
 
 nonzero-len-requires-2 : tie.Need-nonzero-len-requires-2
 nonzero-len-requires-2 c κs = search needs
@@ -87,18 +86,9 @@ same-length-3 c = search needs
 
 returns-3 : tie.Need-returns-3
 returns-3 c =
-    xor-changes _ _ _ _ (ok
-    (c .before .before .before .before .before .before .before .before .before .before .before .before .before .before) .own)
-    (ok (c .before .before .before .before .before .before .before .before .before .before .before .before .before .before) .other)
-    (λ k. let s = c .before .before .before .before .before .before .before .before .before in
-    omega (arith, s .before .before .before .before .before .before .before .before .before .before .slice-known .given k))
-    (λ k. let s = c .before .before .before .before .before .before .before .before .before in
-    omega (arith, s .before .before .before .before .before .before .before .before .before .shared-slice-known .given k)) _
-    (c .before .before .before .before .before .before .before .before .before .before .before .before .nonzero-len .ensures) _ _ _
-    (omega arith) (c .before .before .before .before .before .before .before .before .before .grow .ensures)
-    (c .before .before .before .before .before .xor-words .ensures)
-    (c .nonzero-len2 .ensures ∙ ap (λ (x : ℕ). nonzeroLen (take x (c .before .before .before .before .before .xor-words .last .0)))
-    (c .before .before .max .ensures))
+    let m = c .before .before .before .before .before .before .before .before in
+    xor-done _ _ _ _ (ok (m .before .before .before)) (fit (m .before .before .before)) _ _ (m .before .nonzero-len .ensures) (m .max .ensures) _ _
+    (omega (arith, c .before .before .before .before .before .before .before .if1 .left)) (c .before .before .before .before .put .ensures) (c .nonzero-len2 .ensures)
 
 pub xor-spec : {M : Type 1} → statement M
 xor-spec =
@@ -111,11 +101,11 @@ xor-spec =
     enum-told
     slice-aggregate-nonzero-len
     nonzero-len-requires
+    max-requires
     same-length-2
     returns-2
-    grow-requires
-    xor-words-requires
-    max-requires
+    slice-aggregate-put
+    put-requires
     slice-reshare-prefix-nonzero-len
     slice-aggregate-nonzero-len-2
     nonzero-len-requires-2

@@ -45,8 +45,8 @@ same-length-2 c = search needs
 returns-2 : tie.Need-returns-2
 returns-2 c = resize-refused _ _ _ (fit (c .before .before .before .before .before)) (ok (c .before)) (c .if1 .taken)
 
-grow-requires : tie.Need-grow-requires
-grow-requires c κs = search needs
+zero-words-requires : tie.Need-zero-words-requires
+zero-words-requires c κs = search needs
 
 max-requires : tie.Need-max-requires
 max-requires c κs = search needs
@@ -71,7 +71,7 @@ returns-3 c =
     resize-changes _ _ _ (fit (c .before .before .before .before .before .before .before .before .before .before .before .before .before .before))
     (ok (c .before .before .before .before .before .before .before .before .before .before)) _ _ _ _ refl
     (c .before .before .before .before .before .before .before .before .before .if1 .left)
-    (c .before .before .before .before .before .before .before .grow .ensures) (c .before .before .before .before .max .ensures)
+    (c .before .before .before .before .before .before .before .zero-words .ensures) (c .before .before .before .before .max .ensures)
     (c .before .before .fill-region .ensures)
 
 pub resize-bits-spec : {M : Type 1} → statement M
@@ -87,7 +87,7 @@ resize-bits-spec =
     add-need-2
     same-length-2
     returns-2
-    grow-requires
+    zero-words-requires
     max-requires
     slice-relend-prefix-fill-region
     slice-aggregate-fill-region

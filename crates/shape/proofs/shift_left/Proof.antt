@@ -66,11 +66,11 @@ same-length-4 c = search needs
 returns-4 : tie.Need-returns-4
 returns-4 c = left-no-space _ _ _ (fit (c .before .before .before .before .before .before .before)) (ok (c .before .before .before)) _ (top (c .before .before .before)) (omega arith) (c .if2 .taken)
 
-add-grow : tie.Need-add-grow
-add-grow c = search needs
+add-zero-words : tie.Need-add-zero-words
+add-zero-words c = search needs
 
-grow-requires : tie.Need-grow-requires
-grow-requires c κs = search needs
+zero-words-requires : tie.Need-zero-words-requires
+zero-words-requires c κs = search needs
 
 add-max : tie.Need-add-max
 add-max c = search needs
@@ -97,7 +97,7 @@ returns-5 c =
     (ok (c .before .before .before .before .before .before .before .before .before .before .before .before)) _
     (top (c .before .before .before .before .before .before .before .before .before .before .before .before)) _ _ _ (omega arith)
     (c .before .before .before .before .before .before .before .before .before .if2 .left)
-    (c .before .before .before .before .before .before .before .grow .ensures) (c .before .before .before .before .max .ensures)
+    (c .before .before .before .before .before .before .before .zero-words .ensures) (c .before .before .before .before .max .ensures)
     (c .before .before .left-words .ensures)
 
 pub shift-left-spec : {M : Type 1} → statement M
@@ -118,8 +118,8 @@ shift-left-spec =
     add-w
     same-length-4
     returns-4
-    add-grow
-    grow-requires
+    add-zero-words
+    zero-words-requires
     add-max
     max-requires
     slice-relend-prefix-left-words

@@ -39,11 +39,11 @@ same-length-2 c = search needs
 returns-2 : tie.Need-returns-2
 returns-2 c = toggle-refused _ _ _ (fit (c .before .before .before .before .before)) (ok (c .before)) (c .if1 .taken)
 
-add-grow : tie.Need-add-grow
-add-grow c = search needs
+add-zero-words : tie.Need-add-zero-words
+add-zero-words c = search needs
 
-grow-requires : tie.Need-grow-requires
-grow-requires c κs = search needs
+zero-words-requires : tie.Need-zero-words-requires
+zero-words-requires c κs = search needs
 
 mul-words : tie.Need-mul-words
 mul-words c = search needs
@@ -73,7 +73,7 @@ returns-3 : tie.Need-returns-3
 returns-3 c =
     toggle-changes _ _ _ (fit (c .before .before .before .before .before .before .before .before .before .before .before .before))
     (ok (c .before .before .before .before .before .before .before .before)) _ _ _ (c .before .before .before .before .before .before .before .if1 .left)
-    (c .before .before .before .before .before .grow .ensures) (c .before .bit .ensures) (c .max .ensures)
+    (c .before .before .before .before .before .zero-words .ensures) (c .before .bit .ensures) (c .max .ensures)
 
 pub toggle-spec : {M : Type 1} → statement M
 toggle-spec =
@@ -86,8 +86,8 @@ toggle-spec =
     enum-told
     same-length-2
     returns-2
-    add-grow
-    grow-requires
+    add-zero-words
+    zero-words-requires
     mul-words
     slice-read-words
     bit-requires

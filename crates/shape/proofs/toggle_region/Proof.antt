@@ -70,11 +70,11 @@ returns-4 c =
     (last (c .before .before .before .before .before .before .before))
     (c .before .before .if1 .left) (omega arith) (omega arith) (c .if3 .taken)
 
-add-grow : tie.Need-add-grow
-add-grow c = search needs
+add-zero-words : tie.Need-add-zero-words
+add-zero-words c = search needs
 
-grow-requires : tie.Need-grow-requires
-grow-requires c κs = search needs
+zero-words-requires : tie.Need-zero-words-requires
+zero-words-requires c κs = search needs
 
 flip-region-requires : tie.Need-flip-region-requires
 flip-region-requires c κs = search needs
@@ -96,7 +96,7 @@ returns-5 c =
     (last (c .before .before .before .before .before .before .before .before .before .before .before .before .before .before .before .before))
     (c .before .before .before .before .before .before .before .before .before .before .before .if1 .left) (omega arith) (omega arith) _ _ _
     (c .before .before .before .before .before .before .before .before .before .if3 .left)
-    (c .before .before .before .before .before .before .before .grow .ensures) (c .before .before .before .flip-region .ensures) (c .max .ensures)
+    (c .before .before .before .before .before .before .before .zero-words .ensures) (c .before .before .before .flip-region .ensures) (c .max .ensures)
 
 pub toggle-region-spec : {M : Type 1} → statement M
 toggle-region-spec =
@@ -117,8 +117,8 @@ toggle-region-spec =
     add-last
     same-length-4
     returns-4
-    add-grow
-    grow-requires
+    add-zero-words
+    zero-words-requires
     flip-region-requires
     add-max
     max-requires

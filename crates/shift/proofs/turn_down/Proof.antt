@@ -3,7 +3,7 @@ use Prim.Native.Nat.{_-_, _*_, _≤_}
 use native.Mathlib.Omega.{arith}
 use borrow.Author.Needs.{needs}
 use lib.ListN.{length-set, length}
-use Rattle.word.specs.Bits.{member, wordOf}
+use Rattle.word.specs.Places.{member, wordOf}
 use Rattle.word.proofs.Sweep.{Swept, sweep-none}
 use Rattle.shift.specs.Shifts.{turnedDown}
 use Rattle.shift.proofs.Turns.{sunk-none, down-step, down-last}

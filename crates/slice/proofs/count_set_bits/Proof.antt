@@ -5,7 +5,7 @@ use Rattle.storage.specs.Guards.{Passed}
 use Rattle.storage.proofs.Checks.{passed, reading-stopped}
 use Rattle.slice.proofs.Answers.{reading-is}
 use Rattle.slice.proofs.Scans.{count-is}
-use Rattle.storage.specs.declared.Number.{Number}
+use Rattle.storage.specs.declared.Amount.{Amount}
 use Rattle.slice.proofs.count_set_bits.Statement.{statement}
 use Rattle.slice.proofs.count_set_bits.Tie as tie
 
@@ -32,7 +32,7 @@ count-set-bits-requires : tie.Need-count-set-bits-requires
 count-set-bits-requires c κs = search needs
 
 returns-2 : tie.Need-returns-2
-returns-2 c = reading-is _ _ _ _ _ (ok (c .before .before)) (ap Number.Is (count-is _ _ _ (ok (c .before .before)) (c .count-set-bits .ensures)))
+returns-2 c = reading-is _ _ _ _ _ (ok (c .before .before)) (ap Amount.Is (count-is _ _ _ (ok (c .before .before)) (c .count-set-bits .ensures)))
 
 pub count-set-bits-spec : {M : Type 1} → statement M
 count-set-bits-spec =

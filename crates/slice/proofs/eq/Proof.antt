@@ -5,7 +5,7 @@ use lib.Seq.{length-take-le}
 use Rattle.storage.specs.declared.Truth.{Truth}
 use Rattle.storage.specs.Guards.{PassedTwo}
 use Rattle.storage.proofs.Checks.{passed-two, both-ok, both-stopped}
-use Rattle.slice.proofs.Equals.{equal-is}
+use Rattle.slice.proofs.Equals.{equal-not, equal-is}
 use Rattle.slice.proofs.eq.Statement.{statement}
 use Rattle.slice.proofs.eq.Tie as tie
 
@@ -39,18 +39,24 @@ slice-aggregate-trimmed-2 c = sym (length-take-le _ _ (ok (c .before .before .be
 trimmed-requires-2 : tie.Need-trimmed-requires-2
 trimmed-requires-2 c κs = search needs
 
-same-words-requires : tie.Need-same-words-requires
-same-words-requires c κs = search needs
-
+-- the front parts have another length
 returns-2 : tie.Need-returns-2
 returns-2 c =
     let p = ok (c .before .before .before .before .before) in
     ap Truth.Is
-    (equal-is _ _ _ _ (p .own .inside) (p .other .inside) _ _ _
+    (equal-not _ _ _ _ (p .own .inside) (p .other .inside) _ _ (c .before .before .before .trimmed .ensures) (c .before .trimmed2 .ensures)
     (λ k. omega (arith, c .before .before .before .before .before .before .before .before .before .shared-slice-known .given k))
-    (λ k. omega (arith, c .before .before .before .before .before .before .before .before .shared-slice-known2 .given k))
-    (c .before .before .before .trimmed .ensures) (c .before .trimmed2 .ensures) (c .same-words .ensures))
+    (λ k. omega (arith, c .before .before .before .before .before .before .before .before .shared-slice-known2 .given k)) (c .if1 .taken))
     ∙ sym (both-ok _ _ _ _ _ _ p)
+
+same-words-requires : tie.Need-same-words-requires
+same-words-requires c κs = c .if1 .left
+
+returns-3 : tie.Need-returns-3
+returns-3 c =
+    let p = ok (c .before .before .before .before .before .before) in
+    let e = equal-is _ _ _ _ (p .own .inside) (p .other .inside) _ _ (c .before .before .before .before .trimmed .ensures) (c .before .before .trimmed2 .ensures) in
+    ap Truth.Is (c .same-words .ensures ∙ e) ∙ sym (both-ok _ _ _ _ _ _ p)
 
 pub eq-spec : {M : Type 1} → statement M
 eq-spec =
@@ -64,5 +70,6 @@ eq-spec =
     trimmed-requires
     slice-aggregate-trimmed-2
     trimmed-requires-2
+    returns-2
     same-words-requires
-    returns-2)
+    returns-3)

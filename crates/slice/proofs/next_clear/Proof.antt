@@ -5,7 +5,7 @@ use Rattle.storage.specs.Guards.{Passed}
 use Rattle.storage.proofs.Checks.{passed, reading-stopped}
 use Rattle.slice.proofs.Answers.{reading-is}
 use Rattle.slice.proofs.Scans.{zeros-le, other-found, none-found, clear-here, clear-after, clear-none, clear-past}
-use Rattle.storage.specs.declared.Number.{Number}
+use Rattle.storage.specs.declared.Amount.{Amount}
 use Rattle.slice.proofs.next_clear.Statement.{statement}
 use Rattle.slice.proofs.next_clear.Tie as tie
 
@@ -26,7 +26,7 @@ enum-told : tie.Need-enum-told
 enum-told c = search needs
 
 returns-2 : tie.Need-returns-2
-returns-2 c = reading-is _ _ _ _ _ (ok (c .before)) (ap Number.Is (clear-past _ _ _ (omega arith)))
+returns-2 c = reading-is _ _ _ _ _ (ok (c .before)) (ap Amount.Is (clear-past _ _ _ (omega arith)))
 
 mul-t : tie.Need-mul-t
 mul-t c = search needs
@@ -52,7 +52,7 @@ add-t24 c = omega (arith, zeros-le _ _ (c .trailing-zeros .ensures), ok (c .befo
 returns-3 : tie.Need-returns-3
 returns-3 c =
     reading-is _ _ _ _ _ (ok (c .before .before .before .before))
-    (ap Number.Is (clear-here _ _ _ (λ k. omega (arith, c .before .before .before .before .before .before .before .shared-slice-known .given k))
+    (ap Amount.Is (clear-here _ _ _ (λ k. omega (arith, c .before .before .before .before .before .before .before .shared-slice-known .given k))
     (omega arith) _ (c .before .if2 .taken) (c .trailing-zeros .ensures)))
 
 add-next : tie.Need-add-next
@@ -119,7 +119,7 @@ mul-t35 c = omega (arith, ok (c .before .before .before .before .before .before 
 returns-4 : tie.Need-returns-4
 returns-4 c =
     reading-is _ _ _ _ _ (ok (c .before .before .before .before .before .before .before .before .before))
-    (ap Number.Is (clear-after _ _ _
+    (ap Amount.Is (clear-after _ _ _
     (λ k. omega (arith, c .before .before .before .before .before .before .before .before .before .before .before .before .shared-slice-known .given k))
     (omega arith) (ok (c .before .before .before .before .before .before .before .before .before) .inside) _ _ _
     (c .before .before .before .before .before .before .if2 .left)
@@ -129,7 +129,7 @@ returns-4 c =
 returns-5 : tie.Need-returns-5
 returns-5 c =
     reading-is _ _ _ _ _ (ok (c .before .before .before .before .before .before .before))
-    (ap Number.Is (clear-none _ _ _
+    (ap Amount.Is (clear-none _ _ _
     (λ k. omega (arith, c .before .before .before .before .before .before .before .before .before .before .shared-slice-known .given k))
     (omega arith) (ok (c .before .before .before .before .before .before .before) .inside) (c .before .before .before .before .if2 .left)
     (none-found _ _ _ _ (ok (c .before .before .before .before .before .before .before) .inside)

@@ -81,8 +81,8 @@ returns-4 c =
 max-requires : tie.Need-max-requires
 max-requires c κs = search needs
 
-grow-requires : tie.Need-grow-requires
-grow-requires c κs = search needs
+zero-words-requires : tie.Need-zero-words-requires
+zero-words-requires c κs = search needs
 
 slice-relend-prefix-walk-2 : tie.Need-slice-relend-prefix-walk-2
 slice-relend-prefix-walk-2 c = search needs
@@ -103,7 +103,7 @@ returns-5 c =
     (c .before .before .before .before .before .before .before .before .before .before .before .before .before .before .before .walk .ensures) _
     (c .before .before .before .before .before .before .before .before .before .before .before .m .given .1)
     (c .before .before .before .before .before .before .before .before .before .if2 .left) _ (c .before .before .before .before .before .before .before .max .ensures) _
-    (c .before .before .before .before .before .before .grow .ensures) _ _ (c .before .before .walk2 .ensures)
+    (c .before .before .before .before .before .before .zero-words .ensures) _ _ (c .before .before .walk2 .ensures)
 
 pub from-list-spec : {M : Type 1} → statement M
 from-list-spec =
@@ -128,7 +128,7 @@ from-list-spec =
     same-length-4
     returns-4
     max-requires
-    grow-requires
+    zero-words-requires
     slice-relend-prefix-walk-2
     slice-aggregate-walk-2
     walk-requires-2

@@ -10,7 +10,7 @@ use Prim.Native.Nat.{_-_}
 use lib.ListN.{length}
 use borrow.Author.Needs.{needs}
 use Rattle.text.specs.Lists.{Range}
-use Rattle.text.proofs.Tokens.{Inside, inside-start, inside-go, inside-stop, Ended, ended-left, ended-comma, Going, going-start, stops, none-at, empty-first, empty-inner, empty-last}
+use Rattle.text.proofs.Tokens.{Inside, inside-start, inside-go, inside-stop, Ended, ended-left, ended-comma, TokensTo, going-start, stops, none-at, empty-first, empty-inner, empty-last}
 use Rattle.text.proofs.Tokens.{range-last, range-more, range-less, going-length, more-length}
 use Rattle.text.proofs.walk.Statement.{statement}
 use Rattle.text.proofs.walk.Tie as tie
@@ -22,7 +22,7 @@ abbrev μ-digits : tie.MeasureT-digits
 μ-digits words text top any at₀ part₀ more₀ at part more = length text - at
 
 abbrev Inv-tokens : tie.InvT-tokens
-Inv-tokens words₀ text top₀ any₀ at₀ words top any at = (rs : List Range) × Going text words₀ words top any at rs
+Inv-tokens words₀ text top₀ any₀ at₀ words top any at = (rs : List Range) × TokensTo text words₀ words top any at rs
 
 abbrev μ-tokens : tie.MeasureT-tokens
 μ-tokens words₀ text top₀ any₀ at₀ words top any at = length text - at

@@ -1,7 +1,7 @@
 use mathlib.Core.Path.{refl}
 use borrow.Author.Needs.{needs}
 use Rattle.word.specs.Sets.{countBelow, nth}
-use Rattle.word.specs.Bits.{bit, tabFrom}
+use Rattle.word.specs.Places.{bit, tabFrom}
 use Rattle.arch.specs.Select.{selectTable}
 use Rattle.arch.proofs.Table.{select-by-rule}
 use Rattle.arch.proofs.select.select_u64.Statement.{statement}

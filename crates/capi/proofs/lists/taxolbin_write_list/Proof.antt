@@ -6,14 +6,14 @@ use Rattle.capi.proofs.lists.taxolbin_write_list.Tie as tie
 write-list-requires : tie.Need-write-list-requires
 write-list-requires c κs = search needs
 
-number-requires : tie.Need-number-requires
-number-requires c κs = search needs
+amount-requires : tie.Need-amount-requires
+amount-requires c κs = search needs
 
 same-length : tie.Need-same-length
 same-length c = search needs
 
 returns : tie.Need-returns
-returns c = printed (c .before .before .before .before .write-list .ensures) (c .number .ensures)
+returns c = printed (c .before .before .before .before .write-list .ensures) (c .amount .ensures)
 
 pub taxolbin-write-list-spec : {M : Type 1} → statement M
-taxolbin-write-list-spec = tie.close (tie.spec write-list-requires number-requires same-length returns)
+taxolbin-write-list-spec = tie.close (tie.spec write-list-requires amount-requires same-length returns)

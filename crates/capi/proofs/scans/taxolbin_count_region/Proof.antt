@@ -1,16 +1,16 @@
 use borrow.Author.Needs.{needs}
-use Rattle.capi.proofs.Calls.{number}
+use Rattle.capi.proofs.Calls.{amount}
 use Rattle.capi.proofs.scans.taxolbin_count_region.Statement.{statement}
 use Rattle.capi.proofs.scans.taxolbin_count_region.Tie as tie
 
 count-region-requires : tie.Need-count-region-requires
 count-region-requires c κs = search needs
 
-number-requires : tie.Need-number-requires
-number-requires c κs = search needs
+amount-requires : tie.Need-amount-requires
+amount-requires c κs = search needs
 
 returns : tie.Need-returns
-returns c = number (c .before .before .count-region .ensures) (c .number .ensures)
+returns c = amount (c .before .before .count-region .ensures) (c .amount .ensures)
 
 pub taxolbin-count-region-spec : {M : Type 1} → statement M
-taxolbin-count-region-spec = tie.close (tie.spec count-region-requires number-requires returns)
+taxolbin-count-region-spec = tie.close (tie.spec count-region-requires amount-requires returns)

@@ -1,16 +1,16 @@
 use borrow.Author.Needs.{needs}
-use Rattle.capi.proofs.Calls.{number}
+use Rattle.capi.proofs.Calls.{amount}
 use Rattle.capi.proofs.scans.taxolbin_next_clear.Statement.{statement}
 use Rattle.capi.proofs.scans.taxolbin_next_clear.Tie as tie
 
 next-clear-requires : tie.Need-next-clear-requires
 next-clear-requires c κs = search needs
 
-number-requires : tie.Need-number-requires
-number-requires c κs = search needs
+amount-requires : tie.Need-amount-requires
+amount-requires c κs = search needs
 
 returns : tie.Need-returns
-returns c = number (c .before .before .next-clear .ensures) (c .number .ensures)
+returns c = amount (c .before .before .next-clear .ensures) (c .amount .ensures)
 
 pub taxolbin-next-clear-spec : {M : Type 1} → statement M
-taxolbin-next-clear-spec = tie.close (tie.spec next-clear-requires number-requires returns)
+taxolbin-next-clear-spec = tie.close (tie.spec next-clear-requires amount-requires returns)

@@ -2,7 +2,7 @@ use mathlib.Core.Path.{refl}
 use Prim.Native.Nat.{_-_, _≤_, max}
 use lib.ListN.{getD}
 use Rattle.word.proofs.Sweep.{sweep-up, Swept, sweep-none}
-use Rattle.combine.proofs.Writes.{swept-put}
+use Rattle.storage.proofs.Combined.{swept-put}
 use native.Mathlib.Omega.{arith}
 use Rattle.combine.proofs.kernels.copy_words.Statement.{statement}
 use Rattle.combine.proofs.kernels.copy_words.Tie as tie

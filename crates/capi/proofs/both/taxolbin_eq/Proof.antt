@@ -1,0 +1,16 @@
+use borrow.Author.Needs.{needs}
+use Rattle.capi.proofs.Calls.{truth}
+use Rattle.capi.proofs.both.taxolbin_eq.Statement.{statement}
+use Rattle.capi.proofs.both.taxolbin_eq.Tie as tie
+
+eq-requires : tie.Need-eq-requires
+eq-requires c κs = search needs
+
+truth-requires : tie.Need-truth-requires
+truth-requires c κs = search needs
+
+returns : tie.Need-returns
+returns c = truth (c .before .before .eq .ensures) (c .truth .ensures)
+
+pub taxolbin-eq-spec : {M : Type 1} → statement M
+taxolbin-eq-spec = tie.close (tie.spec eq-requires truth-requires returns)

@@ -1,0 +1,16 @@
+use borrow.Author.Needs.{needs}
+use Rattle.capi.proofs.Calls.{found}
+use Rattle.capi.proofs.both.taxolbin_iter_and.Statement.{statement}
+use Rattle.capi.proofs.both.taxolbin_iter_and.Tie as tie
+
+iter-and-requires : tie.Need-iter-and-requires
+iter-and-requires c κs = search needs
+
+found-requires : tie.Need-found-requires
+found-requires c κs = search needs
+
+returns : tie.Need-returns
+returns c = found (c .before .before .before .iter-and .ensures) (c .found .ensures)
+
+pub taxolbin-iter-and-spec : {M : Type 1} → statement M
+taxolbin-iter-and-spec = tie.close (tie.spec iter-and-requires found-requires returns)

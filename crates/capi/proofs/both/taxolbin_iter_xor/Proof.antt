@@ -1,0 +1,16 @@
+use borrow.Author.Needs.{needs}
+use Rattle.capi.proofs.Calls.{found}
+use Rattle.capi.proofs.both.taxolbin_iter_xor.Statement.{statement}
+use Rattle.capi.proofs.both.taxolbin_iter_xor.Tie as tie
+
+iter-xor-requires : tie.Need-iter-xor-requires
+iter-xor-requires c κs = search needs
+
+found-requires : tie.Need-found-requires
+found-requires c κs = search needs
+
+returns : tie.Need-returns
+returns c = found (c .before .before .before .iter-xor .ensures) (c .found .ensures)
+
+pub taxolbin-iter-xor-spec : {M : Type 1} → statement M
+taxolbin-iter-xor-spec = tie.close (tie.spec iter-xor-requires found-requires returns)
