@@ -2,7 +2,7 @@
 use crate::scan;
 use crate::scan::LOST;
 use crate::tally;
-use crate::tally::Told;
+use crate::tally::Numbers;
 use sheet::Added;
 use sheet::Fields;
 
@@ -37,14 +37,14 @@ const PLACES: usize = 105;
 // Stands for a start, where an addition has its duty.
 const START: u64 = 2;
 
-fn said(a: Added) -> Told {
+fn said(a: Added) -> Numbers {
     match a {
-        Added::Done(length) => Told {
+        Added::Done(length) => Numbers {
             number: 0,
             record: 0,
             count: length as u64,
         },
-        Added::Refused(e) => Told {
+        Added::Refused(e) => Numbers {
             number: e.number() as u64,
             record: 0,
             count: 0,
@@ -142,7 +142,7 @@ fn asked(counts: &[u64; 170], payload: &[u8], buffer: &mut [u8]) -> Added {
 }
 
 // What a call answered and the buffer against what is right.
-fn compared(got: Told, memory: &[u8], counts: &mut [u64; 170]) {
+fn compared(got: Numbers, memory: &[u8], counts: &mut [u64; 170]) {
     let half = memory.len() / 2;
     let size = tally::at_most(counts[tally::SIZE], half);
     let same = same_bytes(&memory[0..size], &memory[half..half + size]);
@@ -155,7 +155,7 @@ fn compared(got: Told, memory: &[u8], counts: &mut [u64; 170]) {
 }
 
 // What the list says of a call: its answer, and the changes, made in the second buffer.
-fn judge(s: &[u8], at: usize, got: Told, memory: &mut [u8], counts: &mut [u64; 170]) -> usize {
+fn judge(s: &[u8], at: usize, got: Numbers, memory: &mut [u8], counts: &mut [u64; 170]) -> usize {
     let p = scan::numbers(s, at, counts, NUMBER, tally::OLD);
     let half = memory.len() / 2;
     let size = tally::at_most(counts[tally::SIZE], half);

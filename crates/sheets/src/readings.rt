@@ -2,7 +2,7 @@
 use crate::scan;
 use crate::scan::LOST;
 use crate::tally;
-use crate::tally::Told;
+use crate::tally::Numbers;
 use sheet::Reading;
 use storage::Bitmap;
 use storage::EMPTY;
@@ -24,14 +24,14 @@ const UNTOUCHED: u64 = 256;
 // What every word of a result store holds before the reading, with its place added.
 const PATTERN: u64 = 0xa5a5_a5a5_a5a5_a500;
 
-fn said(r: Reading) -> Told {
+fn said(r: Reading) -> Numbers {
     match r {
-        Reading::Done(records, b) => Told {
+        Reading::Done(records, b) => Numbers {
             number: 0,
             record: records as u64,
             count: b.count as u64,
         },
-        Reading::Refused(e, record) => Told {
+        Reading::Refused(e, record) => Numbers {
             number: e.number() as u64,
             record: record as u64,
             count: 0,
@@ -71,7 +71,7 @@ fn wanted(s: &[u8], at: usize, n: u64, out: &mut [u64]) -> usize {
 }
 
 // The reading of a sheet into a store that holds the pattern.
-fn told(counts: &[u64; 170], sheet: &[u8], store: &mut [u64]) -> Told {
+fn told(counts: &[u64; 170], sheet: &[u8], store: &mut [u64]) -> Numbers {
     pattern(store);
     let words = tally::at_most(counts[tally::WORDS], tally::OLDEST);
     let count = counts[tally::COUNT] as usize;

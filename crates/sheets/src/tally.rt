@@ -44,7 +44,7 @@ pub const OLDEST: usize = 64;
 pub const STORE: usize = 128;
 
 // An answer in document 01's numbers: of a reading the number, record and word count, of a writer call the number, 0 and the length.
-pub struct Told {
+pub struct Numbers {
     pub number: u64,
     pub record: u64,
     pub count: u64,
@@ -95,7 +95,7 @@ pub(crate) fn fits(counts: &[u64; 170]) -> bool {
 }
 
 // Whether an answer has the number, record and count of the list.
-pub(crate) fn same(a: Told, number: u64, record: u64, count: u64) -> bool {
+pub(crate) fn same(a: Numbers, number: u64, record: u64, count: u64) -> bool {
     if a.number != number {
         return false;
     }
