@@ -14,12 +14,11 @@ use Rattle.word.specs.Places.{bit, member}
 use Rattle.word.proofs.Cases.{by-lt, by-test, eqb-same}
 use Rattle.word.proofs.Sets.{top}
 use Rattle.word.proofs.Lists.{Fit, past, determined}
-use Rattle.arch.specs.Scans.{Alike, nonzeroLen, isZero}
+use Rattle.arch.specs.Scans.{nonzeroLen, isZero}
 use Rattle.arch.proofs.Scans.{nonzero-le}
 use Rattle.pairs.specs.Pairs.{wordsBy}
 use Rattle.pairs.specs.declared.SetOp.the-variants.{Xor}
-use Rattle.pairs.proofs.Tables.{by-length, by-fit, by-member}
-use Rattle.pairs.proofs.Scans.{zero-all}
+use Rattle.pairs.proofs.Tables.{by-fit, by-member}
 use Rattle.storage.specs.Stores.{Bits, Bounded, view, size, combined, trimmedCount}
 use Rattle.storage.specs.Kernels.{allWords}
 use Rattle.storage.proofs.Combined.{all-member, all-bounded, size-none, none-of-size, zero-words}
@@ -52,10 +51,6 @@ module _ (b o : Bits) where
   unfolding equal combined
   same-of-equal bb bo e i =
       same-xor (b .members i) (o .members i) (none-of-size (combined Xor b o) (bounded-combined Xor b o bb bo) (eqb-true (size (combined Xor b o)) 0 e) i)
-
--- words that agree up to their common length are the same
-pub none-differ : (xs ys : List ℕ) (i : ℕ) → length xs ≡ length ys → length xs ≤ i → Alike (wordsBy Xor xs ys) 0 0 i → true ≡ isZero (wordsBy Xor xs ys)
-none-differ xs ys i e h s = zero-all (wordsBy Xor xs ys) (record { at = λ k p q. s .at k p (omega (arith, by-length Xor xs ys)) })
 
 -- ---- the front part of the words
 

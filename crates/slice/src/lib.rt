@@ -15,9 +15,6 @@ use word::Word;
 ghost use mathlib.Core.Path.{_≡_};
 ghost use Prim.Native.Nat.{_+_, _≤_, _<_};
 ghost use lib.ListN.{length, getD, set};
-ghost use Rattle.arch.specs.Scans.{isZero};
-ghost use Rattle.pairs.specs.Pairs.{wordsBy};
-ghost use Rattle.pairs.specs.declared.SetOp.the-variants.{Xor};
 ghost use Rattle.storage.specs.Stores.{reading, readingBoth, size, nextFrom, Changes};
 ghost use Rattle.slice.specs.Slices.{frontPart, equal, fieldAt, settingFieldInside, lastSet, nextClear};
 ghost use Rattle.slice.specs.Kernels.{overlaid};
@@ -193,22 +190,6 @@ pub fn next_clear(words: &[u64], b: Bitmap, i: usize) -> Amount
     }
 }
 
-// Are the words the same, so that xor makes only zeros of them? `pairs::is_zero` tells it too; this is short enough for the compiler to take it into
-// `eq`, which is then faster where an early word differs.
-fn same_words(a: &[u64], b: &[u64]) -> bool
-    requires { ⌜ length (now a) ≡ length (now b) ⌝ }
-    ensures { λ r. ⌜ r ≡ isZero (wordsBy Xor (now (a .entry)) (now (b .entry))) ⌝ }
-{
-    let mut i = pairs::zero_eights(SetOp::Xor, a, b, 0);
-    while i < a.len() {
-        if SetOp::Xor.word(a[i], b[i]) != 0 {
-            return false;
-        }
-        i += 1;
-    }
-    true
-}
-
 // Do both have the same bits set? Trailing zero words do not count.
 pub fn eq(words: &[u64], b: Bitmap, other: &[u64], o: Bitmap) -> Truth
     ensures { λ r. ⌜ r ≡ readingBoth (now (words .entry)) b (now (other .entry)) o Truth.Refused (λ s t. Truth.Is (equal s t)) ⌝ }
@@ -224,5 +205,5 @@ pub fn eq(words: &[u64], b: Bitmap, other: &[u64], o: Bitmap) -> Truth
     if x.len() != y.len() {
         return Truth::Is(false);
     }
-    Truth::Is(same_words(x, y))
+    Truth::Is(pairs::is_zero(SetOp::Xor, x, y))
 }

@@ -49,14 +49,14 @@ returns-2 c =
     (λ k. omega (arith, c .before .before .before .before .before .before .before .before .shared-slice-known2 .given k)) (c .if1 .taken))
     ∙ sym (both-ok _ _ _ _ _ _ p)
 
-same-words-requires : tie.Need-same-words-requires
-same-words-requires c κs = c .if1 .left
+is-zero-requires : tie.Need-is-zero-requires
+is-zero-requires c κs = search needs
 
 returns-3 : tie.Need-returns-3
 returns-3 c =
     let p = ok (c .before .before .before .before .before .before) in
     let e = equal-is _ _ _ _ (p .own .inside) (p .other .inside) _ _ (c .before .before .before .before .trimmed .ensures) (c .before .before .trimmed2 .ensures) in
-    ap Truth.Is (c .same-words .ensures ∙ e) ∙ sym (both-ok _ _ _ _ _ _ p)
+    ap Truth.Is (c .is-zero .ensures ∙ e) ∙ sym (both-ok _ _ _ _ _ _ p)
 
 pub eq-spec : {M : Type 1} → statement M
 eq-spec =
@@ -71,5 +71,5 @@ eq-spec =
     slice-aggregate-trimmed-2
     trimmed-requires-2
     returns-2
-    same-words-requires
+    is-zero-requires
     returns-3)
