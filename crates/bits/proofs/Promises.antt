@@ -22,7 +22,7 @@ use Rattle.storage.specs.declared.Found.the-variants.{At, Nothing}
 use Rattle.storage.specs.declared.Amount.{Amount}
 use Rattle.storage.specs.declared.Amount.the-variants.{Is}
 use Rattle.storage.proofs.Outcomes.{same, never, which, contained-done}
-use Rattle.storage.proofs.Promises.{number-call, found-call}
+use Rattle.storage.proofs.Promises.{amount-call, found-call}
 use Rattle.bits.specs.Bitwise.{togglingInside, inverting, reversing, clearSize, countRegion, rankOf, selected}
 use Rattle.bits.specs.Promises.{Toggled, TogglesInside, Inverted, Inverts, Reversed, Reverses, InvertWordsMeans, ReverseWordsMeans}
 use Rattle.bits.specs.Promises.{CountClearBitsMeans, CountRegionMeans, RankMeans, Selected, SelectMeans}
@@ -103,7 +103,7 @@ reverses = record {
 -- ---- counts
 
 count-call : (f : Bits → ℕ) (rule : Bits → ℕ → Type 0) → ((b : Bits) → Bounded b → rule b (f b)) → AmountCall (λ s. Amount.Is (f s)) (λ b. Hands (rule b))
-count-call f rule holds = number-call (λ s. Amount.Is (f s)) (λ b. Hands (rule b)) (λ b bounded. (refl, holds b bounded))
+count-call f rule holds = amount-call (λ s. Amount.Is (f s)) (λ b. Hands (rule b)) (λ b bounded. (refl, holds b bounded))
 
 counting : (s : ℕ → Bool) (k : ℕ) → Counted s k (countBelow s k)
 counting s k = counted s k (countBelow s k) refl

@@ -36,7 +36,7 @@ use Rattle.sheet.proofs.Readings.{reading-means}
 use Rattle.sheet.proofs.Writings.{starting-means, adding-means}
 use Rattle.answers.specs.Answers.{AddedOut}
 use Rattle.capi.specs.Calls.{Changed, SplitOff, Printed, Written}
-use Rattle.capi.specs.Promises.{ChangesMean, ReadingsOut, OthersMean, CountIn, TruthIn, RefusedChangesNothing}
+use Rattle.capi.specs.Promises.{ChangesMean, ReadingsOut, OthersMean, TruthIn, RefusedChangesNothing}
 
 -- ---- what crosses is what the answer is
 
@@ -124,9 +124,6 @@ others-mean = record {
   add-duty = λ bs bs' payload f n kind r n' h. (_, h .out, adding-means .duties bs n kind f payload _ bs' (record { answers = refl; leaves = h .leaves }));
   add-remark = λ bs bs' payload f n kind r n' h. (_, h .out, adding-means .remarks bs n kind f payload _ bs' (record { answers = refl; leaves = h .leaves }));
 }
-
-pub count-in : CountIn
-count-in n = refl
 
 pub truth-in : TruthIn
 truth-in = record { zero = refl; other = λ v h. ap not (ne-eqb v 0 (omega arith)) }

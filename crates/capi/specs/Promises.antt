@@ -76,10 +76,6 @@ pub record OthersMean : Type 0 where
   pub add-remark : (bs bs' payload : List ℕ) (f : Fields) (n kind r n' : ℕ) → Written (added bs n (requested false kind f payload)) n r bs' n'
       → (a : Added) × AddedOut a n r n' × AddMeans bs n (remark kind payload) a bs'
 
--- a count that comes in
-abbrev pub CountIn : Type 0
-CountIn = (n : ℕ) → bitmapOf n .count ≡ n
-
 -- a truth value that comes in: 0 is false, any other is true
 pub record TruthIn : Type 0 where
   pub zero : truth 0 ≡ false

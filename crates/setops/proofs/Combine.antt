@@ -8,11 +8,10 @@ use native.Mathlib.Omega.{arith}
 use lib.ListN.{length, getD, take}
 use lib.Seq.{length-take-le, getD-take}
 use Rattle.word.proofs.Cases.{by-lt}
-use Rattle.word.proofs.Lists.{Fit, past}
+use Rattle.word.proofs.Lists.{Fit, past, fit-part}
 use Rattle.arch.specs.Scans.{nonzeroLen}
 use Rattle.arch.proofs.Scans.{nonzero-le, nonzero-past, nonzero-last}
-use Rattle.pairs.specs.Pairs.{wordBy, wordsBy}
-use Rattle.pairs.specs.Pairs.{endBy}
+use Rattle.pairs.specs.Pairs.{wordBy, wordsBy, endBy}
 use Rattle.pairs.specs.declared.SetOp.{SetOp}
 use Rattle.pairs.specs.declared.SetOp.the-variants.{And, AndNot, Or, Xor}
 use Rattle.pairs.proofs.Tables.{end-top, end-first, end-second, by-at, by-fit, by-nonzero}
@@ -73,12 +72,6 @@ end-holds op ws os n end h e =
     omega (arith, by-nonzero op (take n ws) os n (length os) (nonzeroLen (wordsBy op (take n ws) os)) (λ k l. past (take n ws) k (omega (arith, length-take-le n ws h))) (past os) refl)
 
 -- ---- the calls, past the guard
-
-part-fit : (ws : List ℕ) (n : ℕ) → n ≤ length ws → Fit ws → Fit (take n ws)
-part-fit ws n h f k =
-    by-lt k n
-    (λ l. subst (λ (x : ℕ). x < 2 ^ 64) (sym (getD-take n ws k 0 l)) (f k))
-    (λ l. subst (λ (x : ℕ). x < 2 ^ 64) (sym (past (take n ws) k (omega (arith, length-take-le n ws h)))) (omega arith))
 
 module _ (ws os : List ℕ) (b o : Bitmap) (p : PassedTwo ws b os o) where
   abbrev n : ℕ
@@ -147,7 +140,7 @@ module _ (ws os : List ℕ) (b o : Bitmap) (p : PassedTwo ws b os o) where
         lost : (k : ℕ) → suc k ≡ end → nonzeroLen words ≤ k → ⊥
         lost k e c =
             nonzero-last (take (o .count) os) k (omega (arith, end-top op n last (omega arith)))
-            (sym (end-second op n last k (getD (take n ws) k 0) (getD (take (o .count) os) k 0) (part-fit os (o .count) (p .other .inside) fo k) (out-of-use k (omega arith))
+            (sym (end-second op n last k (getD (take n ws) k 0) (getD (take (o .count) os) k 0) (fit-part os (o .count) fo (p .other .inside) k) (out-of-use k (omega arith))
             (omega arith) (omega arith))
             ∙ sym (by-at op (take n ws) (take (o .count) os) k) ∙ nonzero-past words k c)
 

@@ -13,7 +13,7 @@ use Rattle.word.specs.Sets.{xorb}
 use Rattle.word.specs.Places.{bit, member}
 use Rattle.word.proofs.Cases.{by-lt, by-test, eqb-same}
 use Rattle.word.proofs.Sets.{top}
-use Rattle.word.proofs.Lists.{Fit, past, determined}
+use Rattle.word.proofs.Lists.{Fit, past, fit-part, determined}
 use Rattle.arch.specs.Scans.{nonzeroLen, isZero}
 use Rattle.arch.proofs.Scans.{nonzero-le}
 use Rattle.pairs.specs.Pairs.{wordsBy}
@@ -26,7 +26,6 @@ use Rattle.storage.proofs.Outcomes.{bounded-combined}
 use Rattle.storage.proofs.Views.{view-part, bounded-view}
 use Rattle.storage.proofs.Trims.{trimmed-holds, trimmed-least, trimmed-view}
 use Rattle.slice.specs.Slices.{frontPart, equal}
-use Rattle.slice.proofs.Fields.{fit-part}
 
 -- ---- the same members
 

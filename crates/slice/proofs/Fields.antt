@@ -1,12 +1,11 @@
 -- One bit, and a field read from two neighbouring words. Assumes nothing.
-use mathlib.Core.Path.{_≡_, refl, sym, ap, ap₂, _∙_, subst}
+use mathlib.Core.Path.{_≡_, refl, sym, ap, ap₂, _∙_}
 use mathlib.Core.Bool.{Bool, not, _&&_}
 use mathlib.Core.List.{List}
 use Prim.Native.Nat.{ℕ, zero, suc, _+_, _-_, _*_, _/_, _%_, _^_, _≤_, _<_}
 use native.Mathlib.Nat.{lt-of-lt-of-le}
 use native.Mathlib.Omega.{arith}
 use lib.ListN.{length, getD, take}
-use lib.Seq.{getD-take, length-take-le}
 use lib.Bits.{bitAnd, and-mask, and-lt}
 use lib.Pow.{pow-mono}
 use lib.Dec.{eqb}
@@ -18,7 +17,7 @@ use Rattle.word.specs.Promises.{FromPlace}
 use Rattle.word.proofs.Cases.{by-lt, and-false, and-keep}
 use Rattle.word.proofs.Places.{bit-and, bit-past, bits-ext, pack-lt, bit-pack}
 use Rattle.word.proofs.Words.{bit-low-mask, low-mask-lt, from-place}
-use Rattle.word.proofs.Lists.{Fit, past, member-at}
+use Rattle.word.proofs.Lists.{Fit, past, fit-part, member-at}
 use Rattle.storage.specs.Stores.{Bits, view}
 use Rattle.storage.specs.declared.Refusal.the-variants.{WidthOver}
 use Rattle.storage.specs.declared.Change.the-variants.{Refused}
@@ -43,12 +42,6 @@ bit-of ws n i h =
     test-bit (getD ws (i / 64) 0) (i % 64) ∙ sym (view-in ws n (i / 64) (i % 64) h (omega arith)) ∙ ap (view ws n .members) e
 
 -- ---- a field read
-
-pub fit-part : (ws : List ℕ) (n : ℕ) → Fit ws → n ≤ length ws → Fit (take n ws)
-fit-part ws n f h k =
-    by-lt k n
-    (λ l. subst (λ (x : ℕ). x < 2 ^ 64) (sym (getD-take n ws k 0 l)) (f k))
-    (λ l. subst (λ (x : ℕ). x < 2 ^ 64) (sym (past (take n ws) k (omega (arith, length-take-le n ws h)))) (omega arith))
 
 -- digit p of a word and of the next one above it
 pair-member : (ws : List ℕ) (k p : ℕ) → p < 128 → pairBit 64 (getD ws k 0) (getD ws (k + 1) 0) p ≡ member ws (64 * k + p)

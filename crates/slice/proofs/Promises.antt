@@ -29,7 +29,7 @@ use Rattle.storage.specs.declared.Truth.{Truth}
 use Rattle.storage.specs.declared.Truth.the-variants.{Is, Refused}
 use Rattle.storage.proofs.Combined.{size-none, none-of-size}
 use Rattle.storage.proofs.Outcomes.{same, never, which}
-use Rattle.storage.proofs.Promises.{number-call, field-call, truth-call, found-call, both-means, tests, next-member}
+use Rattle.storage.proofs.Promises.{amount-call, field-call, truth-call, found-call, both-means, tests, next-member}
 use Rattle.slice.specs.Slices.{frontPart, equal, fieldAt, withField, settingFieldInside, lastSet, nextClear}
 use Rattle.slice.specs.Promises.{GetMeans, FieldDigits, GetFieldMeans, NextSetMeans, FirstSetMeans, LastMember, LastSetMeans, NextOther}
 use Rattle.slice.specs.Promises.{NextClearMeans, FirstClearMeans, EqMeans, EqualWords, FieldWritten, FieldRefused, SetFieldStrict, AllCounted}
@@ -90,7 +90,7 @@ pub last-set-means : LastSetMeans
 last-set-means = found-call lastSet LastMember last-member
 
 pub next-clear-means : NextClearMeans
-next-clear-means i = number-call (λ s. Amount.Is (nextClear s i)) (λ b. Hands (NextOther b i)) (λ b bounded. (refl, next-other b bounded i))
+next-clear-means i = amount-call (λ s. Amount.Is (nextClear s i)) (λ b. Hands (NextOther b i)) (λ b bounded. (refl, next-other b bounded i))
 
 pub first-clear-means : FirstClearMeans
 first-clear-means = next-clear-means 0
@@ -229,7 +229,7 @@ counts-members = record {
 pub count-set-bits-means : CountSetBitsMeans
 unfolding size
 count-set-bits-means =
-    number-call (λ s. Amount.Is (size s)) (λ b. Hands (AllCounted b))
+    amount-call (λ s. Amount.Is (size s)) (λ b. Hands (AllCounted b))
     (λ b bounded. (refl, λ e h. counted (b .members) e (size b) (count-flat (b .members) (64 * b .count) e h (bounded .past))))
 
 -- ---- the front part

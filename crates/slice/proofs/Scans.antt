@@ -15,7 +15,7 @@ use Rattle.word.specs.Places.{bit}
 use Rattle.word.specs.Words.{allOnes}
 use Rattle.word.proofs.Places.{bit-not}
 use Rattle.word.proofs.Sets.{least, top, top-is}
-use Rattle.word.proofs.Lists.{Fit}
+use Rattle.word.proofs.Lists.{Fit, fit-part}
 use Rattle.arch.specs.Scans.{Alike, firstOther, wordFound, nonzeroLen, countSet}
 use Rattle.arch.specs.Promises.{FirstOther}
 use Rattle.arch.specs.declared.FoundWord.the-variants as word-found
@@ -28,7 +28,6 @@ use Rattle.storage.proofs.Views.{view-in}
 use Rattle.storage.proofs.Trims.{trimmed-view}
 use Rattle.storage.proofs.Sizes.{size-counted}
 use Rattle.slice.specs.Slices.{lastSet, nextClear}
-use Rattle.slice.proofs.Fields.{fit-part}
 use Rattle.slice.proofs.Firsts.{Words, First, keptFirst, first-here, first-after, first-none}
 
 -- a count of trailing zeros

@@ -1,10 +1,10 @@
 -- Rules that make one result, with the conditions of refusal that most calls have. Assumes nothing.
 use mathlib.Core.Path.{_≡_, sym, ap, ap₂, _∙_, fun-ext}
-use mathlib.Core.Bool.{Bool, true, false≢true}
+use mathlib.Core.Bool.{Bool, true}
 use mathlib.Core.Logic.{_↔_}
 use Prim.Native.Nat.{ℕ, _+_, _≤_, _<_, max}
 use native.Mathlib.Omega.{arith}
-use Rattle.word.proofs.Cases.{by-lt, by-eq, by-test}
+use Rattle.word.proofs.Cases.{by-lt, by-eq, same-test}
 use Rattle.pairs.specs.declared.SetOp.{SetOp}
 use Rattle.storage.specs.Stores.{Bits}
 use Rattle.storage.specs.Promises.{LeastCount, Combines, Unites, Never, Lacks, LacksResult, OneEnd}
@@ -15,8 +15,7 @@ same-bits f e = ap₂ (λ (m : ℕ → Bool) (n : ℕ). record { members = m; co
 
 -- two sets of which each member of one is a member of the other
 pub same-set : (f g : ℕ → Bool) → ((i : ℕ) → f i ≡ true → g i ≡ true) → ((i : ℕ) → g i ≡ true → f i ≡ true) → (i : ℕ) → f i ≡ g i
-same-set f g to from i =
-    by-test (f i) (λ y. y ∙ sym (to i y)) (λ n. by-test (g i) (λ y. absurd (false≢true (sym n ∙ from i y))) (λ m. n ∙ sym m))
+same-set f g to from i = same-test (f i) (g i) (to i, from i)
 
 -- agreeing on the numbers from i on, below i + k, and on all others
 pub by-region : (i k : ℕ) (f g : ℕ → Bool) → ((j : ℕ) → j < i → f j ≡ g j) → ((j : ℕ) → i ≤ j → j < i + k → f j ≡ g j)

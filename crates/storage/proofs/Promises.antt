@@ -153,15 +153,15 @@ readings-mean = record {
 }
 
 pub records-mean : RecordsMean
-records-mean = record { none = refl; made = λ b n. refl; kept = λ b. refl }
+records-mean = record { none = refl; made = λ b n. refl; kept = λ b. refl; alone = λ n. refl }
 
 -- a test whose truth value is true exactly where P holds
 pub tests : (P : Type 0) (t : Bool) → (t ≡ true → P) → (P → t ≡ true) → Tests P (truthNumber (Truth.Is t)) (truthValue (Truth.Is t))
 tests P true f g = (refl, inl (refl, f refl))
 tests P false f g = (refl, inr (refl, λ p. let e : false ≡ true = g p in absurd (let z : _≡_ {A = ℕ} 0 1 = cc in omega arith)))
 
-pub number-call : (f : Bits → Amount) (Rest : Bits → ℕ → ℕ → Type 0) → ((b : Bits) → Bounded b → Rest b (amountNumber (f b)) (amountValue (f b))) → AmountCall f Rest
-number-call f Rest =
+pub amount-call : (f : Bits → Amount) (Rest : Bits → ℕ → ℕ → Type 0) → ((b : Bits) → Bounded b → Rest b (amountNumber (f b)) (amountValue (f b))) → AmountCall f Rest
+amount-call f Rest =
     reading-means Amount.Refused f (λ r. HandsNone (amountNumber r) (amountValue r)) (λ b r. Rest b (amountNumber r) (amountValue r)) (λ e. (refl, refl))
 
 pub field-call : (f : Bits → Field) (Rest : Bits → ℕ → ℕ → Type 0) → ((b : Bits) → Bounded b → Rest b (fieldNumber (f b)) (fieldValue (f b))) → FieldCall f Rest

@@ -13,7 +13,7 @@ use Rattle.pairs.specs.declared.SetOp.the-variants.{Or}
 use Rattle.storage.specs.Guards.{mostWords, Stopped, Passed}
 use Rattle.storage.specs.Refusals.{lastNumber, numberOf, foundNumber, foundFlag, foundValue, amountNumber, amountValue, fieldNumber}
 use Rattle.storage.specs.Refusals.{fieldValue, truthNumber, truthValue, changeNumber, changeRecord, guardNumber}
-use Rattle.storage.specs.Stores.{Bits, Bounded, Outcome, refused, done, Space, Op, withCount, noWords, checked, view}
+use Rattle.storage.specs.Stores.{Bits, Bounded, Outcome, refused, done, Space, Op, withCount, noWords, bitmapOf, checked, view}
 use Rattle.storage.specs.Stores.{beside, reading, readingBoth, size, combined, nextFrom, within, upTo, inRegion, passes, wordsFor, trimmedCount, trimmed}
 use Rattle.storage.specs.Stores.{written, zeroed, Changes, Makes}
 use Rattle.storage.specs.declared.Bitmap.{Bitmap}
@@ -35,6 +35,7 @@ pub record RecordsMean : Type 0 where
   pub none : noWords .count ≡ 0
   pub made : (b : Bitmap) (n : ℕ) → withCount b n .count ≡ n
   pub kept : (b : Bitmap) → withCount b (b .count) ≡ b
+  pub alone : (n : ℕ) → bitmapOf n .count ≡ n
 
 -- demand 1: the numbers from 1 to the last, each for one refusal
 pub record EachNumberOnce : Type 0 where

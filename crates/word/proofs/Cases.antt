@@ -1,6 +1,7 @@
 -- By cases on an order and on truth values. Assumes nothing.
 use mathlib.Core.Path.{_≡_, refl, sym, _∙_, subst}
 use mathlib.Core.Bool.{Bool, true, false, not, _&&_, _||_, false≢true}
+use mathlib.Core.Logic.{_↔_}
 use Prim.Native.Nat.{ℕ, zero, suc, _≤_, _<_}
 use native.Mathlib.Decide.{decLt, ℕ-discrete}
 use native.Mathlib.Nat.{not-suc-le-zero}
@@ -27,6 +28,11 @@ by-eq {A = A} a b f g = go (ℕ-discrete a b)
 pub by-test {ℓ} : {A : Type ℓ} (t : Bool) → (t ≡ true → A) → (t ≡ false → A) → A
 by-test true f g = f refl
 by-test false f g = g refl
+
+-- two that are true together are the same
+pub same-test : (a b : Bool) → (a ≡ true) ↔ (b ≡ true) → a ≡ b
+same-test true b e = sym (e .0 refl)
+same-test false b e = by-test b (λ t. absurd (false≢true (e .1 t))) (λ t. sym t)
 
 -- two tests of equality that say the same
 pub eqb-same : (a b c d : ℕ) → (a ≡ b → c ≡ d) → (c ≡ d → a ≡ b) → eqb a b ≡ eqb c d

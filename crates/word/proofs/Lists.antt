@@ -5,8 +5,8 @@ use mathlib.Core.List.{List}
 use Prim.Native.Nat.{ℕ, zero, suc, _+_, _*_, _/_, _%_, _^_, _≤_, _<_}
 use native.Mathlib.Nat.{not-suc-le-zero, le-of-suc-le-suc, add-zero, add-suc, suc-add, zero-add}
 use native.Mathlib.Omega.{arith}
-use lib.ListN.{length, getD, List·getD-eq-default}
-use lib.Seq.{ext-getD}
+use lib.ListN.{length, getD, take, List·getD-eq-default}
+use lib.Seq.{ext-getD, getD-take, length-take-le}
 use Rattle.word.specs.Places.{bit, wordOf, member, tabFrom, wordsOf}
 use Rattle.word.proofs.Cases.{by-lt}
 use Rattle.word.proofs.Places.{bit-zero, pack-lt, bit-pack, pack-is}
@@ -27,6 +27,12 @@ fit-more {ws} {e} f h = record { at = λ k l. by-lt k e (λ p. f .at k p) (λ p.
 
 pub past : (ws : List ℕ) (k : ℕ) → length ws ≤ k → getD ws k 0 ≡ 0
 past ws k h = List·getD-eq-default ws 0 h
+
+pub fit-part : (ws : List ℕ) (n : ℕ) → Fit ws → n ≤ length ws → Fit (take n ws)
+fit-part ws n f h k =
+    by-lt k n
+    (λ l. subst (λ (x : ℕ). x < 2 ^ 64) (sym (getD-take n ws k 0 l)) (f k))
+    (λ l. subst (λ (x : ℕ). x < 2 ^ 64) (sym (past (take n ws) k (omega (arith, length-take-le n ws h)))) (omega arith))
 
 -- ---- a list made from an index
 

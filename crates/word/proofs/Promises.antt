@@ -16,7 +16,7 @@ use Rattle.word.specs.Sets.{choose, countBelow, leastFrom, nth, Least, T
 use Rattle.word.specs.Places.{isOne, bit, pack, wordOf, tabFrom, wordsOf}
 use Rattle.word.specs.Words.{lowMask, mirrored, withoutLeast, lowProduct, funneled, pairBit}
 use Rattle.word.specs.Promises.{TestsMean, Ranked, SetsMean, HasDigit, HasDigits, BitsMean, MasksMean, WordsMean}
-use Rattle.word.proofs.Cases.{by-lt, by-test, and-true, or-true}
+use Rattle.word.proofs.Cases.{by-lt, same-test, and-true, or-true}
 use Rattle.word.proofs.Places.{bit-ones, bit-pack, pack-lt, pack-is}
 use Rattle.word.proofs.Sets.{Nth, counts, counted, count-more, least, least-is, top, top-is, nth-is, nth-none, nth-has}
 use Rattle.word.proofs.Words.{all-mask, single-is, up-out, mirrors, from-place}
@@ -105,11 +105,6 @@ digit-means x i = (there (x / 2 ^ i % 2) refl, back)
     back (q, r, e, l) =
         ap (λ (y : ℕ). isOne (y / 2 ^ i % 2)) (e ∙ with-one q i r) ∙ ap (λ (y : ℕ). isOne (y % 2)) (high (q * 2 + 1) i l)
         ∙ ap isOne (odd q)
-
--- truth values that are true together are the same
-same-test : (a b : Bool) → (a ≡ true) ↔ (b ≡ true) → a ≡ b
-same-test true b e = sym (e .0 refl)
-same-test false b e = by-test b (λ t. absurd (true≢false (sym (e .1 t)))) (λ t. sym t)
 
 -- the number that is packed from a test
 packs : (w : ℕ) (p : ℕ → Bool) (P : ℕ → Type 0) → ((i : ℕ) → i < w → (p i ≡ true) ↔ P i) → (x : ℕ) → (x ≡ pack w p) ↔ HasDigits w P x
