@@ -9,12 +9,12 @@ use lib.ListN.{length, getD}
 use Rattle.word.specs.Places.{bit, member, tabFrom}
 use Rattle.word.proofs.Cases.{by-lt}
 use Rattle.word.proofs.Lists.{past, length-tab, tab-at}
-use Rattle.pairs.specs.Pairs.{tableOf, wordBy, wordsBy, endBy}
-use Rattle.pairs.specs.Promises.{ComesIn, TableMeans, MakesWord, MakesSet, NoneFrom, EndMeans}
+use Rattle.pairs.specs.Pairs.{tableOf, wordBy, wordsBy, endBy, nonzeroFrom, zeroEights}
+use Rattle.pairs.specs.Promises.{ComesIn, TableMeans, MakesWord, MakesSet, NoneFrom, EndMeans, EightsMean}
 use Rattle.pairs.specs.declared.SetOp.{SetOp}
 use Rattle.pairs.specs.declared.SetOp.the-variants.{And, AndNot, Or, Xor}
 use Rattle.pairs.proofs.Tables.{by-lt-word, by-bit, by-length, by-fit, by-at, by-member}
-use Rattle.pairs.proofs.Scans.{past-end}
+use Rattle.pairs.proofs.Scans.{past-end, from-first, at-first, eights-zero}
 
 -- ---- the table, line by line
 
@@ -114,3 +114,20 @@ end-means = record {
   past = λ op n m xs ys p q k h. past-end op xs ys (endBy op n m) (sym (ap₂ (endBy op) p q)) (k + 1) .at k h (omega arith);
   least = end-least;
 }
+
+-- ---- the eights
+
+pub eights-mean : EightsMean
+unfolding zeroEights
+eights-mean ws e k h =
+    let z = eights-zero ws k e (zeroEights ws e k) refl in
+    record {
+      from = z .0;
+      whole = omega arith;
+      zero = z .1 .at;
+      inside = by-lt (min (nonzeroFrom ws k) e) k (λ l. inl (omega arith)) (λ l. inr (omega arith));
+      last = λ f.
+          by-lt (nonzeroFrom ws k) e
+          (λ l. absurd (at-first ws k (omega arith) (f (nonzeroFrom ws k) (omega (arith, from-first ws k)) (omega arith))))
+          (λ l. omega arith);
+    }

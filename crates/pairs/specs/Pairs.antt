@@ -1,9 +1,10 @@
 -- What a set operation makes of two words, and of two lists of words.
-use Prim.Native.Nat.{ℕ, min, max}
+use Prim.Native.Nat.{ℕ, _+_, _-_, _*_, _/_, min, max}
 use mathlib.Core.Bool.{Bool, not, _&&_, _||_}
 use mathlib.Core.List.{List}
 use lib.ListN.{length, getD}
-use Rattle.word.specs.Sets.{xorb}
+use lib.Dec.{eqb}
+use Rattle.word.specs.Sets.{xorb, leastFrom}
 use Rattle.word.specs.Places.{bit, pack, tabFrom}
 use Rattle.pairs.specs.declared.SetOp.{SetOp}
 use Rattle.pairs.specs.declared.SetOp.the-variants.{And, AndNot, Or, Xor}
@@ -31,3 +32,11 @@ endBy And n m = min n m
 endBy AndNot n m = n
 endBy Or n m = max n m
 endBy Xor n m = max n m
+
+-- the first word from k on that is not 0; where there is none, k or the end, whichever is more
+unfoldable pub nonzeroFrom : List ℕ → ℕ → ℕ
+nonzeroFrom ws k = leastFrom (λ j. not (eqb (getD ws j 0) 0)) k (length ws - k)
+
+-- k, and behind it the whole eights of words before that word and below e
+unfoldable pub zeroEights : List ℕ → ℕ → ℕ → ℕ
+zeroEights ws e k = k + 8 * ((min (nonzeroFrom ws k) e - k) / 8)

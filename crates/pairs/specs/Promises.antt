@@ -1,12 +1,12 @@
 -- What the definitions promise, in words of their own. Each is proved in proofs/Promises.
-use Prim.Native.Nat.{ℕ, _^_, _≤_, _<_, max}
+use Prim.Native.Nat.{ℕ, _+_, _-_, _%_, _^_, _≤_, _<_, max}
 use mathlib.Core.Path.{_≡_}
 use mathlib.Core.Bool.{Bool, true, false}
 use mathlib.Core.List.{List}
 use mathlib.Core.Logic.{_↔_, _⊎_}
 use lib.ListN.{length, getD}
 use Rattle.word.specs.Places.{bit, member}
-use Rattle.pairs.specs.Pairs.{tableOf, wordBy, wordsBy, endBy}
+use Rattle.pairs.specs.Pairs.{tableOf, wordBy, wordsBy, endBy, zeroEights}
 use Rattle.pairs.specs.declared.SetOp.{SetOp}
 use Rattle.pairs.specs.declared.SetOp.the-variants.{And, AndNot, Or, Xor}
 
@@ -40,3 +40,15 @@ NoneFrom op n m d = (xs ys : List ℕ) → length xs ≡ n → length ys ≡ m �
 pub record EndMeans : Type 0 where
   pub past : (op : SetOp) (n m : ℕ) → NoneFrom op n m (endBy op n m)
   pub least : (op : SetOp) (n m d : ℕ) → NoneFrom op n m d → endBy op n m ≤ d
+
+-- from k on the words are 0 up to r, eight at a time and below e, and the next eight are not, or not all below e
+pub record Eights (ws : List ℕ) (e k r : ℕ) : Type 0 where
+  pub from : k ≤ r
+  pub whole : (r - k) % 8 ≡ 0
+  pub zero : (j : ℕ) → k ≤ j → j < r → getD ws j 0 ≡ 0
+  pub inside : (r ≡ k) ⊎ (r ≤ e)
+  pub last : ((j : ℕ) → r ≤ j → j < r + 8 → getD ws j 0 ≡ 0) → e < r + 8
+
+-- `zero_eights`
+abbrev pub EightsMean : Type 0
+EightsMean = (ws : List ℕ) (e k : ℕ) → e ≤ length ws → Eights ws e k (zeroEights ws e k)

@@ -3,10 +3,11 @@
 // Everything here is total. One function serves every operation, and a call names one: where the body is short enough the compiler takes it into the
 // call, with no test of the operation left in its loops.
 ghost use mathlib.Core.Path.{_≡_};
-ghost use Prim.Native.Nat.{_+_, _≤_};
+ghost use mathlib.Core.Logic.{_↔_};
+ghost use Prim.Native.Nat.{_+_, _≤_, min};
 ghost use lib.ListN.{length, getD};
 ghost use Rattle.arch.specs.Scans.{Alike, nonzeroLen, isZero};
-ghost use Rattle.pairs.specs.Pairs.{wordBy, wordsBy, endBy};
+ghost use Rattle.pairs.specs.Pairs.{wordBy, wordsBy, endBy, zeroEights};
 
 // A set operation, by what it makes of two memberships.
 pub enum SetOp {
@@ -49,11 +50,11 @@ pub fn end_of(op: SetOp, n: usize, m: usize) -> usize
     }
 }
 
-// Some bit is set where one of the eight words from i on is not zero.
+// Some bit is set exactly where one of the eight words from i on is not zero.
 fn some_in_eight(op: SetOp, a: &[u64], b: &[u64], i: usize) -> u64
     requires { ⌜ i + 8 ≤ length (now a) ⌝ }
     requires { ⌜ i + 8 ≤ length (now b) ⌝ }
-    ensures { λ r. ⌜ (r ≡ 0 → Alike (wordsBy op (now (a .entry)) (now (b .entry))) 0 i (i + 8)) ⌝ }
+    ensures { λ r. ⌜ (r ≡ 0) ↔ Alike (wordsBy op (now (a .entry)) (now (b .entry))) 0 i (i + 8) ⌝ }
 {
     let mut some = 0;
     let mut k = i;
@@ -64,9 +65,9 @@ fn some_in_eight(op: SetOp, a: &[u64], b: &[u64], i: usize) -> u64
     some
 }
 
-// An index from `from` on up to which every word is zero, as far as eights of the words that both have tell.
+// The index behind the eights from `from` on that are all zero, as far as both slices have whole ones.
 pub fn zero_eights(op: SetOp, a: &[u64], b: &[u64], from: usize) -> usize
-    ensures { λ r. ⌜ (from ≤ r) × Alike (wordsBy op (now (a .entry)) (now (b .entry))) 0 from r ⌝ }
+    ensures { λ r. ⌜ r ≡ zeroEights (wordsBy op (now (a .entry)) (now (b .entry))) (min (length (now (a .entry))) (length (now (b .entry)))) from ⌝ }
 {
     let stop = word::saturating_sub(word::min(a.len(), b.len()), 7);
     let mut k = from;

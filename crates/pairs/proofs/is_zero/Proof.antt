@@ -4,7 +4,7 @@ use borrow.Author.Needs.{needs}
 use Rattle.arch.specs.Scans.{Alike}
 use Rattle.arch.proofs.Scans.{alike-one, alike-join}
 use Rattle.pairs.specs.Pairs.{wordsBy}
-use Rattle.pairs.proofs.Scans.{past-end, zero-not, zero-all}
+use Rattle.pairs.proofs.Scans.{past-end, zero-not, zero-all, eights-zero}
 use mathlib.Core.Path.{sym, _∙_}
 use Rattle.pairs.proofs.is_zero.Statement.{statement}
 use Rattle.pairs.proofs.is_zero.Tie as tie
@@ -22,7 +22,7 @@ zero-eights-requires : tie.Need-zero-eights-requires Inv-loop μ-loop
 zero-eights-requires c κs = search needs
 
 loop-holds : tie.Need-loop-holds Inv-loop μ-loop
-loop-holds c = c .zero-eights .ensures .1
+loop-holds c = eights-zero _ _ _ _ (c .zero-eights .ensures) .1
 
 word-at-requires : tie.Need-word-at-requires Inv-loop μ-loop
 word-at-requires c κs = search needs

@@ -43,10 +43,14 @@ loop-less : tie.Need-loop-less Inv-loop μ-loop
 loop-less c = omega arith
 
 loop-again : tie.Need-loop-again Inv-loop μ-loop
-loop-again c = (omega arith, omega arith, joined-more (c .before .before .before .before .loop .inv .2) (c .word .ensures ∙ sym (by-at _ _ _ _)))
+loop-again c = (omega arith, omega arith, joined-more (c .before .before .before .before .loop .inv .2) (c .before .before .before .before .loop .inv .0) (c .word .ensures ∙ sym (by-at _ _ _ _)))
 
 returns : tie.Need-returns Inv-loop μ-loop
-returns c e = alike-to _ _ (c .before .loop .inv .2 .none e) (omega arith) (omega arith)
+returns c =
+    let j = c .before .loop .inv .2 in (
+      λ e. alike-to _ _ (j .none e) (omega arith) (omega arith),
+      λ s. j .all (alike-to _ _ s (omega arith) (omega arith)),
+    )
 
 pub some-in-eight-spec : {M : Type 1} → statement M
 some-in-eight-spec =

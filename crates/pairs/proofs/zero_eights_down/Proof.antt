@@ -33,7 +33,7 @@ loop-less : tie.Need-loop-less Inv-loop μ-loop
 loop-less c = omega arith
 
 loop-again : tie.Need-loop-again Inv-loop μ-loop
-loop-again c = (omega arith, omega arith, omega arith, alike-join (c .before .some-in-eight .ensures (c .if2 .left)) (c .before .before .before .loop .inv .3) (omega arith))
+loop-again c = (omega arith, omega arith, omega arith, alike-join (c .before .some-in-eight .ensures .0 (c .if2 .left)) (c .before .before .before .loop .inv .3) (omega arith))
 
 returns-3 : tie.Need-returns-3 Inv-loop μ-loop
 returns-3 c = (omega arith, c .before .loop .inv .3)

@@ -8,7 +8,7 @@ use Rattle.arch.specs.Scans.{Alike}
 use Rattle.arch.proofs.Scans.{alike-join, alike-one}
 use Rattle.pairs.specs.Pairs.{wordsBy}
 use Rattle.pairs.proofs.Tables.{by-fit, end-le}
-use Rattle.pairs.proofs.Scans.{past-end}
+use Rattle.pairs.proofs.Scans.{past-end, eights-zero}
 use Rattle.walk.proofs.Walks.{least64, clear-on, next-later, next-none}
 use Rattle.walk.proofs.kernels.far.Statement.{statement}
 use Rattle.walk.proofs.kernels.far.Tie as tie
@@ -26,7 +26,7 @@ zero-eights-requires : tie.Need-zero-eights-requires Inv-loop μ-loop
 zero-eights-requires c κs = search needs
 
 loop-holds : tie.Need-loop-holds Inv-loop μ-loop
-loop-holds c = c .zero-eights .ensures
+loop-holds c = eights-zero _ _ _ _ (c .zero-eights .ensures)
 
 word-at-requires : tie.Need-word-at-requires Inv-loop μ-loop
 word-at-requires c κs = search needs
