@@ -8,48 +8,21 @@ use storage::Bitmap;
 use storage::Change;
 use storage::Guard;
 use storage::Refusal;
-ghost use Prim.Native.Nat.{_≤_};
+ghost use Prim.Native.Nat.{_≤_, max};
 ghost use lib.ListN.{length};
-ghost use Rattle.arch.specs.Scans.{nonzeroLen};
-ghost use Rattle.pairs.specs.Pairs.{wordsBy, endBy};
 ghost use Rattle.pairs.specs.declared.SetOp.the-variants.{And, AndNot, Xor};
-ghost use Rattle.storage.specs.Stores.{view, within, Leaves, Changes, Makes};
-ghost use Rattle.storage.specs.Guards.{PassedThree};
+ghost use Rattle.storage.specs.Stores.{Changes, Makes};
 ghost use Rattle.combine.specs.Combine.{combiningFrom, unitingFrom, besideBoth};
+ghost use Rattle.combine.specs.Kernels.{Finished};
 
-// The first m words that the operation makes, where b's were in use: those that fall out of use become zero.
-fn put(op: SetOp, words: &mut [u64], b: Bitmap, left: &[u64], right: &[u64], m: usize) -> Change
-    requires { ⌜ (nonzeroLen (wordsBy op (now left) (now right)) ≤ m) × (m ≤ endBy op (length (now left)) (length (now right))) ⌝ }
-    ensures { λ a. ⌜ Leaves (within (length (now (words .entry))) (view (wordsBy op (now (left .entry)) (now (right .entry))) m))
-        (now (words .entry)) b a (now (words .exit)) ⌝ }
+// After the words that both slices have: the longer one's own, as far as m, and zero in those that fall out of use.
+fn finish(words: &mut [u64], b: Bitmap, left: &[u64], right: &[u64], m: usize) -> Change
+    requires { ⌜ (m ≤ length (now words)) × (m ≤ max (length (now left)) (length (now right))) ⌝ }
+    ensures { λ a. ⌜ Finished (now (left .entry)) (now (right .entry)) m b (now (words .entry)) a (now (words .exit)) ⌝ }
 {
-    if m > words.len() {
-        return Change::Refused(Refusal::NoSpace, b);
-    }
-    kernels::put_words(op, words, left, right, m);
+    kernels::copy_tail(words, left, right, m);
     storage::zero_words(words, m, b.count);
     Change::Done(Bitmap { count: m, ..b })
-}
-
-// What the operation makes, in the fewest words.
-fn fewest(
-    op: SetOp,
-    words: &mut [u64],
-    b: Bitmap,
-    left: &[u64],
-    l: Bitmap,
-    right: &[u64],
-    r: Bitmap,
-) -> Change
-    requires { ⌜ PassedThree (now words) b (now left) l (now right) r ⌝ }
-    ensures { λ a. ⌜ Changes (besideBoth (now (left .entry)) l (now (right .entry)) r (combiningFrom op)) (now (words .entry)) b a (now (words .exit)) ⌝ }
-{
-    let i = l.count;
-    let j = r.count;
-    let x = &left[..i];
-    let y = &right[..j];
-    let m = pairs::nonzero_len(op, x, y);
-    put(op, words, b, x, y, m)
 }
 
 // The members of both bitmaps, in the fewest words.
@@ -63,11 +36,20 @@ pub fn and_from(
 ) -> Change
     ensures { λ a. ⌜ Changes (besideBoth (now (left .entry)) l (now (right .entry)) r (combiningFrom And)) (now (words .entry)) b a (now (words .exit)) ⌝ }
 {
+    let i = l.count;
+    let j = r.count;
     match storage::check_three(words, b, left, l, right, r) {
         Guard::Stop(e) => return Change::Refused(e, b),
         Guard::Pass => {}
     }
-    fewest(SetOp::And, words, b, left, l, right, r)
+    let x = &left[..i];
+    let y = &right[..j];
+    let m = pairs::nonzero_len(SetOp::And, x, y);
+    if m > words.len() {
+        return Change::Refused(Refusal::NoSpace, b);
+    }
+    kernels::zip_words(SetOp::And, words, x, y, word::min(word::min(i, j), m));
+    finish(words, b, x, y, m)
 }
 
 // The members of the left bitmap that are not in the right one, in the fewest words.
@@ -81,11 +63,20 @@ pub fn andnot_from(
 ) -> Change
     ensures { λ a. ⌜ Changes (besideBoth (now (left .entry)) l (now (right .entry)) r (combiningFrom AndNot)) (now (words .entry)) b a (now (words .exit)) ⌝ }
 {
+    let i = l.count;
+    let j = r.count;
     match storage::check_three(words, b, left, l, right, r) {
         Guard::Stop(e) => return Change::Refused(e, b),
         Guard::Pass => {}
     }
-    fewest(SetOp::AndNot, words, b, left, l, right, r)
+    let x = &left[..i];
+    let y = &right[..j];
+    let m = pairs::nonzero_len(SetOp::AndNot, x, y);
+    if m > words.len() {
+        return Change::Refused(Refusal::NoSpace, b);
+    }
+    kernels::zip_words(SetOp::AndNot, words, x, y, word::min(word::min(i, j), m));
+    finish(words, b, x, y, m)
 }
 
 // The members of either bitmap, in as many words as the longer.
@@ -105,14 +96,14 @@ pub fn or_from(
         Guard::Stop(e) => return Change::Refused(e, b),
         Guard::Pass => {}
     }
-    put(
-        SetOp::Or,
-        words,
-        b,
-        &left[..i],
-        &right[..j],
-        word::max(i, j),
-    )
+    let x = &left[..i];
+    let y = &right[..j];
+    let m = word::max(i, j);
+    if m > words.len() {
+        return Change::Refused(Refusal::NoSpace, b);
+    }
+    kernels::zip_words(SetOp::Or, words, x, y, word::min(i, j));
+    finish(words, b, x, y, m)
 }
 
 // The members of one bitmap only, in the fewest words.
@@ -126,11 +117,20 @@ pub fn xor_from(
 ) -> Change
     ensures { λ a. ⌜ Changes (besideBoth (now (left .entry)) l (now (right .entry)) r (combiningFrom Xor)) (now (words .entry)) b a (now (words .exit)) ⌝ }
 {
+    let i = l.count;
+    let j = r.count;
     match storage::check_three(words, b, left, l, right, r) {
         Guard::Stop(e) => return Change::Refused(e, b),
         Guard::Pass => {}
     }
-    fewest(SetOp::Xor, words, b, left, l, right, r)
+    let x = &left[..i];
+    let y = &right[..j];
+    let m = pairs::nonzero_len(SetOp::Xor, x, y);
+    if m > words.len() {
+        return Change::Refused(Refusal::NoSpace, b);
+    }
+    kernels::zip_words(SetOp::Xor, words, x, y, word::min(word::min(i, j), m));
+    finish(words, b, x, y, m)
 }
 
 // The members of both bitmaps, into a store with no earlier count.

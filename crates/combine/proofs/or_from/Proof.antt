@@ -1,12 +1,12 @@
--- The guard, and then the words of the longer.
+-- The guard, the words of the longer; those that both have, and then the rest.
 use mathlib.Core.Path.{sym, _∙_}
 use native.Mathlib.Omega.{arith}
 use lib.Seq.{length-take-le}
+use Rattle.word.proofs.Lists.{Fit}
 use Rattle.storage.specs.Guards.{PassedThree}
 use Rattle.storage.proofs.Checks.{passed-three}
-use Rattle.storage.proofs.Combined.{all-hold}
 use Rattle.combine.proofs.Guards.{all-stopped}
-use Rattle.combine.proofs.Froms.{union-changes}
+use Rattle.combine.proofs.Froms.{union-refused, union-done}
 use borrow.Author.Needs.{needs}
 use Rattle.combine.proofs.or_from.Statement.{statement}
 use Rattle.combine.proofs.or_from.Tie as tie
@@ -16,6 +16,12 @@ ok : (c : tie.After-enum-told)
     → let a = c .before .before .before .before .before .before .before .args in
     PassedThree (a .words .now) (a .b) (a .left .now) (a .l) (a .right .now) (a .r)
 ok c = passed-three _ _ _ _ _ _ (sym (c .enum-told .given .1) ∙ c .before .before .check-three .ensures)
+
+fit-left : (c : tie.After-enum-told) → Fit (c .before .before .before .before .before .before .before .args .left .now)
+fit-left c k = omega (arith, c .before .before .before .before .before .shared-slice-known .given k)
+
+fit-right : (c : tie.After-enum-told) → Fit (c .before .before .before .before .before .before .before .args .right .now)
+fit-right c k = omega (arith, c .before .before .before .before .shared-slice-known2 .given k)
 
 check-three-requires : tie.Need-check-three-requires
 check-three-requires c κs = search needs
@@ -32,28 +38,46 @@ returns c = all-stopped _ _ _ _ _ _ _ _ (sym (c .before .e .given .1) ∙ c .bef
 enum-told : tie.Need-enum-told
 enum-told c = search needs
 
-slice-aggregate-put : tie.Need-slice-aggregate-put
-slice-aggregate-put c = sym (length-take-le _ _ (ok (c .before .before) .left .inside))
+slice-aggregate-x : tie.Need-slice-aggregate-x
+slice-aggregate-x c = sym (length-take-le _ _ (ok (c .before) .left .inside))
 
-slice-aggregate-put-2 : tie.Need-slice-aggregate-put-2
-slice-aggregate-put-2 c = sym (length-take-le _ _ (ok (c .before .before .before) .right .inside))
+slice-aggregate-y : tie.Need-slice-aggregate-y
+slice-aggregate-y c = sym (length-take-le _ _ (ok (c .before .before) .right .inside))
 
 max-requires : tie.Need-max-requires
 max-requires c κs = search needs
-
-put-requires : tie.Need-put-requires
-put-requires c κs =
-    let p = ok (c .before .before .before .before) in
-    let a = c .before .before .before .before .before .before .before .before .before .before .before .args in (
-      all-hold _ _ _ _ _ (record { own = p .left; other = p .right }) _ (c .max .ensures),
-      omega (arith, length-take-le (a .l .count) (a .left .now) (p .left .inside), length-take-le (a .r .count) (a .right .now) (p .right .inside)),
-    )
 
 same-length-2 : tie.Need-same-length-2
 same-length-2 c = search needs
 
 returns-2 : tie.Need-returns-2
-returns-2 c = union-changes _ _ _ _ _ _ (ok (c .before .before .before .before .before .before .before)) _ _ _ (c .before .before .before .max .ensures) (c .before .before .put .ensures)
+returns-2 c = union-refused _ _ _ _ _ _ (ok (c .before .before .before .before)) _ (c .before .max .ensures) (c .if1 .taken)
+
+min-requires : tie.Need-min-requires
+min-requires c κs = search needs
+
+zip-words-requires : tie.Need-zip-words-requires
+zip-words-requires c κs =
+    let p = ok (c .before .before .before .before .before .before) in
+    let a = c .before .before .before .before .before .before .before .before .before .before .before .before .before .args in
+    (omega arith, omega (arith, length-take-le (a .l .count) (a .left .now) (p .left .inside)), omega (arith, length-take-le (a .r .count) (a .right .now) (p .right .inside)))
+
+finish-requires : tie.Need-finish-requires
+finish-requires c κs =
+    let p = ok (c .before .before .before .before .before .before .before .before .before .before) in
+    let a = c .before .before .before .before .before .before .before .before .before .before .before .before .before .before .before .before .before .args in
+    (omega arith, omega (arith, length-take-le (a .l .count) (a .left .now) (p .left .inside), length-take-le (a .r .count) (a .right .now) (p .right .inside)))
+
+same-length-3 : tie.Need-same-length-3
+same-length-3 c = search needs
+
+returns-3 : tie.Need-returns-3
+returns-3 c =
+    let z = c .before .before .before .before .before .before in
+    let n = z .before .before .before .before in
+    let g = n .before .before .before in
+    union-done _ _ _ _ _ _ (ok g) _ (n .max .ensures) _ _ _ _ (omega (arith, z .before .before .before .if1 .left)) (fit-left g) (fit-right g)
+    (omega arith) (z .zip-words .ensures) (c .before .before .finish .ensures)
 
 pub or-from-spec : {M : Type 1} → statement M
 or-from-spec =
@@ -64,9 +88,13 @@ or-from-spec =
     same-length
     returns
     enum-told
-    slice-aggregate-put
-    slice-aggregate-put-2
+    slice-aggregate-x
+    slice-aggregate-y
     max-requires
-    put-requires
     same-length-2
-    returns-2)
+    returns-2
+    min-requires
+    zip-words-requires
+    finish-requires
+    same-length-3
+    returns-3)
