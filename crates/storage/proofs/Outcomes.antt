@@ -46,7 +46,7 @@ let-pass ws b o s q = by-guard ws b (λ e p. absurd (never (sym q ∙ p _ refuse
 pub bounded-flipped : (i : ℕ) (b : Bits) → Bounded b → Bounded (flipped i b)
 bounded-flipped i b h = record { past = λ j l. ap₂ xorb (h .past j (omega arith)) (ne-eqb j i (omega arith)) }
 
--- ---- sound operations
+-- ---- operations whose results have space
 
 pub bounded-combined : (op : SetOp) (b o : Bits) → Bounded b → Bounded o → Bounded (combined op b o)
 unfolding combined
