@@ -9,7 +9,7 @@ use lib.ListN.{length}
 use lib.Dec.{leb, eqb}
 use borrow.Author.Tests.{eq-eqb, ne-eqb}
 use Rattle.word.specs.Sets.{choose}
-use Rattle.word.proofs.Cases.{by-lt}
+use Rattle.word.proofs.Cases.{by-lt, zero-one}
 use Rattle.storage.specs.declared.Refusal.the-variants.{BadPayload, NewerKind}
 use Rattle.sheet.specs.Kinds.{Row, table, rowOf, bytesIn, sizeBy, sizeIn, bytesBy, ruleOf, known}
 use Rattle.sheet.specs.Reader.{askingBy}
@@ -60,7 +60,7 @@ of-pair kind a b =
 -- ---- what the lookup tells
 
 never : {n : ℕ} → Bytes n ≡ Newer → ⊥
-never p = let z : _≡_ {A = ℕ} 0 1 = cc in omega arith
+never p = zero-one cc
 
 one : {m n : ℕ} → Bytes m ≡ Bytes n → m ≡ n
 one p = cc

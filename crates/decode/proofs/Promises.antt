@@ -9,7 +9,7 @@ use native.Mathlib.Omega.{arith}
 use lib.ListN.{length, getD}
 use borrow.Author.Tests.{eq-eqb, ne-eqb}
 use Rattle.word.specs.Sets.{choose}
-use Rattle.word.proofs.Cases.{by-eq}
+use Rattle.word.proofs.Cases.{by-eq, zero-one}
 use Rattle.storage.specs.declared.Refusal.the-variants.{BadPayload, NewerKind}
 use Rattle.sheet.specs.Kinds.{sizeIn, ruleOf}
 use Rattle.sheet.specs.Frames.{Item}
@@ -30,7 +30,7 @@ module _ (n kind : ℕ) (p : List ℕ) (bytes : (i : ℕ) → getD p i 0 < 256) 
 
   -- the edition lacks the kind
   lacking : sizeIn n kind ≡ none → ¬ HasKind n kind
-  lacking s (e, q, l) = let z : none ≡ some _ = sym s ∙ has-size n kind e q l in let y : _≡_ {A = ℕ} 0 1 = cc in omega arith
+  lacking s (e, q, l) = let z : none ≡ some _ = sym s ∙ has-size n kind e q l in zero-one cc
 
   -- it has the kind: an edit is asked for exactly where it is laid out so
   module _ (m : ℕ) (s : sizeIn n kind ≡ some m) where
@@ -65,7 +65,7 @@ module _ (n kind : ℕ) (p : List ℕ) (bytes : (i : ℕ) → getD p i 0 < 256) 
     }
 
     ruled : (o : Option Edit) → ruleOf kind p ≡ o → length p ≡ m → AskedExact n kind p (asks o)
-    ruled none r l = wrong (λ e g. let z : none ≡ some e = sym r ∙ laid-asks e g .1 in let y : _≡_ {A = ℕ} 0 1 = cc in omega arith) (asks none) refl
+    ruled none r l = wrong (λ e g. let z : none ≡ some e = sym r ∙ laid-asks e g .1 in zero-one cc) (asks none) refl
     ruled (some d) r l =
         right d
         (λ e. ((λ g. let z : some d ≡ some e = sym r ∙ laid-asks e g .1 in cc), (λ q. asks-laid e (sym l) (r ∙ ap some q))))

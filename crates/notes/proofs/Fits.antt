@@ -8,7 +8,7 @@ use lib.ListN.{length}
 use lib.Dec.{leb}
 use borrow.Author.Tests.{leb-true}
 use Rattle.word.specs.Sets.{choose}
-use Rattle.word.proofs.Cases.{by-test}
+use Rattle.word.proofs.Cases.{by-test, zero-one}
 use Rattle.storage.specs.Stores.{held}
 use Rattle.storage.specs.declared.Bitmap.{Bitmap}
 use Rattle.storage.specs.declared.Amount.{Amount}
@@ -23,7 +23,7 @@ same e = cc
 pub fits : (ws : List ℕ) (b : Bitmap) (out : List ℕ) (k : ℕ) (r : Amount) (out' : List ℕ) → r ≡ Amount.Is k → Prints ws b out r out' → k ≤ length out
 fits ws b out k r out' e p =
     let t : List ℕ = textOf (held ws b) in
-    let a = told ws b Amount.Refused (λ s. fitted (textOf s) out) r (λ d q. absurd (let z : _≡_ {A = ℕ} 0 1 = cc in omega arith)) (p .answers) in
+    let a = told ws b Amount.Refused (λ s. fitted (textOf s) out) r (λ d q. zero-one cc) (p .answers) in
     by-test (leb (length t) (length out))
     (λ y. omega (arith, leb-true (length t) (length out) y, same (sym e ∙ a .1 ∙ ap (λ (x : Bool). choose x (Is (length t)) (Refused NoSpace)) y)))
-    (λ y. let q : Amount.Is k ≡ Amount.Refused NoSpace = sym e ∙ a .1 ∙ ap (λ (x : Bool). choose x (Is (length t)) (Refused NoSpace)) y in absurd (let z : _≡_ {A = ℕ} 0 1 = cc in omega arith))
+    (λ y. let q : Amount.Is k ≡ Amount.Refused NoSpace = sym e ∙ a .1 ∙ ap (λ (x : Bool). choose x (Is (length t)) (Refused NoSpace)) y in zero-one cc)

@@ -7,7 +7,7 @@ use native.Mathlib.Omega.{arith}
 use lib.Dec.{leb}
 use borrow.Author.Tests.{lt-leb, eq-eqb}
 use Rattle.word.specs.Sets.{choose}
-use Rattle.word.proofs.Cases.{by-lt, by-eq, and-false}
+use Rattle.word.proofs.Cases.{by-lt, by-eq, and-false, zero-one}
 use Rattle.storage.specs.Stores.{Bits, Bounded, view, held, reading, nextFrom}
 use Rattle.text.specs.Lists.{Range, range, covers}
 use Rattle.print.specs.Texts.{Nowhere, From, runsFrom, runs}
@@ -202,7 +202,7 @@ module _ (ws : List ℕ) (b : Bitmap) (i : ℕ) (p : Passed ws b) where
       clear = em ∙ reading-ok ws b Amount.Refused (λ s. Amount.Is (nextClear s (x + 1))) p
 
       pub clear-never : (e : Refusal) → m ≡ Amount.Refused e → ⊥
-      clear-never e q = let z : Amount.Refused e ≡ Amount.Is (nextClear s (x + 1)) = sym q ∙ clear in let y : _≡_ {A = ℕ} 0 1 = cc in omega arith
+      clear-never e q = let z : Amount.Refused e ≡ Amount.Is (nextClear s (x + 1)) = sym q ∙ clear in zero-one cc
 
       pub run-found : (end : ℕ) → m ≡ Amount.Is end → NextRun (s .members) (64 * n) i (record { low = x; end = end })
       run-found end q = record {

@@ -3,12 +3,11 @@ use Prim.Native.Nat.{ℕ, _≤_, _<_}
 use mathlib.Core.Path.{_≡_, refl, sym, ap, ap₂, _∙_}
 use mathlib.Core.Bool.{Bool, true, false, _&&_}
 use mathlib.Core.List.{List}
-use native.Mathlib.Omega.{arith}
 use lib.ListN.{length}
 use lib.Dec.{leb}
 use borrow.Author.Tests.{le-leb, lt-leb}
 use Rattle.word.specs.Sets.{choose}
-use Rattle.word.proofs.Cases.{and-false}
+use Rattle.word.proofs.Cases.{and-false, zero-one}
 use Rattle.storage.specs.Stores.{Bits, noWords, checked, held, written, zeroed}
 use Rattle.storage.specs.Guards.{PassedTwo}
 use Rattle.storage.specs.declared.Bitmap.{Bitmap}
@@ -66,7 +65,7 @@ module _ (n : ℕ) (sheet ws : List ℕ) (o : Bitmap) (res : List ℕ) where
         where
           left : (a : Answer Bits) → ((j : ℕ) (s : Bits) → a ≡ Answer.done j s → res' ≡ written res (length res) s) → Done k b ≡ readAnswer (went a)
               → res' ≡ readStore (went a) res
-          left (refused e j) f p = absurd (let z : _≡_ {A = ℕ} 0 1 = cc in omega arith)
+          left (refused e j) f p = zero-one cc
           left (Answer.done j s) f p = f j s refl
 
       pub reads-refused : (r : Reading) (res' res'' : List ℕ) (e : Refusal) (k : ℕ) → r ≡ Refused e k → Came whole res r res' → res'' ≡ zeroed 0 (length res) res'
@@ -78,4 +77,4 @@ module _ (n : ℕ) (sheet ws : List ℕ) (o : Bitmap) (res : List ℕ) where
         where
           left : (a : Answer Bits) → Refused e k ≡ readAnswer (went a) → zeroed 0 (length res) res ≡ readStore (went a) res
           left (refused d j) p = refl
-          left (Answer.done j s) p = absurd (let z : _≡_ {A = ℕ} 0 1 = cc in omega arith)
+          left (Answer.done j s) p = zero-one cc

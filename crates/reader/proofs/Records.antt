@@ -9,6 +9,7 @@ use lib.ListN.{length}
 use lib.Dec.{leb, ltb}
 use borrow.Author.Tests.{le-leb, lt-leb, lt-ltb, le-ltb}
 use Rattle.word.specs.Sets.{choose}
+use Rattle.word.proofs.Cases.{zero-one}
 use Rattle.word.proofs.Lists.{Fit}
 use Rattle.storage.specs.Stores.{Bits, refused, done, withCount, view, written, answer, store, Leaves, bitmapOf}
 use Rattle.storage.specs.declared.Bitmap.{Bitmap}
@@ -60,7 +61,7 @@ any-number edition c k r b = go (r .duty) (asking (sizeIn edition) ruleOf (r .ki
 told-stop : (t : Turn Bits) (ws ws' : List ℕ) (b b' : Bitmap) (e : Refusal) → Leaves (outcomeOf t) ws b (Change.Refused e b') ws' → t ≡ stop e
 unfolding answer
 told-stop (stop x) ws ws' b b' e l = let p : Change.Refused e b' ≡ Change.Refused x b = l .answers in ap stop (cc)
-told-stop (next s) ws ws' b b' e l = let p : Change.Refused e b' ≡ Change.Done (withCount b (s .count)) = l .answers in absurd (let z : _≡_ {A = ℕ} 0 1 = cc in omega arith)
+told-stop (next s) ws ws' b b' e l = let p : Change.Refused e b' ≡ Change.Done (withCount b (s .count)) = l .answers in zero-one cc
 
 record Made (t : Turn Bits) (ws ws' : List ℕ) (b after : Bitmap) (s : Bits) : Type 0 where
   is : t ≡ next s
@@ -69,7 +70,7 @@ record Made (t : Turn Bits) (ws ws' : List ℕ) (b after : Bitmap) (s : Bits) : 
 
 told-next : (t : Turn Bits) (ws ws' : List ℕ) (b after : Bitmap) → Leaves (outcomeOf t) ws b (Change.Done after) ws' → (s : Bits) × Made t ws ws' b after s
 unfolding answer store
-told-next (stop x) ws ws' b after l = let p : Change.Done after ≡ Change.Refused x b = l .answers in absurd (let z : _≡_ {A = ℕ} 0 1 = cc in omega arith)
+told-next (stop x) ws ws' b after l = let p : Change.Done after ≡ Change.Refused x b = l .answers in zero-one cc
 told-next (next s) ws ws' b after l =
     let p : Change.Done after ≡ Change.Done (withCount b (s .count)) = l .answers in
     let q : after ≡ withCount b (s .count) = cc in
@@ -194,7 +195,7 @@ pub came-refused : (a : Answer Bits) (res res' : List ℕ) (e : Refusal) (k : �
 came-refused a res res' e k l q = record {
   long = l;
   answers = ap (λ (x : Answer Bits). readAnswer (went x)) (sym q);
-  leaves = λ k' s p. let r : refused e k ≡ Answer.done k' s = sym q ∙ p in absurd (let z : _≡_ {A = ℕ} 0 1 = cc in omega arith);
+  leaves = λ k' s p. let r : refused e k ≡ Answer.done k' s = sym q ∙ p in zero-one cc;
 }
 
 pub came-done : (a : Answer Bits) (res ws : List ℕ) (k m : ℕ) → length ws ≡ length res → Fit ws → Padded ws (bitmapOf m) → a ≡ Answer.done k (view ws m)

@@ -9,7 +9,7 @@ use lib.Seq.{getD-set-other}
 use Rattle.word.specs.Sets.{topBelow, Top}
 use Rattle.word.specs.Places.{bit, wordOf, member}
 use Rattle.word.specs.Words.{funneled}
-use Rattle.word.proofs.Cases.{by-lt, by-eq}
+use Rattle.word.proofs.Cases.{by-lt, by-eq, zero-one}
 use Rattle.word.proofs.Sets.{top, top-is}
 use Rattle.word.proofs.Places.{bit-pack, pack-lt}
 use Rattle.word.proofs.Lists.{Fit}
@@ -74,11 +74,11 @@ module _ (ws : List ℕ) (b : Bitmap) (at : ℕ) where
   -- what the answer tells
   pub tail-told-refused : (e : Refusal) → Amount.Refused e ≡ reading ws b Amount.Refused (λ s. Amount.Is (lowered at s .count)) → Stop e ≡ checked ws b Stop Pass
   tail-told-refused e q =
-      told-refused ws b Amount.Refused (λ s. Amount.Is (lowered at s .count)) e (λ d r. cc) (λ s r. absurd (let y : _≡_ {A = ℕ} 0 1 = cc in omega arith)) q
+      told-refused ws b Amount.Refused (λ s. Amount.Is (lowered at s .count)) e (λ d r. cc) (λ s r. zero-one cc) q
 
   pub tail-told : (m : ℕ) → Amount.Is m ≡ reading ws b Amount.Refused (λ s. Amount.Is (lowered at s .count)) → Passed ws b × (m ≡ lowered at (held ws b) .count)
   tail-told m q =
-      let a = told ws b Amount.Refused (λ s. Amount.Is (lowered at s .count)) (Amount.Is m) (λ e r. absurd (let y : _≡_ {A = ℕ} 0 1 = cc in omega arith)) q in
+      let a = told ws b Amount.Refused (λ s. Amount.Is (lowered at s .count)) (Amount.Is m) (λ e r. zero-one cc) q in
       (a .0, same (lowered at (held ws b) .count) (a .1))
     where
       same : (k : ℕ) → Amount.Is m ≡ Amount.Is k → m ≡ k

@@ -11,6 +11,7 @@ use native.Mathlib.Nat.{add-suc, suc-add, zero-add}
 use lib.ListN.{length}
 use lib.Dec.{eqb, eqb→eq}
 use Rattle.word.specs.Sets.{choose}
+use Rattle.word.proofs.Cases.{zero-one}
 use Rattle.storage.specs.Refusals.{numberOf}
 use Rattle.storage.specs.declared.Refusal.{Refusal}
 use Rattle.storage.specs.declared.Refusal.the-variants.{NewerKind}
@@ -142,4 +143,4 @@ any-two A S E F h sheet old = record { same = go (same-or-newer E F h sheet old)
 
     stays : (k : ℕ) (s : S) → read E sheet old ≡ done k s → SameOr E F h sheet old (read E sheet old) (read F sheet old) → read F sheet old ≡ done k s
     stays k s e (inl p) = sym p ∙ e
-    stays k s e (inr (j, a)) = absurd (let p = named j a in let z : _≡_ {A = ℕ} 0 1 = cc in omega arith)
+    stays k s e (inr (j, a)) = let p = named j a in zero-one cc

@@ -9,7 +9,7 @@ use lib.Arith.{digits-lt}
 use lib.Pow.{pow-pos, pow-add, high, mod-pow-add}
 use lib.Dec.{leb, ltb}
 use borrow.Author.Tests.{le-leb, leb-true, ltb-true}
-use Rattle.word.proofs.Cases.{and-true}
+use Rattle.word.proofs.Cases.{and-true, zero-one}
 use Rattle.sheet.specs.Layout.{Field, widths, packed, unpacked, inRange, InRange}
 
 -- as many values as fields, each in its bits
@@ -50,8 +50,8 @@ in-range (f ∷ fs) (v ∷ vs) h = rw (le-leb (f .least) v (h .0), le-leb v (f .
 pub range-in : (fs : List Field) (vs : List ℕ) → inRange fs vs ≡ true → InRange fs vs
 unfolding inRange
 range-in [] [] h = tt
-range-in [] (v ∷ vs) h = absurd (let z : _≡_ {A = ℕ} 0 1 = cc in omega arith)
-range-in (f ∷ fs) [] h = absurd (let z : _≡_ {A = ℕ} 0 1 = cc in omega arith)
+range-in [] (v ∷ vs) h = zero-one cc
+range-in (f ∷ fs) [] h = zero-one cc
 range-in (f ∷ fs) (v ∷ vs) h =
     let (a, b) = and-true (leb (f .least) v) (leb v (f .most) && inRange fs vs) h in
     let (c, d) = and-true (leb v (f .most)) (inRange fs vs) b in

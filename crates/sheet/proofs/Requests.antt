@@ -11,7 +11,7 @@ use lib.ListN.{length, getElem?}
 use lib.Dec.{ltb, eqb}
 use borrow.Author.Tests.{ltb-true, ltb-false, eqb-true, eqb-false, lt-ltb, le-ltb, eq-eqb, ne-eqb}
 use Rattle.word.specs.Sets.{choose, val}
-use Rattle.word.proofs.Cases.{by-lt, by-eq, or-true, and-true, and-false}
+use Rattle.word.proofs.Cases.{by-lt, by-eq, or-true, and-true, and-false, zero-one}
 use Rattle.storage.specs.Refusals.{numberOf}
 use Rattle.storage.proofs.Promises.{each-number-once}
 use Rattle.storage.specs.declared.Refusal.{Refusal}
@@ -173,7 +173,7 @@ checks-pass (remark k p) t = go (ltb 127 k) refl (ltb most (length p)) refl
 
 pub neither : (a b : Bool) → (a || b) ≡ false → (a ≡ false) × (b ≡ false)
 neither false b q = (refl, q)
-neither true b q = absurd (let z : _≡_ {A = ℕ} 0 1 = cc in omega arith)
+neither true b q = zero-one cc
 
 either : (a b : Bool) → (a || b) ≡ true → (a ≡ true) ⊎ (b ≡ true)
 either true b q = inl refl

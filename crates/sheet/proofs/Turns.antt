@@ -10,6 +10,7 @@ use lib.ListN.{length, getD}
 use lib.Dec.{leb, eqb}
 use borrow.Author.Tests.{lt-ltb, le-ltb, le-leb, lt-leb, eq-eqb, ne-eqb}
 use Rattle.word.specs.Sets.{choose}
+use Rattle.word.proofs.Cases.{zero-one}
 use Rattle.storage.specs.declared.Refusal.{Refusal}
 use Rattle.storage.specs.declared.Refusal.the-variants.{CutRecord, BytesRemain, BadPayload, NewerKind}
 use Rattle.sheet.specs.Frames.{Item, headed, endAt, itemAt}
@@ -17,13 +18,13 @@ use Rattle.sheet.specs.Reader.{Edition, refused, done, Turn, stop, next,
 use Rattle.sheet.specs.Meaning.{Header, onward, effect}
 
 pub none-some : {X : Type 0} {x : X} → _≡_ {A = Option X} none (some x) → ⊥
-none-some e = let z : _≡_ {A = ℕ} 0 1 = cc in omega arith
+none-some e = zero-one cc
 
 pub some-inj : {X : Type 0} {x y : X} → _≡_ {A = Option X} (some x) (some y) → x ≡ y
 some-inj e = cc
 
 pub stop-next : {X : Type 0} {e : Refusal} {x : X} → stop e ≡ next x → ⊥
-stop-next q = let z : _≡_ {A = ℕ} 0 1 = cc in omega arith
+stop-next q = zero-one cc
 
 pub stop-inj : {X : Type 0} {d e : Refusal} → _≡_ {A = Turn X} (stop d) (stop e) → d ≡ e
 stop-inj q = cc

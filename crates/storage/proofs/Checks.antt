@@ -6,7 +6,7 @@ use Prim.Native.Nat.{ℕ, _≤_, _<_}
 use native.Mathlib.Omega.{arith}
 use lib.ListN.{length}
 use borrow.Author.Tests.{lt-ltb, le-ltb}
-use Rattle.word.proofs.Cases.{by-lt}
+use Rattle.word.proofs.Cases.{by-lt, zero-one}
 use Rattle.storage.specs.Refusals.{numberOf}
 use Rattle.storage.specs.Stores.{Bits, refused, done, Space, Op, withCount, storeLimit, checked, held, reading, readingBoth, beside, within}
 use Rattle.storage.specs.Guards.{mostWords, Stopped, long, over, Passed, PassedTwo, PassedThree}
@@ -67,7 +67,7 @@ by-guard {P} ws b stop pass = go (which-way ws b)
 -- ---- what the guards tell
 
 never : (e : Refusal) → Stop e ≡ Pass → ⊥
-never e p = let z : _≡_ {A = ℕ} 0 1 = cc in omega arith
+never e p = zero-one cc
 
 module _ (ws : List ℕ) (b : Bitmap) (next : Guard) where
   -- a guard that looks at one store and then at others
@@ -178,5 +178,5 @@ within-no c b h = rw (lt-ltb c (b .count) h)
 pub within-done : (c : Space) (b s : Bits) → within c b ≡ done s → (b ≡ s) × (b .count ≤ c)
 within-done c b s p =
     by-lt c (b .count)
-    (λ h. let q : refused NoSpace ≡ done s = sym (within-no c b h) ∙ p in absurd (let z : _≡_ {A = ℕ} 0 1 = cc in omega arith))
+    (λ h. let q : refused NoSpace ≡ done s = sym (within-no c b h) ∙ p in zero-one cc)
     (λ h. let q : done b ≡ done s = sym (within-ok c b h) ∙ p in ((cc), h))

@@ -5,7 +5,7 @@ use Prim.Native.Nat.{ℕ, _≤_, _<_}
 use native.Mathlib.Omega.{arith}
 use borrow.Author.Tests.{ne-eqb}
 use Rattle.word.specs.Sets.{xorb}
-use Rattle.word.proofs.Cases.{by-lt}
+use Rattle.word.proofs.Cases.{by-lt, zero-one}
 use Rattle.pairs.specs.Pairs.{tableOf}
 use Rattle.pairs.specs.declared.SetOp.{SetOp}
 use Rattle.pairs.proofs.Tables.{none-none}
@@ -22,7 +22,7 @@ pub same : {b s : Bits} → done b ≡ done s → b ≡ s
 same e = cc
 
 pub never : {b : Bits} {e : Refusal} → done b ≡ refused e → ⊥
-never q = let z : _≡_ {A = ℕ} 0 1 = cc in omega arith
+never q = zero-one cc
 
 pub which : {d e : Refusal} → refused d ≡ refused e → d ≡ e
 which q = cc

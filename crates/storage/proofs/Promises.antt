@@ -10,7 +10,7 @@ use lib.Dec.{ltb, leb, eqb, eqb→eq}
 use borrow.Author.Tests.{lt-ltb, le-ltb, ltb-true, le-leb, leb-true}
 use Rattle.word.specs.Sets.{choose, leastFrom, Least}
 use Rattle.word.specs.Places.{member}
-use Rattle.word.proofs.Cases.{by-lt, every-at, and-true}
+use Rattle.word.proofs.Cases.{by-lt, every-at, and-true, zero-one}
 use Rattle.word.proofs.Sets.{least, counted}
 use Rattle.word.proofs.Lists.{determined, at-place, member-at}
 use Rattle.pairs.specs.Pairs.{tableOf}
@@ -158,7 +158,7 @@ records-mean = record { none = refl; made = λ b n. refl; kept = λ b. refl; alo
 -- a test whose truth value is true exactly where P holds
 pub tests : (P : Type 0) (t : Bool) → (t ≡ true → P) → (P → t ≡ true) → Tests P (truthNumber (Truth.Is t)) (truthValue (Truth.Is t))
 tests P true f g = (refl, inl (refl, f refl))
-tests P false f g = (refl, inr (refl, λ p. let e : false ≡ true = g p in absurd (let z : _≡_ {A = ℕ} 0 1 = cc in omega arith)))
+tests P false f g = (refl, inr (refl, λ p. let e : false ≡ true = g p in zero-one cc))
 
 pub amount-call : (f : Bits → Amount) (Rest : Bits → ℕ → ℕ → Type 0) → ((b : Bits) → Bounded b → Rest b (amountNumber (f b)) (amountValue (f b))) → AmountCall f Rest
 amount-call f Rest =

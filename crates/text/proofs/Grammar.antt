@@ -8,6 +8,7 @@ use native.Mathlib.Omega.{arith}
 use lib.Dec.{leb}
 use borrow.Author.Tests.{leb-true}
 use Rattle.word.specs.Sets.{choose}
+use Rattle.word.proofs.Cases.{zero-one}
 use Rattle.text.specs.Lists.{comma, joiner, zeroDigit, listLimit, Range, range}
 use Rattle.text.specs.Grammar as g
 use Rattle.text.specs.Readings.{kind, grown, NumberSoFar, Unread, Open, Closed, Part, part, fresh, value, unread, empty, ranged, token, Step, Go, Ends, Stop, byDigit, byBlank, byJoiner, byKind}
@@ -50,7 +51,7 @@ begun-digit c e (Open x) y (opened u d v b s ex ey) l q h =
       subst (λ (n : NumberSoFar). Begun n (y ++ c ∷ [])) (sym hn)
           (opened u (d ++ c ∷ []) (10 * v + (c - zeroDigit)) b (g.more c s e) (omega arith) (ap (λ (z : List ℕ). z ++ c ∷ []) ey ∙ append-assoc u d (c ∷ []))),
     )
-begun-digit c e (Closed x) y (closed u d w v b s b' ex ey) l q h = let z : _≡_ {A = ℕ} 0 1 = cc in absurd (omega arith)
+begun-digit c e (Closed x) y (closed u d w v b s b' ex ey) l q h = zero-one cc
 
 begun-blank : (c : ℕ) → g.Blank c → (n : NumberSoFar) (y : List ℕ) → Begun n y → (l : Value) (q : Part) → byBlank l n ≡ Go q
     → (q .left ≡ l) × Begun (q .number) (y ++ c ∷ [])
@@ -73,14 +74,14 @@ begun-blank c e (Closed x) y (closed u d w v b s b' ex ey) l q h =
 -- a number that ended
 limited : (x a : ℕ) (t : Bool) → leb x listLimit ≡ t → choose t (Of x) Missing ≡ Of a → (x ≡ a) × (x ≤ listLimit)
 limited x a true e h = (cc, leb-true x listLimit e)
-limited x a false e h = let z : _≡_ {A = ℕ} 0 1 = cc in absurd (omega arith)
+limited x a false e h = zero-one cc
 
 number-of : (u d w : List ℕ) (v x a : ℕ) → g.Blanks u → g.Digits d v → g.Blanks w → x ≡ min (listLimit + 1) v → x ≡ a → x ≤ listLimit → g.Numeral (u ++ d ++ w) a
 number-of u d w v x a b s b' ex e h = subst (g.Numeral (u ++ d ++ w)) (omega arith) (g.number b s b' (omega arith))
 
 value-correct : (n : NumberSoFar) (y : List ℕ) (a : ℕ) → Begun n y → value n ≡ Of a → g.Numeral y a
 unfolding value
-value-correct Unread y a (blanks b) e = let z : _≡_ {A = ℕ} 0 1 = cc in absurd (omega arith)
+value-correct Unread y a (blanks b) e = zero-one cc
 value-correct (Open x) y a (opened u d v b s ex ey) e =
     let q = limited x a (leb x listLimit) refl e in
     subst (λ (z : List ℕ). g.Numeral z a) (append-nil (u ++ d) ∙ sym ey) (number-of u d [] v x a b s g.nil ex (q .0) (q .1))
@@ -96,10 +97,10 @@ part-to : (q : Part) {l : Value} {y : List ℕ} → q .left ≡ l → Part-of l 
 part-to q {l} {y} e x = subst (λ (m : Value). Part-of m (q .number) y) (sym e) x
 
 by-value : (a : ℕ) (v : Value) (q : Part) → byJoiner (Of a) v ≡ Go q → ⊥
-by-value a v q h = let z : _≡_ {A = ℕ} 0 1 = cc in omega arith
+by-value a v q h = zero-one cc
 
 joined : (n : NumberSoFar) (y : List ℕ) → Begun n y → (v : Value) → value n ≡ v → (q : Part) → byJoiner Missing v ≡ Go q → Part-of (q .left) (q .number) (y ++ joiner ∷ [])
-joined n y b Missing e q h = let z : _≡_ {A = ℕ} 0 1 = cc in absurd (omega arith)
+joined n y b Missing e q h = zero-one cc
 joined n y b (Of a) e q h =
     let hl : q .left ≡ Of a = cc in
     let hn : q .number ≡ Unread = cc in
@@ -119,8 +120,8 @@ step-correct c (isBlank e) (Of a) n z (second t y x b f) q h =
 step-correct c (isJoiner e) Missing n y (first b) q h =
     subst (λ (x : ℕ). Part-of (q .left) (q .number) (y ++ x ∷ [])) (sym e) (joined n y b (value n) refl q h)
 step-correct c (isJoiner e) (Of a) n z (second t y x b f) q h = absurd (by-value a (value n) q h)
-step-correct c (isComma e) l n y x q h = let z : _≡_ {A = ℕ} 0 1 = cc in absurd (omega arith)
-step-correct c isOther l n y x q h = let z : _≡_ {A = ℕ} 0 1 = cc in absurd (omega arith)
+step-correct c (isComma e) l n y x q h = zero-one cc
+step-correct c isOther l n y x q h = zero-one cc
 
 -- a comma alone ends a token
 ends-comma : (c : ℕ) {k : Kind} → IsKind c k → (p : Part) → byKind p k ≡ Ends → c ≡ comma
@@ -128,30 +129,30 @@ unfolding byKind
 ends-comma c (isDigit e) p h = absurd (by-digit (p .left) (p .number) (c - zeroDigit) h)
   where
     by-digit : (l : Value) (n : NumberSoFar) (d : ℕ) → byDigit l n d ≡ Ends → ⊥
-    by-digit l Unread d h = let z : _≡_ {A = ℕ} 0 1 = cc in omega arith
-    by-digit l (Open v) d h = let z : _≡_ {A = ℕ} 0 1 = cc in omega arith
-    by-digit l (Closed v) d h = let z : _≡_ {A = ℕ} 0 1 = cc in omega arith
+    by-digit l Unread d h = zero-one cc
+    by-digit l (Open v) d h = zero-one cc
+    by-digit l (Closed v) d h = zero-one cc
 ends-comma c (isBlank e) p h = absurd (by-blank (p .left) (p .number) h)
   where
     by-blank : (l : Value) (n : NumberSoFar) → byBlank l n ≡ Ends → ⊥
-    by-blank l Unread h = let z : _≡_ {A = ℕ} 0 1 = cc in omega arith
-    by-blank l (Open v) h = let z : _≡_ {A = ℕ} 0 1 = cc in omega arith
-    by-blank l (Closed v) h = let z : _≡_ {A = ℕ} 0 1 = cc in omega arith
+    by-blank l Unread h = zero-one cc
+    by-blank l (Open v) h = zero-one cc
+    by-blank l (Closed v) h = zero-one cc
 ends-comma c (isJoiner e) p h = absurd (by-joiner (p .left) (value (p .number)) h)
   where
     by-joiner : (l v : Value) → byJoiner l v ≡ Ends → ⊥
-    by-joiner Missing Missing h = let z : _≡_ {A = ℕ} 0 1 = cc in omega arith
-    by-joiner Missing (Of a) h = let z : _≡_ {A = ℕ} 0 1 = cc in omega arith
-    by-joiner (Of a) v h = let z : _≡_ {A = ℕ} 0 1 = cc in omega arith
+    by-joiner Missing Missing h = zero-one cc
+    by-joiner Missing (Of a) h = zero-one cc
+    by-joiner (Of a) v h = zero-one cc
 ends-comma c (isComma e) p h = e
-ends-comma c isOther p h = let z : _≡_ {A = ℕ} 0 1 = cc in absurd (omega arith)
+ends-comma c isOther p h = zero-one cc
 
 -- a token that ended
 ranged-correct : (l v : Value) (a b : ℕ) → ranged l v ≡ Ranging a b
     → ((l ≡ Missing) × (v ≡ Of b) × (a ≡ b)) ⊎ ((l ≡ Of a) × (v ≡ Of b) × (a ≤ b))
-ranged-correct Missing Missing a b e = let z : _≡_ {A = ℕ} 0 1 = cc in absurd (omega arith)
+ranged-correct Missing Missing a b e = zero-one cc
 ranged-correct Missing (Of y) a b e = inl (refl, cc, cc)
-ranged-correct (Of x) Missing a b e = let z : _≡_ {A = ℕ} 0 1 = cc in absurd (omega arith)
+ranged-correct (Of x) Missing a b e = zero-one cc
 ranged-correct (Of x) (Of y) a b e = go (leb x y) refl e
   where
     go : (t : Bool) → leb x y ≡ t → choose t (Ranging x y) NoRange ≡ Ranging a b → ((Of x ≡ Missing) × (Of y ≡ Of b) × (a ≡ b)) ⊎ ((Of x ≡ Of a) × (Of y ≡ Of b) × (a ≤ b))
@@ -160,17 +161,17 @@ ranged-correct (Of x) (Of y) a b e = go (leb x y) refl e
         let hb : y ≡ b = cc in
         let q : x ≤ y = leb-true x y f in
         inr (ap Of ha, ap Of hb, omega arith)
-    go false f h = let z : _≡_ {A = ℕ} 0 1 = cc in absurd (omega arith)
+    go false f h = zero-one cc
 
 ranged-full : (l v : Value) → ranged l v ≡ Empty → ⊥
-ranged-full Missing Missing e = let z : _≡_ {A = ℕ} 0 1 = cc in omega arith
-ranged-full Missing (Of y) e = let z : _≡_ {A = ℕ} 0 1 = cc in omega arith
-ranged-full (Of x) Missing e = let z : _≡_ {A = ℕ} 0 1 = cc in omega arith
+ranged-full Missing Missing e = zero-one cc
+ranged-full Missing (Of y) e = zero-one cc
+ranged-full (Of x) Missing e = zero-one cc
 ranged-full (Of x) (Of y) e = go (leb x y) e
   where
     go : (t : Bool) → choose t (Ranging x y) NoRange ≡ Empty → ⊥
-    go true h = let z : _≡_ {A = ℕ} 0 1 = cc in omega arith
-    go false h = let z : _≡_ {A = ℕ} 0 1 = cc in omega arith
+    go true h = zero-one cc
+    go false h = zero-one cc
 
 unread-is : (n : NumberSoFar) → unread n ≡ true → n ≡ Unread
 unread-is Unread e = refl
@@ -179,8 +180,8 @@ unread-is (Closed v) e = absurd (false≢true e)
 
 begun-unread : {n : NumberSoFar} {y : List ℕ} → Begun n y → n ≡ Unread → g.Blanks y
 begun-unread (blanks b) e = b
-begun-unread (opened u d v b s ex ey) e = let z : _≡_ {A = ℕ} 0 1 = cc in absurd (omega arith)
-begun-unread (closed u d w v b s b' ex ey) e = let z : _≡_ {A = ℕ} 0 1 = cc in absurd (omega arith)
+begun-unread (opened u d v b s ex ey) e = zero-one cc
+begun-unread (closed u d w v b s b' ex ey) e = zero-one cc
 
 empty-correct : (l : Value) (n : NumberSoFar) (y : List ℕ) → Part-of l n y → token (part l n) ≡ Empty → g.Blanks y
 unfolding token empty
@@ -196,15 +197,15 @@ unfolding token empty
 token-correct Missing n y (first x) a b e = go (unread n) e
   where
     go : (t : Bool) → choose t Empty (ranged Missing (value n)) ≡ Ranging a b → g.Token y (range a b)
-    go true h = let z : _≡_ {A = ℕ} 0 1 = cc in absurd (omega arith)
+    go true h = zero-one cc
     go false h =
         ⊎-elim
         (λ w. subst (λ (m : ℕ). g.Token y (range m b)) (sym (w .2)) (g.single (value-correct n y b x (w .1))))
-        (λ w. let z : _≡_ {A = ℕ} 0 1 = cc (w .0) in absurd (omega arith))
+        (λ w. zero-one (cc (w .0)))
         (ranged-correct Missing (value n) a b h)
 token-correct (Of c) n z (second t y u x f) a b e =
     ⊎-elim
-    (λ w. let z : _≡_ {A = ℕ} 0 1 = cc (w .0) in absurd (omega arith))
+    (λ w. zero-one (cc (w .0)))
     (λ w.
     let k : c ≡ a = cc (w .0) in
     subst (λ (m : List ℕ). g.Token m (range a b)) (sym f) (g.pair (subst (g.Numeral t) k u) (value-correct n y b x (w .1)) (w .2)))
@@ -231,7 +232,7 @@ same-ranges : {rs qs : List Range} → ranges rs ≡ ranges qs → rs ≡ qs
 same-ranges e = cc
 
 no-ranges : {qs : List Range} → notList ≡ ranges qs → ⊥
-no-ranges e = let z : _≡_ {A = ℕ} 0 1 = cc in omega arith
+no-ranges e = zero-one cc
 
 bad-none : (t : List ℕ) (qs : List Range) → parsed (reads bad t) ≡ ranges qs → ⊥
 unfolding parsed

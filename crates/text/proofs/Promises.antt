@@ -7,7 +7,7 @@ use Prim.Native.Nat.{ℕ, zero, suc, _≤_, max}
 use native.Mathlib.Omega.{arith}
 use lib.Dec.{ltb, leb}
 use borrow.Author.Tests.{ltb-true, ltb-false, leb-true}
-use Rattle.word.proofs.Cases.{by-lt, by-test, and-true, or-true}
+use Rattle.word.proofs.Cases.{by-lt, by-test, and-true, or-true, zero-one}
 use Rattle.storage.specs.Refusals.{numberOf}
 use Rattle.storage.specs.Stores.{Bits, Bounded, Outcome, refused, done}
 use Rattle.storage.specs.Promises.{Contained}
@@ -24,7 +24,7 @@ use Rattle.text.proofs.Taken.{list-not-plain, list-is}
 -- ---- the grammar
 
 never : {rs : List Range} → notList ≡ ranges rs → ⊥
-never e = let z : _≡_ {A = ℕ} 0 1 = cc in omega arith
+never e = zero-one cc
 
 pub reads-grammar : ReadsGrammar
 reads-grammar = record {

@@ -10,6 +10,7 @@ use lib.ListN.{length, getD, drop, drop-of-length-le}
 use lib.Seq.{drop-cons}
 use borrow.Author.Tests.{lt-ltb, le-ltb, leb-true, ne-eqb, eq-eqb}
 use Rattle.word.specs.Sets.{choose}
+use Rattle.word.proofs.Cases.{zero-one}
 use Rattle.text.specs.Lists.{comma, joiner, zeroDigit, listLimit, blank, digit, plain}
 use Rattle.text.specs.Readings as read
 use Rattle.text.specs.Readings.{kind, NumberSoFar, Unread, Open, Closed, value, unread, missing, empty, ranged, token, part, grown, Go, Stop, byDigit, byBlank, byJoiner, byKind}
@@ -84,21 +85,21 @@ token-missing p h e = token-at p h refl e ∙ ranged-missing (p .left)
 
 -- no token has a number past the limit
 ranged-limit : (l v : Value) (a b : ℕ) → ranged l v ≡ Ranging a b → v ≡ Of b
-ranged-limit l Missing a b e = let z : _≡_ {A = ℕ} 0 1 = cc in absurd (omega arith)
+ranged-limit l Missing a b e = zero-one cc
 ranged-limit Missing (Of y) a b e = cc
 ranged-limit (Of x) (Of y) a b e = go (leb x y) e
   where
     go : (t : Bool) → choose t (Ranging x y) NoRange ≡ Ranging a b → Of y ≡ Of b
     go true h = cc
-    go false h = let z : _≡_ {A = ℕ} 0 1 = cc in absurd (omega arith)
+    go false h = zero-one cc
 
 allowed-limit : (v b : ℕ) (t : Bool) → leb v listLimit ≡ t → choose t (Of v) Missing ≡ Of b → b ≤ listLimit
 allowed-limit v b true e h = let q : v ≡ b = cc in omega (arith, leb-true v listLimit e)
-allowed-limit v b false e h = let z : _≡_ {A = ℕ} 0 1 = cc in absurd (omega arith)
+allowed-limit v b false e h = zero-one cc
 
 value-limit : (n : NumberSoFar) (b : ℕ) → value n ≡ Of b → b ≤ listLimit
 unfolding value
-value-limit Unread b e = let z : _≡_ {A = ℕ} 0 1 = cc in absurd (omega arith)
+value-limit Unread b e = zero-one cc
 value-limit (Open v) b e = allowed-limit v b (leb v listLimit) refl e
 value-limit (Closed v) b e = allowed-limit v b (leb v listLimit) refl e
 
@@ -107,7 +108,7 @@ unfolding token
 token-limit p a b e = go (empty p) e
   where
     go : (t : Bool) → choose t Empty (ranged (p .left) (value (p .number))) ≡ Ranging a b → b ≤ listLimit
-    go true h = let z : _≡_ {A = ℕ} 0 1 = cc in absurd (omega arith)
+    go true h = zero-one cc
     go false h = value-limit (p .number) b (ranged-limit (p .left) (value (p .number)) a b h)
 
 -- ---- the code's numbers as a token's state

@@ -9,6 +9,7 @@ use lib.ListN.{length, getD, take, drop}
 use lib.Seq.{length-take-le, getD-take}
 use Rattle.word.specs.Sets.{choose}
 use Rattle.word.specs.Places.{bit, member, wordsOf}
+use Rattle.word.proofs.Cases.{zero-one}
 use Rattle.word.proofs.Places.{bit-zero}
 use Rattle.word.proofs.Lists.{member-at, at-place}
 use Rattle.storage.specs.Stores.{Bits, refused, withCount, view, within, zeroed, Changes}
@@ -38,7 +39,7 @@ list-is t c b p e f = ap (λ (x : Bool). choose x (listOutcome c (parse t)) (ref
 -- ---- what a measurement says of the text
 
 measured-top : (p : Parsed) (x : ℕ) → measuredOf p ≡ Top x → (rs : List Range) × (p ≡ ranges rs) × (x ≡ highest rs)
-measured-top notList x e = let z : _≡_ {A = ℕ} 0 1 = cc in absurd (omega arith)
+measured-top notList x e = zero-one cc
 measured-top (ranges rs) x e = (rs, refl, top-same e)
   where
     top-same : Top (highest rs) ≡ Top x → x ≡ highest rs
@@ -46,7 +47,7 @@ measured-top (ranges rs) x e = (rs, refl, top-same e)
 
 measured-none : (p : Parsed) → measuredOf p ≡ NoList → p ≡ notList
 measured-none notList e = refl
-measured-none (ranges rs) e = let z : _≡_ {A = ℕ} 0 1 = cc in absurd (omega arith)
+measured-none (ranges rs) e = zero-one cc
 
 -- no word is lent, none is marked
 none-marked : (rs : List Range) → marked rs [] ≡ []

@@ -7,6 +7,7 @@ use native.Mathlib.Omega.{arith}
 use native.Mathlib.Numerals.{add-one}
 use lib.ListN.{length, getD, drop, drop-of-length-le}
 use lib.Seq.{drop-cons}
+use Rattle.word.proofs.Cases.{zero-one}
 use Rattle.word.proofs.Lists.{Fit}
 use Rattle.arch.specs.Scans.{filled}
 use Rattle.text.specs.Lists.{Range, range, highest}
@@ -107,7 +108,7 @@ some-end (q ∷ rs) r = refl
 
 -- the text is no list
 not-whole : (t : List ℕ) (rs qs : List Range) → parse t ≡ notList → parse t ≡ ranges rs → qs ≡ rs
-not-whole t rs qs e f = let z : _≡_ {A = ℕ} 0 1 = cc in absurd (omega arith)
+not-whole t rs qs e f = zero-one cc
 
 pub walked-bad : (t ws ws' : List ℕ) (rs : List Range) → ws' ≡ marked rs ws → parse t ≡ notList → Walked t NotList ws ws'
 walked-bad t ws ws' rs m e = record { measures = ap measuredOf (sym e); passed = rs; whole = λ qs f. not-whole t qs rs e f; marks = m }

@@ -29,6 +29,10 @@ pub by-test {ℓ} : {A : Type ℓ} (t : Bool) → (t ≡ true → A) → (t ≡ 
 by-test true f g = f refl
 by-test false f g = g refl
 
+-- two constructors that are taken for one come to this
+pub zero-one {ℓ} : {A : Type ℓ} → _≡_ {A = ℕ} 0 1 → A
+zero-one e = absurd (omega arith)
+
 -- two that are true together are the same
 pub same-test : (a b : Bool) → (a ≡ true) ↔ (b ≡ true) → a ≡ b
 same-test true b e = sym (e .0 refl)

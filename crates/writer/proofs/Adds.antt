@@ -7,6 +7,7 @@ use mathlib.Core.Option.{Option, none, some}
 use native.Mathlib.Omega.{arith}
 use lib.ListN.{length, take, length-take}
 use borrow.Author.Tests.{lt-ltb, le-ltb}
+use Rattle.word.proofs.Cases.{zero-one}
 use Rattle.storage.specs.declared.Refusal.{Refusal}
 use Rattle.storage.specs.declared.Refusal.the-variants.{CountOverStore, NotSheet, BadPayload, NewerKind}
 use Rattle.storage.specs.declared.Guard.{Guard}
@@ -63,7 +64,7 @@ module _ (buf : List ℕ) (len : ℕ) where
     adds-fault q e s = writes _ (refuse e buf) (looked q ∙ go (sheetFault (take len buf)) (sym told ∙ s))
       where
         go : (o : Option Refusal) → guardBy o ≡ Stop e → judged buf len q o ≡ refuse e buf
-        go none z = absurd (let v : _≡_ {A = ℕ} 0 1 = cc in omega arith)
+        go none z = zero-one cc
         go (some d) z = let v : d ≡ e = cc in ap (λ (e : Refusal). refuse e buf) v
 
     module _ (s : g ≡ Pass) where
@@ -72,7 +73,7 @@ module _ (buf : List ℕ) (len : ℕ) where
         where
           go : (o : Option Refusal) → guardBy o ≡ Pass → o ≡ none
           go none z = refl
-          go (some d) z = absurd (let v : _≡_ {A = ℕ} 0 1 = cc in omega arith)
+          go (some d) z = zero-one cc
 
       pub adds-given : Given buf len
       unfolding sheetFault

@@ -4,6 +4,7 @@ use mathlib.Core.Path.{_≡_, refl, sym, ap, ap₂, _∙_, subst}
 use mathlib.Core.List.{List}
 use native.Mathlib.Omega.{arith}
 use lib.ListN.{length}
+use Rattle.word.proofs.Cases.{zero-one}
 use Rattle.storage.specs.declared.Refusal.{Refusal}
 use Rattle.sheet.specs.declared.Fields.{Fields}
 use Rattle.sheet.specs.declared.Edit.{Edit}
@@ -48,14 +49,14 @@ module _ (kind : ℕ) (f : Fields) (r : Parts) (told : r ≡ partsOf (checkedOf 
     where
       go : (c : Checked) → Made kind c → partsOf c ≡ Refused e → c ≡ bad e
       go c (stops d) q = cc
-      go c (makes x k) q = absurd (let v : _≡_ {A = ℕ} 0 1 = cc in omega arith)
+      go c (makes x k) q = zero-one cc
 
   pub duty-good : (h l n : ℕ) → r ≡ Are h l → n ≡ orZero (sizeIn latest kind) → Duty kind h l n (checkedOf (duty kind f))
   unfolding partsOf bytesOf payloadOf
   duty-good h l n p s = go (checkedOf (duty kind f)) (made kind f) (sym told ∙ p)
     where
       go : (c : Checked) → Made kind c → partsOf c ≡ Are h l → Duty kind h l n c
-      go c (stops d) q = absurd (let v : _≡_ {A = ℕ} 0 1 = cc in omega arith)
+      go c (stops d) q = zero-one cc
       go c (makes e k) q =
           let a : numbered e / 2 ^ 64 ≡ h = cc in
           let b : numbered e % 2 ^ 64 ≡ l = cc in

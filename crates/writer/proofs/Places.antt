@@ -10,6 +10,7 @@ use lib.ListN.{set, length, length-append}
 use lib.Seq.{sets}
 use lib.Dec.{leb, ltb}
 use borrow.Author.Tests.{le-leb, lt-leb, lt-ltb, le-ltb, ltb-false}
+use Rattle.word.proofs.Cases.{zero-one}
 use Rattle.storage.specs.declared.Refusal.the-variants.{NoSpace}
 use Rattle.sheet.specs.declared.Added.the-variants.{Done, Refused}
 use Rattle.sheet.specs.Bytes.{bytes}
@@ -45,8 +46,8 @@ module _ (buf : List ℕ) (len n : ℕ) where
   room t e f = go (leb most (countIn buf)) refl (ltb (length buf) (len + 3 + n)) refl (sym e ∙ f)
     where
       go : (x : Bool) → leb most (countIn buf) ≡ x → (y : Bool) → ltb (length buf) (len + 3 + n) ≡ y → (x || y) ≡ false → RoomLeft
-      go true p y q z = absurd (let v : _≡_ {A = ℕ} 0 1 = cc in omega arith)
-      go false p true q z = absurd (let v : _≡_ {A = ℕ} 0 1 = cc in omega arith)
+      go true p y q z = zero-one cc
+      go false p true q z = zero-one cc
       go false p false q z = record { few = p; fits = ltb-false (length buf) (len + 3 + n) q }
 
 -- the count, then the record's first three bytes
