@@ -1,4 +1,4 @@
--- The members that an operation makes of two lists of words, counted word by word. Assumes nothing.
+-- The members that an operation makes of two lists of words, counted word by word.
 use mathlib.Core.Path.{_≡_, sym, ap, _∙_}
 use mathlib.Core.List.{List}
 use Prim.Native.Nat.{ℕ, _+_, _*_, _%_, _^_, _≤_, max}

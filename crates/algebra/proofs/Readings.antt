@@ -1,4 +1,4 @@
--- A call that reads two bitmaps: its answer by the words in use. Assumes nothing.
+-- A call that reads two bitmaps: its answer by the words in use.
 use mathlib.Core.Path.{_≡_, sym, ap, _∙_}
 use mathlib.Core.Bool.{Bool}
 use mathlib.Core.List.{List}

@@ -1,4 +1,4 @@
--- How many of eight bytes are at most n, by one difference and one product. Assumes nothing.
+-- How many of eight bytes are at most n, by one difference and one product.
 use mathlib.Core.Path.{_≡_, refl, sym, ap, ap₂, _∙_, subst}
 use mathlib.Core.Bool.{Bool, true, false}
 use Prim.Native.Nat.{ℕ, zero, suc, _+_, _-_, _*_, _/_, _%_, _^_, _≤_, _<_}

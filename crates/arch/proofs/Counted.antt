@@ -1,4 +1,4 @@
--- The number of set bits of each byte, counted in all bytes at once. What the steps do to one byte is computed at all 256. Assumes nothing.
+-- The number of set bits of each byte, counted in all bytes at once. What the steps do to one byte is computed at all 256.
 use mathlib.Core.Path.{_≡_, refl, sym, ap, ap₂, _∙_}
 use Prim.Native.Nat.{ℕ, zero, suc, _+_, _-_, _*_, _/_, _%_, _^_, _≤_, _<_}
 use native.Mathlib.Nat.{mod-eq-of-lt, add-sub-cancel-left}

@@ -1,4 +1,4 @@
--- The set bits of the words, counted word by word. Assumes nothing.
+-- The set bits of the words, counted word by word.
 use mathlib.Core.Path.{_≡_, refl, sym, ap, _∙_}
 use mathlib.Core.List.{List}
 use Prim.Native.Nat.{ℕ, _+_, _*_, _%_, _^_, _≤_}

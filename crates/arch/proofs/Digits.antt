@@ -1,4 +1,4 @@
--- The laws of `num`: a number by its bytes. Assumes nothing.
+-- The laws of `num`: a number by its bytes.
 use mathlib.Core.Path.{_≡_, refl, sym, ap, ap₂, _∙_}
 use Prim.Native.Nat.{ℕ, zero, suc, _+_, _-_, _*_, _/_, _%_, _^_, _≤_, _<_}
 use native.Mathlib.Nat.{not-suc-le-zero, mod-one, div-one, mul-suc, add-mul, mul-add, mul-assoc, mul-right-comm, mul-one, mul-comm, one-mul, zero-mul}

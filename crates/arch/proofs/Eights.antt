@@ -1,4 +1,4 @@
--- Eight words tested at once: the difference of each from x, joined, is 0 only where each is x. Assumes nothing.
+-- Eight words tested at once: the difference of each from x, joined, is 0 only where each is x.
 use mathlib.Core.Path.{_≡_}
 use mathlib.Core.List.{List}
 use Prim.Native.Nat.{ℕ, _+_}

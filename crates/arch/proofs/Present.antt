@@ -1,4 +1,4 @@
--- The byte that has the bit of rank n, and the table's entry for it, from the sums of the bytes' counts. Assumes nothing.
+-- The byte that has the bit of rank n, and the table's entry for it, from the sums of the bytes' counts.
 use mathlib.Core.Path.{_≡_, refl, sym, ap, ap₂, _∙_, subst}
 use mathlib.Core.List.{List}
 use Prim.Native.Nat.{ℕ, zero, suc, _+_, _-_, _*_, _/_, _%_, _^_, _≤_, _<_}

@@ -1,4 +1,4 @@
--- Whole words filled, and the region of bits that two edge words and the words between make up. Assumes nothing.
+-- Whole words filled, and the region of bits that two edge words and the words between make up.
 use mathlib.Core.Path.{_≡_, refl, sym, ap, ap₂, _∙_, subst}
 use mathlib.Core.Bool.{Bool, true, false, not, _&&_, _||_}
 use mathlib.Core.List.{List}

@@ -1,4 +1,4 @@
--- Scans by eights and by single words: what is passed, and where they stop. Assumes nothing.
+-- Scans by eights and by single words: what is passed, and where they stop.
 use mathlib.Core.Path.{_≡_, sym, ap, _∙_}
 use mathlib.Core.Bool.{Bool, not}
 use mathlib.Core.List.{List}

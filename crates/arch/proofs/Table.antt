@@ -1,4 +1,4 @@
--- The laws of the table of places, and of the choice by a table. Assumes nothing.
+-- The laws of the table of places, and of the choice by a table.
 use mathlib.Core.Path.{_≡_, sym, ap, ap₂, _∙_}
 use mathlib.Core.Bool.{Bool}
 use mathlib.Core.List.{List}

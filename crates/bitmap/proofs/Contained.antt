@@ -1,4 +1,4 @@
--- Results of the operations have space and hold no member past their words. Assumes nothing.
+-- Results of the operations have space and hold no member past their words.
 use mathlib.Core.Path.{_≡_, refl, sym, ap, ap₂, _∙_}
 use mathlib.Core.Bool.{Bool, true, false, _&&_, _||_}
 use mathlib.Core.List.{List}

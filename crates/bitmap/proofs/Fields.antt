@@ -1,4 +1,4 @@
--- A field written into bits that may have to come into use. Assumes nothing.
+-- A field written into bits that may have to come into use.
 use mathlib.Core.Path.{_≡_, refl, sym, ap, _∙_, subst, fun-ext}
 use mathlib.Core.Bool.{Bool, true, false, _&&_}
 use mathlib.Core.List.{List}

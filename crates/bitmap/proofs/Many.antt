@@ -1,4 +1,4 @@
--- Listed bits set, one after the other. Assumes nothing.
+-- Listed bits set, one after the other.
 use mathlib.Core.Path.{_≡_, refl, sym, ap, ap₂, _∙_, subst}
 use mathlib.Core.Bool.{Bool, true, false, _||_, false≢true}
 use mathlib.Core.List.{List, [], _∷_}

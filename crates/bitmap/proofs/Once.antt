@@ -1,5 +1,4 @@
 -- What is promised of each call determines its answer: the result, number by number, and its count; and no two conditions of refusal hold at once.
--- Assumes nothing.
 use mathlib.Core.Path.{_≡_, refl, sym, ap, _∙_, subst}
 use mathlib.Core.Bool.{Bool, true, false, not}
 use mathlib.Core.List.{List}

@@ -1,4 +1,4 @@
--- A region of bits set or cleared. Assumes nothing.
+-- A region of bits set or cleared.
 use mathlib.Core.Path.{_≡_, sym, ap, ap₂, _∙_, subst}
 use mathlib.Core.Bool.{Bool, true, false, _&&_}
 use mathlib.Core.List.{List, _++_}

@@ -1,4 +1,4 @@
--- Trimming, and one bit set or cleared. Assumes nothing.
+-- Trimming, and one bit set or cleared.
 use mathlib.Core.Path.{_≡_, refl, sym, ap, ap₂, _∙_, subst}
 use mathlib.Core.Bool.{Bool, not, _&&_, _||_}
 use mathlib.Core.List.{List}

@@ -1,4 +1,4 @@
--- One word worked on, and the count trimmed where it is the last and is 0. Assumes nothing.
+-- One word worked on, and the count trimmed where it is the last and is 0.
 use mathlib.Core.Path.{_≡_, refl, sym, ap, ap₂, _∙_, subst}
 use mathlib.Core.Bool.{Bool, true, false, not, _&&_, _||_, false≢true}
 use mathlib.Core.List.{List}

@@ -1,4 +1,4 @@
--- Members counted in a range, in parts of words. Assumes nothing.
+-- Members counted in a range, in parts of words.
 use mathlib.Core.Path.{_≡_, refl, sym, ap, ap₂, _∙_}
 use mathlib.Core.Bool.{Bool, false, _&&_}
 use mathlib.Core.List.{List}

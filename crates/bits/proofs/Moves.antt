@@ -1,4 +1,4 @@
--- What the loops over whole words leave. Assumes nothing.
+-- What the loops over whole words leave.
 use mathlib.Core.Path.{_≡_, refl, ap, ap₂, _∙_, sym, subst}
 use mathlib.Core.Bool.{Bool, true, false, not, _&&_}
 use mathlib.Core.List.{List, _++_}

@@ -1,4 +1,4 @@
--- A rank passed word by word, and the member that has it. Assumes nothing.
+-- A rank passed word by word, and the member that has it.
 use mathlib.Core.Path.{_≡_, sym, ap, _∙_, subst}
 use mathlib.Core.Bool.{Bool}
 use mathlib.Core.List.{List}

@@ -1,4 +1,4 @@
--- Every starred case holds, by computing what each contract makes of it. Assumes nothing.
+-- Every starred case holds, by computing what each contract makes of it.
 use Prim.Native.Nat.{ℕ}
 use mathlib.Core.Path.{_≡_, refl, ap, ap₂, subst, _∙_}
 use mathlib.Core.List.{List, [], _∷_}

@@ -1,4 +1,4 @@
--- The set operations into another store, by the words that an operation makes. Assumes nothing.
+-- The set operations into another store, by the words that an operation makes.
 use mathlib.Core.Path.{_≡_, refl, sym, ap, ap₂, _∙_, subst}
 use mathlib.Core.List.{List}
 use Prim.Native.Nat.{ℕ, _≤_, _<_, min, max}

@@ -1,4 +1,4 @@
--- 1 and 2 of the store that is written and of the two that are read. Assumes nothing.
+-- 1 and 2 of the store that is written and of the two that are read.
 use mathlib.Core.Path.{_≡_, _∙_}
 use mathlib.Core.List.{List}
 use Prim.Native.Nat.{ℕ}

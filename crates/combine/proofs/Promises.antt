@@ -1,4 +1,4 @@
--- The promises of specs/Promises. Assumes nothing.
+-- The promises of specs/Promises.
 use mathlib.Core.Path.{refl, subst}
 use mathlib.Core.List.{List}
 use Prim.Native.Nat.{ℕ, max}

@@ -1,4 +1,4 @@
--- The words that an operation makes of two lists, put part by part. Assumes nothing.
+-- The words that an operation makes of two lists, put part by part.
 use mathlib.Core.Path.{_≡_, sym, _∙_}
 use mathlib.Core.List.{List}
 use mathlib.Core.Logic.{_⊎_, inl, inr}

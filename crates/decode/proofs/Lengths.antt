@@ -1,4 +1,4 @@
--- The lengths of payloads, and what the table tells of a kind. Assumes nothing.
+-- The lengths of payloads, and what the table tells of a kind.
 use Prim.Native.Nat.{ℕ, zero, suc, _≤_}
 use mathlib.Core.Path.{_≡_, refl, sym, ap, _∙_}
 use mathlib.Core.Bool.{Bool, true, false}

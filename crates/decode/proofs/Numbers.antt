@@ -1,4 +1,4 @@
--- Numbers by their bytes: a list cut in two, and one byte more. Assumes nothing.
+-- Numbers by their bytes: a list cut in two, and one byte more.
 use Prim.Native.Nat.{ℕ, _+_, _*_, _^_, _≤_, _<_}
 use mathlib.Core.Path.{_≡_, refl, sym, ap, ap₂, _∙_, subst}
 use mathlib.Core.List.{List, [], _∷_, _++_}

@@ -1,4 +1,4 @@
--- Payloads as the code reads them: numbers of at most eight bytes, and fields cut out of them. Assumes nothing.
+-- Payloads as the code reads them: numbers of at most eight bytes, and fields cut out of them.
 use Prim.Native.Nat.{ℕ, _+_, _*_, _/_, _%_, _^_, _-_, _≤_, _<_}
 use mathlib.Core.Path.{_≡_, refl, sym, ap, ap₂, _∙_, subst}
 use mathlib.Core.Bool.{Bool}

@@ -1,4 +1,4 @@
--- The promise of specs/Promises. Assumes nothing.
+-- The promise of specs/Promises.
 use Prim.Native.Nat.{ℕ, _<_}
 use mathlib.Core.Path.{_≡_, refl, sym, ap, _∙_, subst}
 use mathlib.Core.Bool.{Bool, true}

@@ -1,4 +1,4 @@
--- The promises of specs/Promises. Assumes nothing.
+-- The promises of specs/Promises.
 use Prim.Native.Nat.{ℕ}
 use mathlib.Core.Path.{_≡_, refl, sym, _∙_, subst}
 use mathlib.Core.Bool.{true, false≢true}

@@ -1,4 +1,4 @@
--- The walk over the frames of a sheet. Assumes nothing.
+-- The walk over the frames of a sheet.
 use Prim.Native.Nat.{ℕ, suc, _+_, _-_, _≤_, _<_}
 use mathlib.Core.Path.{_≡_, sym, ap, _∙_}
 use mathlib.Core.Bool.{true, false}

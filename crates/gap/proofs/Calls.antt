@@ -1,4 +1,4 @@
--- The calls, from what the kernels leave. Assumes nothing.
+-- The calls, from what the kernels leave.
 use mathlib.Core.Path.{_≡_, refl, sym, ap, _∙_}
 use mathlib.Core.Bool.{Bool}
 use mathlib.Core.List.{List, _++_}

@@ -1,4 +1,4 @@
--- What `close` composes: the members from p + k on moved down, in the fewest words. Assumes nothing.
+-- What `close` composes: the members from p + k on moved down, in the fewest words.
 use mathlib.Core.Path.{_≡_, sym, ap, ap₂, _∙_, fun-ext}
 use mathlib.Core.Bool.{Bool, _&&_, _||_}
 use Prim.Native.Nat.{ℕ, _+_, _-_, _*_, _^_, _≤_, _<_, max}

@@ -1,4 +1,4 @@
--- What `open` composes: the members from p on moved up, in the fewest words. Assumes nothing.
+-- What `open` composes: the members from p on moved up, in the fewest words.
 use mathlib.Core.Path.{_≡_, refl, sym, ap, ap₂, _∙_, fun-ext}
 use mathlib.Core.Bool.{Bool, true, false, _&&_, _||_, false≢true}
 use Prim.Native.Nat.{ℕ, _+_, _-_, _*_, _/_, _^_, _≤_, _<_, max}

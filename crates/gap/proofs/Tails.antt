@@ -1,4 +1,4 @@
--- The words from a place's word on replaced, with the bits below the place kept. Assumes nothing.
+-- The words from a place's word on replaced, with the bits below the place kept.
 use mathlib.Core.Path.{_≡_, refl, sym, ap, ap₂, _∙_, subst}
 use mathlib.Core.Bool.{Bool, false, not, _&&_}
 use mathlib.Core.List.{List, _++_}

@@ -1,4 +1,4 @@
--- One past the greatest member of a set, moved and cut. Assumes nothing.
+-- One past the greatest member of a set, moved and cut.
 use mathlib.Core.Path.{_≡_, ap}
 use mathlib.Core.Bool.{Bool, true, false}
 use Prim.Native.Nat.{ℕ, suc, _+_, _-_, _*_, _≤_}

@@ -1,4 +1,4 @@
--- Words that are copied, moved by pieces or swapped. Assumes nothing.
+-- Words that are copied, moved by pieces or swapped.
 use mathlib.Core.Path.{_≡_, refl, sym, ap, _∙_}
 use mathlib.Core.List.{List, _++_}
 use Prim.Native.Nat.{ℕ, _+_, _-_, _≤_, _<_}

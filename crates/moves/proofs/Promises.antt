@@ -1,4 +1,4 @@
--- What is promised of the three moves holds of their definitions, and what goes up or down as promised is the definition. Assumes nothing.
+-- What is promised of the three moves holds of their definitions, and what goes up or down as promised is the definition.
 use mathlib.Core.Path.{_≡_, sym, ap, _∙_}
 use mathlib.Core.List.{List, _++_, append-nil}
 use Prim.Native.Nat.{ℕ, _+_, _-_, _≤_, _<_}

@@ -1,4 +1,4 @@
--- The last words before the others: through a buffer, and by swaps. Assumes nothing.
+-- The last words before the others: through a buffer, and by swaps.
 use mathlib.Core.Path.{_≡_, refl, sym, ap, _∙_}
 use mathlib.Core.List.{List, _++_}
 use Prim.Native.Nat.{ℕ, _+_, _-_, _≤_, _<_, min}

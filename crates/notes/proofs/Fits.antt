@@ -1,4 +1,4 @@
--- A text that was written fits its buffer. Assumes nothing.
+-- A text that was written fits its buffer.
 use mathlib.Core.Path.{_≡_, sym, ap, _∙_}
 use mathlib.Core.Bool.{Bool}
 use mathlib.Core.List.{List}

@@ -1,4 +1,4 @@
--- Scans of what a set operation makes of two lists: where they stop. Assumes nothing.
+-- Scans of what a set operation makes of two lists: where they stop.
 use mathlib.Core.Path.{_≡_, refl, sym, ap, ap₂, _∙_}
 use mathlib.Core.Bool.{true, false, not, false≢true}
 use mathlib.Core.List.{List}

@@ -1,4 +1,4 @@
--- The words that a set operation makes, place by place. Assumes nothing.
+-- The words that a set operation makes, place by place.
 use mathlib.Core.Path.{_≡_, refl, sym, ap, ap₂, _∙_, subst}
 use mathlib.Core.Bool.{Bool, false, _&&_}
 use mathlib.Core.List.{List}

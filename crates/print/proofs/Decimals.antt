@@ -1,4 +1,4 @@
--- The digits of a number. Assumes nothing.
+-- The digits of a number.
 use mathlib.Core.Path.{_≡_, refl, sym, ap, _∙_, subst}
 use mathlib.Core.Bool.{Bool, true, false}
 use mathlib.Core.List.{List, [], _∷_, _++_}

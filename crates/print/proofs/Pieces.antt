@@ -1,4 +1,4 @@
--- A run and what stands before it: lengths, and bytes put. Assumes nothing.
+-- A run and what stands before it: lengths, and bytes put.
 use mathlib.Core.Path.{_≡_, refl, sym, ap, _∙_, subst}
 use mathlib.Core.List.{List, [], _∷_, _++_}
 use Prim.Native.Nat.{ℕ, zero, suc, _+_, _≤_, _<_}

@@ -1,4 +1,4 @@
--- The printed form: the text of runs has it, and no other text does. Assumes nothing.
+-- The printed form: the text of runs has it, and no other text does.
 use mathlib.Core.Path.{_≡_, refl, sym, ap, ap₂, _∙_, subst}
 use mathlib.Core.Bool.{Bool}
 use mathlib.Core.List.{List, [], _∷_, _++_, append-nil}

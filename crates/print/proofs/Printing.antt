@@ -1,4 +1,4 @@
--- Measuring and printing a bitmap, run by run. Assumes nothing.
+-- Measuring and printing a bitmap, run by run.
 use mathlib.Core.Path.{_≡_, refl, sym, ap, ap₂, _∙_}
 use mathlib.Core.Bool.{Bool, true, false}
 use mathlib.Core.List.{List, [], _∷_, _++_, append-assoc, append-nil}

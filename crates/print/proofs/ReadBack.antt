@@ -1,4 +1,4 @@
--- What is printed of a set reads back as the set. Assumes nothing.
+-- What is printed of a set reads back as the set.
 use mathlib.Core.Path.{_≡_, refl, sym, ap, _∙_, subst, fun-ext}
 use mathlib.Core.Bool.{Bool, true, false, _&&_, false≢true}
 use mathlib.Core.List.{List, [], _∷_, _++_, append-nil}

@@ -1,4 +1,4 @@
--- The maximal runs of a set: that they are found, what they cover, and the next of them by two scans. Assumes nothing.
+-- The maximal runs of a set: that they are found, what they cover, and the next of them by two scans.
 use mathlib.Core.Path.{_≡_, refl, sym, ap, _∙_, subst}
 use mathlib.Core.Bool.{Bool, true, false, not, _&&_, _||_, false≢true}
 use mathlib.Core.List.{List, [], _∷_}

@@ -1,4 +1,4 @@
--- The course of a reading: 14, then 1 and 2 of each store, then the sheet. Assumes nothing.
+-- The course of a reading: 14, then 1 and 2 of each store, then the sheet.
 use Prim.Native.Nat.{ℕ, _≤_, _<_}
 use mathlib.Core.Path.{_≡_, refl, sym, ap, ap₂, _∙_}
 use mathlib.Core.Bool.{Bool, true, false, _&&_}

@@ -1,4 +1,4 @@
--- A store whose words past the count are zero. Assumes nothing.
+-- A store whose words past the count are zero.
 use Prim.Native.Nat.{ℕ, _^_, _≤_, _<_}
 use mathlib.Core.Path.{_≡_, sym, _∙_, subst}
 use mathlib.Core.List.{List}

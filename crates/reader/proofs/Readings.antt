@@ -1,4 +1,4 @@
--- A reading from its head on, and what it leaves in the result store. Assumes nothing.
+-- A reading from its head on, and what it leaves in the result store.
 use Prim.Native.Nat.{ℕ, _^_, _≤_, _<_}
 use mathlib.Core.Path.{_≡_, refl, sym, ap, ap₂, _∙_, subst}
 use mathlib.Core.Bool.{Bool, true, false}

@@ -1,4 +1,4 @@
--- The loop over the records: what is left to be read decides. Assumes nothing.
+-- The loop over the records: what is left to be read decides.
 use Prim.Native.Nat.{ℕ, suc, _+_, _-_, _≤_, _<_}
 use mathlib.Core.Path.{_≡_, refl, sym, ap, _∙_, subst}
 use mathlib.Core.Bool.{Bool, true, false}

@@ -1,4 +1,4 @@
--- What one record does to the bitmap in a store. Assumes nothing.
+-- What one record does to the bitmap in a store.
 use Prim.Native.Nat.{ℕ, _+_, _-_, _%_, _≤_, _<_}
 use mathlib.Core.Path.{_≡_, refl, sym, ap, _∙_, subst}
 use mathlib.Core.Bool.{Bool}

@@ -1,4 +1,4 @@
--- The set operations in place, by the words that an operation makes. Assumes nothing.
+-- The set operations in place, by the words that an operation makes.
 use mathlib.Core.Path.{_≡_, refl, sym, ap, _∙_, subst}
 use mathlib.Core.List.{List}
 use mathlib.Core.Logic.{_⊎_, inl, inr}

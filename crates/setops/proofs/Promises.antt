@@ -1,4 +1,4 @@
--- The promises of specs/Promises. Assumes nothing.
+-- The promises of specs/Promises.
 use mathlib.Core.Path.{refl, subst}
 use Rattle.pairs.specs.declared.SetOp.{SetOp}
 use Rattle.pairs.specs.declared.SetOp.the-variants.{Or}

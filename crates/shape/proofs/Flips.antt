@@ -1,4 +1,4 @@
--- A region of words flipped: whole words, and the edge words' other bits twice. Assumes nothing.
+-- A region of words flipped: whole words, and the edge words' other bits twice.
 use mathlib.Core.Path.{_≡_, refl, sym, ap, ap₂, _∙_, subst}
 use mathlib.Core.Bool.{Bool, true, false, not, _&&_}
 use mathlib.Core.List.{List, _++_}

@@ -1,4 +1,4 @@
--- What `split_off` promises. Assumes nothing.
+-- What `split_off` promises.
 use mathlib.Core.Path.{_≡_, refl, sym, ap, _∙_, subst}
 use mathlib.Core.List.{List}
 use mathlib.Core.Logic.{_⊎_, inl, inr}

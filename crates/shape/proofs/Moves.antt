@@ -1,4 +1,4 @@
--- Every member moved up or down. Assumes nothing.
+-- Every member moved up or down.
 use mathlib.Core.Path.{_≡_, refl, sym, ap, ap₂, _∙_}
 use mathlib.Core.Bool.{Bool}
 use mathlib.Core.List.{List, _++_}

@@ -1,4 +1,4 @@
--- A bitmap cut, resized and joined to another. Assumes nothing.
+-- A bitmap cut, resized and joined to another.
 use mathlib.Core.Path.{_≡_, refl, sym, ap, ap₂, _∙_, subst}
 use mathlib.Core.Bool.{Bool, false, _&&_, _||_}
 use mathlib.Core.List.{List, _++_}

@@ -1,4 +1,4 @@
--- A bitmap split: the tail moved down into a second store, the head cut. Assumes nothing.
+-- A bitmap split: the tail moved down into a second store, the head cut.
 use mathlib.Core.Path.{_≡_, refl, sym, ap, ap₂, _∙_, subst}
 use mathlib.Core.Bool.{Bool, false}
 use mathlib.Core.List.{List, _++_}

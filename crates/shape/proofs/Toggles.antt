@@ -1,4 +1,4 @@
--- A bit and a region flipped. Assumes nothing.
+-- A bit and a region flipped.
 use mathlib.Core.Path.{_≡_, sym, ap, ap₂, _∙_}
 use mathlib.Core.Bool.{Bool, _&&_}
 use mathlib.Core.List.{List}

@@ -1,4 +1,4 @@
--- What is wrong with a sheet: each number of `sheetFault` exactly where its condition holds. Assumes nothing.
+-- What is wrong with a sheet: each number of `sheetFault` exactly where its condition holds.
 use Prim.Native.Nat.{ℕ, zero, suc, _+_, _≤_, _<_}
 use mathlib.Core.Path.{_≡_, refl, sym, ap, _∙_, subst}
 use mathlib.Core.List.{List}

@@ -1,4 +1,4 @@
--- Fields packed into a number are unpacked as they were, and back. Assumes nothing.
+-- Fields packed into a number are unpacked as they were, and back.
 use Prim.Native.Nat.{ℕ, _+_, _*_, _^_, _/_, _%_, _<_}
 use mathlib.Core.Path.{_≡_, refl, sym, ap, ap₂, _∙_, subst}
 use mathlib.Core.Bool.{Bool, true, _&&_}

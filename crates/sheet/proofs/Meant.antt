@@ -1,4 +1,4 @@
--- What an edit means of a bitmap determines the result: the members, number by number, and the count. Assumes nothing.
+-- What an edit means of a bitmap determines the result: the members, number by number, and the count.
 use Prim.Native.Nat.{ℕ, _*_}
 use mathlib.Core.Path.{_≡_, sym, _∙_}
 use mathlib.Core.Bool.{true, false}

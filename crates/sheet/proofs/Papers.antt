@@ -1,4 +1,4 @@
--- The table of kinds is the paper's: each line is computed, and the digits follow for any fields. Assumes nothing.
+-- The table of kinds is the paper's: each line is computed, and the digits follow for any fields.
 use Prim.Native.Nat.{ℕ, zero, suc, _+_, _*_, _^_, _/_, _%_, _≤_, _<_}
 use mathlib.Core.Path.{_≡_, refl, sym, ap, ap₂, _∙_, subst}
 use mathlib.Core.Bool.{Bool}

@@ -1,4 +1,4 @@
--- Demand 3 of readings into stores: the promises of specs/Promises about `Reads`. Assumes nothing.
+-- Demand 3 of readings into stores: the promises of specs/Promises about `Reads`.
 use Prim.Native.Nat.{ℕ, suc, _≤_, _<_}
 use mathlib.Core.Path.{_≡_, refl, sym, ap, _∙_, subst}
 use mathlib.Core.Bool.{true, false}

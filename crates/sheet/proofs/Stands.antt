@@ -1,4 +1,4 @@
--- The reader's decoding of a record is the one that stands in the sheet, and no other. Assumes nothing.
+-- The reader's decoding of a record is the one that stands in the sheet, and no other.
 use Prim.Native.Nat.{ℕ, suc, _+_, _/_, _%_, _≤_, _<_}
 use mathlib.Core.Path.{_≡_, refl, sym, ap, _∙_, subst}
 use mathlib.Core.Bool.{Bool, true, false, false≢true}

@@ -1,4 +1,4 @@
--- The promises of specs/Promises about `Starts`, `Adds` and lists of calls. Assumes nothing.
+-- The promises of specs/Promises about `Starts`, `Adds` and lists of calls.
 use Prim.Native.Nat.{ℕ, _+_, _≤_, _<_}
 use mathlib.Core.Path.{_≡_, refl, sym, ap, ap₂, _∙_, subst}
 use mathlib.Core.Bool.{Bool, true, false, _||_}

@@ -1,4 +1,4 @@
--- A call that moves the members within the length, from what its kernel left of the words in use. Assumes nothing.
+-- A call that moves the members within the length, from what its kernel left of the words in use.
 use mathlib.Core.Path.{_≡_, sym, ap, ap₂, _∙_}
 use mathlib.Core.Bool.{Bool, _&&_}
 use mathlib.Core.List.{List, _++_}

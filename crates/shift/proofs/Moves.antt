@@ -1,4 +1,4 @@
--- What the walks of the shifts leave: each new word is made of two neighbours, and the words that nothing moves into are 0. Assumes nothing.
+-- What the walks of the shifts leave: each new word is made of two neighbours, and the words that nothing moves into are 0.
 use mathlib.Core.Path.{_≡_, refl, sym, ap, ap₂, _∙_}
 use mathlib.Core.Bool.{Bool, false, _&&_}
 use mathlib.Core.List.{List}

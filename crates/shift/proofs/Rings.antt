@@ -1,4 +1,4 @@
--- Places on a ring of any length, and sets that are turned on it. Assumes nothing.
+-- Places on a ring of any length, and sets that are turned on it.
 use mathlib.Core.Path.{_≡_, sym, ap, _∙_}
 use mathlib.Core.Bool.{Bool}
 use mathlib.Core.Logic.{_⊎_, inl, inr}

@@ -1,4 +1,4 @@
--- Words turned whole, and the walks that turn the odd bits. Assumes nothing.
+-- Words turned whole, and the walks that turn the odd bits.
 use mathlib.Core.Path.{_≡_, refl, sym, ap, ap₂, _∙_, subst}
 use mathlib.Core.Bool.{Bool}
 use mathlib.Core.List.{List}

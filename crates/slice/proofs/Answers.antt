@@ -1,4 +1,4 @@
--- What a call that only reads answers: a refusal of its store, or what is asked of the bitmap. Assumes nothing.
+-- What a call that only reads answers: a refusal of its store, or what is asked of the bitmap.
 use mathlib.Core.Path.{_≡_, sym, _∙_}
 use mathlib.Core.List.{List}
 use Prim.Native.Nat.{ℕ}

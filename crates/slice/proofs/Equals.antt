@@ -1,4 +1,4 @@
--- Two bitmaps have the same members exactly where their words agree after trailing zero words are dropped. Assumes nothing.
+-- Two bitmaps have the same members exactly where their words agree after trailing zero words are dropped.
 use mathlib.Core.Path.{_≡_, refl, sym, ap, ap₂, _∙_}
 use mathlib.Core.Bool.{Bool, true, false, not, false≢true, true≢false}
 use mathlib.Core.List.{List}

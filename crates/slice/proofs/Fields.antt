@@ -1,4 +1,4 @@
--- One bit, and a field read from two neighbouring words. Assumes nothing.
+-- One bit, and a field read from two neighbouring words.
 use mathlib.Core.Path.{_≡_, refl, sym, ap, ap₂, _∙_}
 use mathlib.Core.Bool.{Bool, not, _&&_}
 use mathlib.Core.List.{List}

@@ -1,5 +1,5 @@
 -- The least member from a place on, of a set given by its words: it is in the word of the place, or in the first word after it that is not 0.
--- A set of clear places is given by the complements of the words. Assumes nothing.
+-- A set of clear places is given by the complements of the words.
 use mathlib.Core.Path.{_≡_, sym, ap, _∙_}
 use mathlib.Core.Bool.{Bool, true, false, _&&_}
 use Prim.Native.Nat.{ℕ, _+_, _-_, _*_, _/_, _%_, _^_, _≤_, _<_}

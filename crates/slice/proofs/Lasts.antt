@@ -1,4 +1,4 @@
--- What `last_set` tells its caller. Assumes nothing.
+-- What `last_set` tells its caller.
 use mathlib.Core.Path.{_≡_, sym, ap, _∙_}
 use mathlib.Core.Bool.{Bool}
 use mathlib.Core.List.{List}

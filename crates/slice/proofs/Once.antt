@@ -1,5 +1,4 @@
 -- What is promised of `set_field_strict` determines its answer: the result, number by number, and its count; and no two conditions of refusal hold at once.
--- Assumes nothing.
 use mathlib.Core.Path.{_≡_, sym, ap, _∙_}
 use mathlib.Core.Logic.{inl, inr}
 use Prim.Native.Nat.{ℕ, _+_, _-_, _*_, _≤_, _<_}

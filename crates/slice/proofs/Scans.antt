@@ -1,4 +1,4 @@
--- The scans, the greatest member and the count, from what the kernels leave. Assumes nothing.
+-- The scans, the greatest member and the count, from what the kernels leave.
 use mathlib.Core.Path.{_≡_, sym, ap, _∙_}
 use mathlib.Core.Bool.{Bool, not}
 use mathlib.Core.List.{List}

@@ -1,4 +1,4 @@
--- A strict field written to one word or to two neighbouring ones. Assumes nothing.
+-- A strict field written to one word or to two neighbouring ones.
 use mathlib.Core.Path.{_≡_, refl, sym, ap, ap₂, _∙_, subst}
 use mathlib.Core.Bool.{Bool, true, false, not, _&&_, _||_}
 use mathlib.Core.List.{List}

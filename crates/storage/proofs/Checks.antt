@@ -1,4 +1,4 @@
--- The refusals 1 and 2, of one store and of several, and 6. Assumes nothing.
+-- The refusals 1 and 2, of one store and of several, and 6.
 use mathlib.Core.Path.{_≡_, refl, sym, ap, _∙_}
 use mathlib.Core.List.{List}
 use mathlib.Core.Logic.{_⊎_, inl, inr}

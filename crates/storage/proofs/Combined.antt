@@ -1,4 +1,4 @@
--- What a set operation makes of two bitmaps, by the words in use of both. Assumes nothing.
+-- What a set operation makes of two bitmaps, by the words in use of both.
 use mathlib.Core.Path.{_≡_, refl, sym, ap, ap₂, _∙_, fun-ext, subst}
 use mathlib.Core.Bool.{Bool, false}
 use mathlib.Core.List.{List}

@@ -1,4 +1,4 @@
--- What a store holds after growth and a kernel on the words in use. Assumes nothing.
+-- What a store holds after growth and a kernel on the words in use.
 use mathlib.Core.Path.{_≡_, refl, sym, ap, ap₂, _∙_, fun-ext, subst}
 use mathlib.Core.Bool.{Bool, false}
 use mathlib.Core.List.{List, _++_}

@@ -1,4 +1,4 @@
--- Rules that make one result, with the conditions of refusal that most calls have. Assumes nothing.
+-- Rules that make one result, with the conditions of refusal that most calls have.
 use mathlib.Core.Path.{_≡_, sym, ap, ap₂, _∙_, fun-ext}
 use mathlib.Core.Bool.{Bool, true}
 use mathlib.Core.Logic.{_↔_}

@@ -1,4 +1,4 @@
--- What an outcome tells, and operations whose results have space and hold no member past their words. Assumes nothing.
+-- What an outcome tells, and operations whose results have space and hold no member past their words.
 use mathlib.Core.Path.{_≡_, refl, sym, ap, ap₂, _∙_, subst}
 use mathlib.Core.List.{List}
 use Prim.Native.Nat.{ℕ, _≤_, _<_}

@@ -1,4 +1,4 @@
--- How many members the words in use have. Assumes nothing.
+-- How many members the words in use have.
 use mathlib.Core.Path.{_≡_, sym, ap, _∙_}
 use mathlib.Core.List.{List}
 use Prim.Native.Nat.{ℕ, _*_, _≤_}

@@ -1,4 +1,4 @@
--- What is written reads back, and what a call leaves. Assumes nothing.
+-- What is written reads back, and what a call leaves.
 use mathlib.Core.Path.{_≡_, refl, sym, ap, _∙_, fun-ext, subst}
 use mathlib.Core.Bool.{Bool, _&&_}
 use mathlib.Core.List.{List, _++_}

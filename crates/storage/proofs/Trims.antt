@@ -1,4 +1,4 @@
--- The trimmed count: the fewest words that hold every member. Assumes nothing.
+-- The trimmed count: the fewest words that hold every member.
 use mathlib.Core.Path.{_≡_, refl, sym, ap, _∙_, subst}
 use mathlib.Core.Bool.{Bool, true, false, not, false≢true}
 use mathlib.Core.List.{List}

@@ -1,4 +1,4 @@
--- The first words of a store, as a set. Assumes nothing.
+-- The first words of a store, as a set.
 use mathlib.Core.Path.{_≡_, refl, sym, ap, _∙_, fun-ext}
 use mathlib.Core.Bool.{Bool, false, _&&_}
 use mathlib.Core.List.{List}

@@ -1,4 +1,4 @@
--- Every text of the grammar is read, with its ranges. Assumes nothing.
+-- Every text of the grammar is read, with its ranges.
 use mathlib.Core.Path.{_≡_, refl, sym, ap, ap₂, _∙_, subst}
 use mathlib.Core.Logic.{⊎-elim, _⊎_, inl, inr}
 use mathlib.Core.Bool.{Bool, true, false, _&&_, _||_}

@@ -1,4 +1,4 @@
--- A text is read as the list of ranges that the grammar gives it, and no other text is read. Assumes nothing.
+-- A text is read as the list of ranges that the grammar gives it, and no other text is read.
 use mathlib.Core.Path.{_≡_, refl, sym, ap, _∙_, subst, subst₂}
 use mathlib.Core.Logic.{⊎-elim, _⊎_, inl, inr, _↔_}
 use mathlib.Core.Bool.{Bool, true, false, false≢true, true≢false}

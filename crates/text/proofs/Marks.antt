@@ -1,4 +1,4 @@
--- Words in which ranges are set, one after the other. Assumes nothing.
+-- Words in which ranges are set, one after the other.
 use mathlib.Core.Path.{_≡_, refl, sym, ap, ap₂, _∙_}
 use mathlib.Core.Bool.{Bool, true, false, _&&_, _||_, or-assoc}
 use mathlib.Core.List.{List, [], _∷_, _++_}

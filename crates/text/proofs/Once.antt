@@ -1,5 +1,4 @@
 -- What is promised of `from_list` determines its answer: the result, number by number, and its count; and no two conditions of refusal hold at once.
--- Assumes nothing.
 use mathlib.Core.Path.{_≡_, sym, _∙_, subst}
 use mathlib.Core.List.{List}
 use mathlib.Core.Logic.{inl, inr}

@@ -1,4 +1,4 @@
--- What a byte, a token's state and a token's end come to, where they are known by equations. Assumes nothing.
+-- What a byte, a token's state and a token's end come to, where they are known by equations.
 use mathlib.Core.Path.{_≡_, refl, sym, ap, _∙_}
 use mathlib.Core.Bool.{Bool, true, false, _&&_}
 use mathlib.Core.List.{List}

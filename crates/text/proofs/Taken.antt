@@ -1,4 +1,4 @@
--- What `from_list` answers and leaves. Assumes nothing.
+-- What `from_list` answers and leaves.
 use mathlib.Core.Path.{_≡_, refl, sym, ap, _∙_, subst}
 use mathlib.Core.Bool.{Bool, true, false, _||_}
 use mathlib.Core.List.{List, [], _++_}

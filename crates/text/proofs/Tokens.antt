@@ -1,4 +1,4 @@
--- The walk over a list text, token by token. Assumes nothing.
+-- The walk over a list text, token by token.
 use mathlib.Core.Path.{_≡_, refl, sym, ap, _∙_}
 use mathlib.Core.Bool.{Bool, true, false, false≢true, true≢false}
 use mathlib.Core.List.{List, [], _∷_, _++_}

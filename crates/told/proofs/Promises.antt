@@ -1,4 +1,4 @@
--- The promises of specs/Promises. Assumes nothing.
+-- The promises of specs/Promises.
 use mathlib.Core.Path.{refl}
 use Rattle.told.specs.declared.Told.{Told}
 use Rattle.told.specs.Promises.{Four, FourNumbers}

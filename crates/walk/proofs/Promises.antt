@@ -1,4 +1,4 @@
--- The promise of specs/Promises. Assumes nothing.
+-- The promise of specs/Promises.
 use mathlib.Core.Path.{refl, sym, subst, fun-ext}
 use mathlib.Core.Bool.{Bool}
 use Prim.Native.Nat.{ℕ}

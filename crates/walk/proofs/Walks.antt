@@ -1,4 +1,4 @@
--- A walk to the least member from a place on, word by word. Assumes nothing.
+-- A walk to the least member from a place on, word by word.
 use mathlib.Core.Path.{_≡_, refl, sym, ap, ap₂, _∙_, subst}
 use mathlib.Core.Bool.{Bool, true, false, _&&_, false≢true}
 use mathlib.Core.List.{List}

@@ -1,4 +1,4 @@
--- By cases on an order and on truth values. Assumes nothing.
+-- By cases on an order and on truth values.
 use mathlib.Core.Path.{_≡_, refl, sym, _∙_, subst}
 use mathlib.Core.Bool.{Bool, true, false, not, _&&_, _||_, false≢true}
 use mathlib.Core.Logic.{_↔_}

@@ -1,4 +1,4 @@
--- Eight words tested at once: joined, they are 0 only where each is. Assumes nothing.
+-- Eight words tested at once: joined, they are 0 only where each is.
 use mathlib.Core.Path.{_≡_, sym, ap, _∙_}
 use Prim.Native.Nat.{ℕ, zero, suc, _+_, _-_, _≤_, _<_}
 use native.Mathlib.Omega.{arith}

@@ -1,4 +1,4 @@
--- What a loop leaves that goes from both ends: the words below lo and from hi on are new, those between are old. Assumes nothing.
+-- What a loop leaves that goes from both ends: the words below lo and from hi on are new, those between are old.
 use mathlib.Core.Path.{_≡_, refl, sym, ap, _∙_}
 use mathlib.Core.List.{List}
 use Prim.Native.Nat.{ℕ, _+_, _-_, _≤_, _<_}

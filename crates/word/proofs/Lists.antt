@@ -1,4 +1,4 @@
--- Lists made from an index, and words that are determined by their set. Assumes nothing.
+-- Lists made from an index, and words that are determined by their set.
 use mathlib.Core.Path.{_≡_, refl, sym, ap, ap₂, _∙_, subst}
 use mathlib.Core.Bool.{Bool, false}
 use mathlib.Core.List.{List}

@@ -1,4 +1,4 @@
--- The laws of `bit` and `pack`, over the width. Assumes nothing.
+-- The laws of `bit` and `pack`, over the width.
 use mathlib.Core.Path.{_≡_, refl, sym, ap, ap₂, _∙_, subst}
 use mathlib.Core.Logic.{⊎-elim}
 use mathlib.Core.Bool.{Bool, true, false, not, _&&_, _||_}

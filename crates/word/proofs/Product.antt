@@ -1,4 +1,4 @@
--- A product modulo a power of two, from the halves of its factors. Assumes nothing.
+-- A product modulo a power of two, from the halves of its factors.
 use mathlib.Core.Path.{_≡_, sym, _∙_, ap}
 use Prim.Native.Nat.{ℕ, _+_, _*_, _%_, _/_, _^_, _<_}
 use native.Mathlib.Nat.{mod-add-mod, mul-add-mod-self-right, div-add-mod', add-mul, mul-add, mul-assoc, mul-right-comm, mul-mul-mul-comm, lt-of-le-of-lt, mul-le-mul-left, le-of-lt}

@@ -1,4 +1,4 @@
--- Reversal by swaps of neighbouring groups: one law for a swap at any mask, and the places that six swaps take each bit from, computed. Assumes nothing.
+-- Reversal by swaps of neighbouring groups: one law for a swap at any mask, and the places that six swaps take each bit from, computed.
 use mathlib.Core.Path.{_≡_, refl, sym, ap, ap₂, _∙_}
 use mathlib.Core.Bool.{Bool, true, false, not, _&&_, _||_}
 use Prim.Native.Nat.{ℕ, suc, _+_, _-_, _*_, _/_, _%_, _^_, _<_}

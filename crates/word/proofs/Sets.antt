@@ -1,4 +1,4 @@
--- Counts of members, the least, the greatest, and the member of a rank: what the definitions answer. Assumes nothing.
+-- Counts of members, the least, the greatest, and the member of a rank: what the definitions answer.
 use mathlib.Core.Path.{_≡_, refl, sym, ap, ap₂, _∙_}
 use mathlib.Core.Bool.{Bool, true, false, _&&_}
 use Prim.Native.Nat.{ℕ, zero, suc, _+_, _-_, _≤_, _<_}

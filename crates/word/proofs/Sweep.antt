@@ -1,4 +1,4 @@
--- What a loop leaves that stores one word a turn: the words from a up to e are new, the others are old. Assumes nothing.
+-- What a loop leaves that stores one word a turn: the words from a up to e are new, the others are old.
 use mathlib.Core.Path.{_≡_, refl, sym, ap, _∙_, subst}
 use mathlib.Core.Bool.{Bool}
 use mathlib.Core.List.{List, _++_}

@@ -1,4 +1,4 @@
--- What the functions of word.rs make of a word, over the width. Assumes nothing.
+-- What the functions of word.rs make of a word, over the width.
 use mathlib.Core.Path.{_≡_, refl, sym, ap, ap₂, _∙_, subst}
 use mathlib.Core.Bool.{Bool, true, false, not, _&&_, _||_}
 use Prim.Native.Nat.{ℕ, zero, suc, _+_, _-_, _*_, _/_, _%_, _^_, _≤_, _<_}

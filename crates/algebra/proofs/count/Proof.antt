@@ -1,3 +1,4 @@
+-- The guard of both stores, then how many members the operation makes of the words in use.
 use mathlib.Core.Path.{sym, _∙_}
 use borrow.Author.Needs.{needs}
 use lib.Seq.{length-take-le}

@@ -1,3 +1,4 @@
+-- The guard of both stores, then whether no number is a member of both.
 use mathlib.Core.Path.{sym, _∙_}
 use borrow.Author.Needs.{needs}
 use lib.Seq.{length-take-le}

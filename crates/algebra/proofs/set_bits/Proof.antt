@@ -1,4 +1,4 @@
--- One invariant of the three loops, which differ in where they stop: `sum` has the members that the operation makes below word k.
+-- The members that the operation makes are counted, mod 2^64. Each loop: `sum` has those below word k.
 use mathlib.Core.Path.{_≡_}
 use Prim.Native.Nat.{_-_, _≤_, min, max}
 use native.Mathlib.Omega.{arith}

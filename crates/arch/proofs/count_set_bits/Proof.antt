@@ -1,3 +1,4 @@
+-- The set bits of all words are counted, mod 2^64. Loop: n has those of the words below i.
 use mathlib.Core.Path.{_≡_}
 use Prim.Native.Nat.{_-_, _*_, _%_, _^_, _≤_}
 use native.Mathlib.Omega.{arith}

@@ -1,3 +1,4 @@
+-- Every word below the answer is x, and the answer is within the length. Loop: the words below i are x.
 use Prim.Native.Nat.{_-_, _≤_}
 use native.Mathlib.Omega.{arith}
 use lib.ListN.{length}

@@ -1,3 +1,4 @@
+-- The bits from `from` on, below `end`, become the value, as far as there are words: the first word by a mask, whole words, the last by a mask.
 use native.Mathlib.Omega.{arith}
 use borrow.Author.Needs.{needs}
 use Rattle.arch.proofs.Regions.{region-by}

@@ -1,3 +1,4 @@
+-- The words from a on, below e, become x, as far as there are words. Loop: below i they are x, from i on as they were.
 use mathlib.Core.Path.{refl}
 use Prim.Native.Nat.{_-_, _≤_, max, min}
 use native.Mathlib.Omega.{arith}

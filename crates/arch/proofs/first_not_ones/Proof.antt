@@ -1,3 +1,4 @@
+-- The first word other than all ones with its index; nothing where that index is the length.
 use borrow.Author.Needs.{needs}
 use Rattle.arch.proofs.Scans.{found-at, found-none}
 use Rattle.arch.proofs.first_not_ones.Statement.{statement}

@@ -1,3 +1,4 @@
+-- The index of the first word other than x, or the length. Loop: every word below i is x.
 use Prim.Native.Nat.{_-_}
 use native.Mathlib.Omega.{arith}
 use borrow.Author.Needs.{needs}

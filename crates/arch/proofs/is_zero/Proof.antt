@@ -1,3 +1,4 @@
+-- Every word is 0 exactly where the first word other than 0 is at the length.
 use borrow.Author.Needs.{needs}
 use Rattle.arch.proofs.Scans.{zero-is}
 use Rattle.arch.proofs.is_zero.Statement.{statement}

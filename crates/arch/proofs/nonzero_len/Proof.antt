@@ -1,3 +1,4 @@
+-- The length without trailing zero words. Loop: every word from `end` on is 0.
 use Prim.Native.Nat.{_≤_}
 use native.Mathlib.Omega.{arith}
 use borrow.Author.Needs.{needs}

@@ -1,3 +1,4 @@
+-- Where the answer is 0 the eight words from i on are all x: each of the eight differences is 0.
 use native.Mathlib.Omega.{arith}
 use Rattle.arch.proofs.Eights.{others-none}
 use Rattle.arch.proofs.others_in_eight.Statement.{statement}

@@ -1,3 +1,4 @@
+-- Word k has the value at the mask's places, its own at the others: no change past the end, then the mask is joined, or taken out.
 use mathlib.Core.Path.{sym, ap, _∙_}
 use native.Mathlib.Omega.{arith}
 use borrow.Author.Needs.{needs}

@@ -1,3 +1,4 @@
+-- The places of word k that lie from `from` on, below `end`: the low mask up to `end` without the one up to `from`.
 use mathlib.Core.Path.{ap, _∙_}
 use borrow.Author.Needs.{needs}
 use Rattle.word.specs.Words.{lowMask}

@@ -1,3 +1,4 @@
+-- Word k; 0 from the end on.
 use mathlib.Core.Path.{sym}
 use borrow.Author.Needs.{needs}
 use Rattle.word.proofs.Lists.{past}

@@ -1,3 +1,4 @@
+-- Every word from the answer on is 0, and the answer is within the length. Loop: the words from `end` on are 0.
 use Prim.Native.Nat.{_≤_}
 use native.Mathlib.Omega.{arith}
 use lib.ListN.{length}

@@ -1,3 +1,4 @@
+-- The guard, then no change past the words in use, then of its word only bit i stays; if that word is last and 0, trailing zero words go.
 use mathlib.Core.Path.{sym, _∙_}
 use native.Mathlib.Omega.{arith}
 use borrow.Author.Needs.{needs}

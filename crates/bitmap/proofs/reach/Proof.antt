@@ -1,3 +1,4 @@
+-- The words up to those of all listed bits. Loop: `most` is as many as the first t listed bits need.
 use mathlib.Core.Path.{_≡_, ap, _∙_}
 use Prim.Native.Nat.{_+_, _-_, _/_, _≤_, ℕ, max}
 use native.Mathlib.Omega.{arith}

@@ -1,3 +1,4 @@
+-- The guard, then 3, then a field of zeros by `set_region`, then 4, then 6, then growth, and the field's bits are those of the value.
 use mathlib.Core.Path.{refl, sym, _∙_}
 use native.Mathlib.Omega.{arith}
 use borrow.Author.Needs.{needs}

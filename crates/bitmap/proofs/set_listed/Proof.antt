@@ -1,3 +1,4 @@
+-- The listed bits are set and the others stay. Loop: the first t listed bits are set, all others are as they were.
 use mathlib.Core.Path.{subst}
 use mathlib.Core.List.{List}
 use Prim.Native.Nat.{_-_, _≤_, ℕ}

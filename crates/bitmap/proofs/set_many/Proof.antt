@@ -1,3 +1,4 @@
+-- The guard, then 6 where the store has no word for one of the bits, then growth by zero words, and every listed bit is set.
 use mathlib.Core.Path.{sym, _∙_}
 use native.Mathlib.Omega.{arith}
 use Rattle.storage.specs.Guards.{Passed}

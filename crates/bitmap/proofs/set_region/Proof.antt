@@ -1,3 +1,4 @@
+-- The guard, then no change for k 0, then 4, then false clears what is there, then 6, then growth, and the k bits from i on are set.
 use mathlib.Core.Path.{sym, _∙_, ap}
 use Prim.Native.Nat.{ℕ, _+_, _-_, max, min}
 use native.Mathlib.Omega.{arith}

@@ -1,3 +1,4 @@
+-- n where word k is not the last, then n where it is not 0, else the length of the n words without trailing zeros.
 use mathlib.Core.Path.{sym}
 use native.Mathlib.Omega.{arith}
 use borrow.Author.Needs.{needs}

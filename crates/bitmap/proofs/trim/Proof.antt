@@ -1,3 +1,4 @@
+-- The guard, then the count without trailing zero words; no word changes.
 use mathlib.Core.Path.{sym, _∙_}
 use native.Mathlib.Omega.{arith}
 use borrow.Author.Needs.{needs}

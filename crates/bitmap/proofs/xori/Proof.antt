@@ -1,3 +1,4 @@
+-- The guard, then 6 where the store has no word for i, then growth, and bit i flips; if its word is last and 0, trailing zero words go.
 use mathlib.Core.Path.{sym, _∙_}
 use Prim.Native.Nat.{max}
 use native.Mathlib.Omega.{arith}

@@ -1,3 +1,4 @@
+-- The set bits from i on, below `end`, are counted: no bits, then one word, then an end between two words, then a part of the last word too.
 use native.Mathlib.Omega.{arith}
 use borrow.Author.Needs.{needs}
 use Rattle.word.specs.Places.{member}

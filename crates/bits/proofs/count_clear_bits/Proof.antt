@@ -1,3 +1,4 @@
+-- The guard, then the bits below the length less the set ones, which are no more.
 use mathlib.Core.Path.{sym, ap, _∙_}
 use native.Mathlib.Omega.{arith}
 use borrow.Author.Needs.{needs}

@@ -1,3 +1,4 @@
+-- The set bits of x from place `from` on, below `end`: x moved down by `from`, and of it the low end - from places.
 use native.Mathlib.Omega.{arith}
 use borrow.Author.Needs.{needs}
 use Rattle.bits.proofs.Counts.{places-count}

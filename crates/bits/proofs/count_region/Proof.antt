@@ -1,3 +1,4 @@
+-- The guard, then 0 for i from the length on, then the set bits from i on, below i + k and the length.
 use mathlib.Core.Path.{sym, ap, _∙_}
 use Prim.Native.Nat.{ℕ, _+_, min}
 use native.Mathlib.Omega.{arith}

@@ -1,3 +1,4 @@
+-- The guard, then every bit of the words in use flips, and the other words stay.
 use mathlib.Core.Path.{sym, _∙_}
 use borrow.Author.Needs.{needs}
 use lib.Seq.{length-take-le}

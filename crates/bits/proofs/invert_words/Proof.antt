@@ -1,3 +1,4 @@
+-- Every bit flips. Loop: the words below k are all ones less what they were, from k on they are as they were.
 use mathlib.Core.Path.{_≡_, ap}
 use Prim.Native.Nat.{_-_, _^_, _≤_, ℕ}
 use native.Mathlib.Omega.{arith}

@@ -1,3 +1,4 @@
+-- The guard, then the number of set bits below i, or below the length where i is past it.
 use mathlib.Core.Path.{sym, ap, _∙_}
 use Prim.Native.Nat.{min}
 use native.Mathlib.Omega.{arith}

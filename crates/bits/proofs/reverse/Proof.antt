@@ -1,3 +1,4 @@
+-- The guard, then bit i goes to the length less i less 1, and the words out of use stay.
 use mathlib.Core.Path.{sym, _∙_}
 use borrow.Author.Needs.{needs}
 use lib.Seq.{length-take-le}

@@ -1,3 +1,4 @@
+-- Bit i goes to the length less i less 1. Loop: words below `lo` and from `hi` on are the mirrored ones of the other end, those between as they were.
 use mathlib.Core.Path.{_≡_}
 use Prim.Native.Nat.{suc, _+_, _-_}
 use native.Mathlib.Omega.{arith}

@@ -1,3 +1,4 @@
+-- The set bit with r set bits below it: the guard, then nothing where all words are passed, then by what is left of the rank in word `at`.
 use mathlib.Core.Path.{sym, _∙_}
 use native.Mathlib.Omega.{arith}
 use borrow.Author.Needs.{needs}

@@ -1,3 +1,4 @@
+-- The set bits of the words before `at` and `left` make up r. Loop: so they do behind every eight that is passed.
 use Prim.Native.Nat.{_-_}
 use native.Mathlib.Omega.{arith}
 use borrow.Author.Needs.{needs}

@@ -1,3 +1,4 @@
+-- The set bits before `at` and `left` make up r, and word `at`, if there, has more than `left`. Loop: the set bits before `at` and `left` make up r.
 use Prim.Native.Nat.{_-_}
 use native.Mathlib.Omega.{arith}
 use borrow.Author.Needs.{needs}

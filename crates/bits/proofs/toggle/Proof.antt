@@ -1,3 +1,4 @@
+-- The guard, then 5 for a word past those in use, then bit i flips and no other.
 use mathlib.Core.Path.{sym, _∙_}
 use native.Mathlib.Omega.{arith}
 use borrow.Author.Needs.{needs}

@@ -1,4 +1,4 @@
--- The guard, the words of the longer; those that both have, and then the rest.
+-- The guard of three stores, then 6, then the members of either in as many words as the longer; words out of use become 0.
 use mathlib.Core.Path.{sym, _∙_}
 use native.Mathlib.Omega.{arith}
 use lib.Seq.{length-take-le}

@@ -1,3 +1,4 @@
+-- What a payload of its kind's length asks for: kinds 1 and 2 by `place`, 3 by `region`, 4 by `field`, 5 and 6 by `turn`, 7 by `size`, 8 at once, 9 to 11 by `pair`.
 use native.Mathlib.Omega.{arith}
 use Rattle.decode.proofs.Payloads.{just-reverse}
 use Rattle.decode.proofs.Lengths.{of-kind, as-kind, of-place, of-region, of-field, of-turn, of-size, of-reverse, of-pair}

@@ -1,3 +1,4 @@
+-- What a duty record asks for: 13 where the edition lacks the kind, then 12 for a payload of another length, then what `decode` makes of it.
 use native.Mathlib.Omega.{arith}
 use mathlib.Core.Path.{sym, _∙_}
 use Rattle.decode.proofs.Lengths.{held, asked-newer, asked-long, asked-edit}

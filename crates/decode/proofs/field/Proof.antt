@@ -1,3 +1,4 @@
+-- What kind 4 asks for: 12 where the unused bit is set, then 12 for a width over 64, then p, the width and the value put together from two parts.
 use mathlib.Core.Path.{sym}
 use lib.Seq.{length-take-le}
 use native.Mathlib.Omega.{arith}

@@ -1,3 +1,4 @@
+-- The number of at most eight bytes, below 256 to the power of their count. Loop: x is the number of the first i bytes, below 256 to the power i.
 use Prim.Native.Nat.{_-_}
 use mathlib.Core.Path.{refl}
 use native.Mathlib.Omega.{arith}

@@ -1,3 +1,4 @@
+-- What kinds 9, 10 and 11 ask for: p is the high half of eight bytes and k the low one; 9 toggles, 10 opens, 11 closes.
 use native.Mathlib.Omega.{arith}
 use Rattle.decode.proofs.Payloads.{pair-toggle, pair-open, pair-close}
 use borrow.Author.Needs.{needs}

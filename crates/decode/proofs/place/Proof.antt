@@ -1,3 +1,4 @@
+-- What kinds 1 and 2 ask for: the four bytes are p, which 1 sets and 2 unsets.
 use native.Mathlib.Omega.{arith}
 use Rattle.decode.proofs.Payloads.{place-set, place-unset}
 use borrow.Author.Needs.{needs}

@@ -1,3 +1,4 @@
+-- What kind 3 asks for: 12 where an unused bit is set, then the value, p put together from two parts, and k.
 use mathlib.Core.Path.{sym}
 use lib.Seq.{length-take-le}
 use native.Mathlib.Omega.{arith}

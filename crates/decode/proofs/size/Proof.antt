@@ -1,3 +1,4 @@
+-- What kind 7 asks for: 12 where an unused bit is set, then 12 for more bits than a resize may have, then the resize.
 use native.Mathlib.Omega.{arith}
 use Rattle.decode.proofs.Payloads.{size-bad, size-over, size-good}
 use borrow.Author.Needs.{needs}

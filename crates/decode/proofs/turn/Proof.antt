@@ -1,3 +1,4 @@
+-- What kinds 5 and 6 ask for: 12 where an unused bit is set, then direction and k, of a shift for 5 and of a rotation for 6.
 use native.Mathlib.Omega.{arith}
 use Rattle.decode.proofs.Payloads.{turn-bad, turn-shift, turn-rotate}
 use borrow.Author.Needs.{needs}

@@ -1,3 +1,4 @@
+-- The byte at a place, below 256: read where the place is inside, 0 past the end.
 use mathlib.Core.Path.{refl, sym}
 use native.Mathlib.Omega.{arith}
 use Rattle.word.proofs.Lists.{past}

@@ -1,3 +1,4 @@
+-- What is wrong with a whole sheet: 9 without a head, else what `records_fault` says of as many records as the head counts.
 use borrow.Author.Needs.{needs}
 use Rattle.frames.proofs.Heads.{head-long, told-no, told-yes}
 use Rattle.frames.proofs.Walks.{gets-9, header-good}

@@ -1,3 +1,4 @@
+-- Whether there are four bytes, N and S first: false for fewer, then false for another first letter, then by the second.
 use native.Mathlib.Omega.{arith}
 use Rattle.frames.proofs.Heads.{head-short, head-first, head-second}
 use borrow.Author.Needs.{needs}

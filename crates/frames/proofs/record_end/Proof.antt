@@ -1,3 +1,4 @@
+-- Where a record ends: 0 in a sheet under three bytes, then where its first three bytes pass the end, then where its payload does, else the place after it.
 use Prim.Native.Nat.{_+_}
 use borrow.Author.Needs.{needs}
 use native.Mathlib.Omega.{arith}

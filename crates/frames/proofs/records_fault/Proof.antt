@@ -1,3 +1,4 @@
+-- 10 where one of n records is cut, then 11 where bytes remain, else a pass. Loop: after i records, what the others from `at` on come to decides.
 use native.Mathlib.Omega.{arith}
 use Prim.Native.Nat.{_-_}
 use Rattle.frames.proofs.Walks.{Walking, begins, goes-on, gets-10, gets-11, gets-none}

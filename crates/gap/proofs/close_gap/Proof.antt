@@ -1,3 +1,4 @@
+-- The guard, then bits from p on are those k above, below p they stay, and trailing zero words go: what splitting, shifts and `or` make.
 use mathlib.Core.Path.{sym, _∙_}
 use native.Mathlib.Omega.{arith}
 use Rattle.word.proofs.Lists.{Fit}

@@ -1,3 +1,4 @@
+-- Bit i is what bit i + k was from p on, and stays below p: no change past the words, else the words from p's on shift, and its low bits are put back.
 use native.Mathlib.Omega.{arith}
 use Rattle.word.proofs.Lists.{Fit}
 use borrow.Author.Needs.{needs}

@@ -1,3 +1,4 @@
+-- The guard, then a trim where no member is from p on, then 4, then 6, then growth, and bits from p on go k up: what splitting, a shift and `or` make.
 use mathlib.Core.Path.{_≡_, sym, _∙_}
 use Prim.Native.Nat.{suc}
 use native.Mathlib.Omega.{arith}

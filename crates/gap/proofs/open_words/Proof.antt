@@ -1,3 +1,4 @@
+-- Bits from p on go k up and those below stay: no change past the words, else the words from p's on shift without its low bits, which are put back.
 use mathlib.Core.Path.{ap, _∙_}
 use native.Mathlib.Omega.{arith}
 use Rattle.word.proofs.Lists.{Fit}

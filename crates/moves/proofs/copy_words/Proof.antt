@@ -1,3 +1,4 @@
+-- Every word becomes that of `from`. Loop: below i they are, from i on they are as they were.
 use mathlib.Core.Path.{refl}
 use Prim.Native.Nat.{_-_, _≤_}
 use native.Mathlib.Omega.{arith}

@@ -1,3 +1,4 @@
+-- Each word goes `whole` down where there is room, and the highest stay. Loop: the first i words are those `whole` above, the others as they were.
 use mathlib.Core.Path.{refl}
 use Prim.Native.Nat.{_-_, _≤_}
 use native.Mathlib.Omega.{arith}

@@ -1,3 +1,4 @@
+-- The m words from `from` on stand from `to` on and the others stay, though the parts overlap: all are read before one is written.
 use mathlib.Core.Path.{refl, sym}
 use Prim.Native.Nat.{_-_}
 use borrow.Author.Needs.{needs}

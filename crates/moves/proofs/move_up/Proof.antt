@@ -1,3 +1,4 @@
+-- Each word goes `whole` up where there is room, and the lowest stay. Loop: those from `left` on are moved, the words below left + whole are as they were.
 use mathlib.Core.Path.{refl}
 use Prim.Native.Nat.{_+_, _-_, _≤_}
 use native.Mathlib.Omega.{arith}

@@ -1,3 +1,4 @@
+-- The m words from a on and the m from b on change places. Loop: the first i of both have, all others are as they were.
 use Prim.Native.Nat.{_-_, _≤_}
 use native.Mathlib.Omega.{arith}
 use borrow.Author.Needs.{needs}

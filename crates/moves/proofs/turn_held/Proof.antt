@@ -1,3 +1,4 @@
+-- The last m words go before the others: no change where none are to be held, then with room for 32, then with room for 256.
 use Prim.Native.Nat.{_-_}
 use native.Mathlib.Omega.{arith}
 use borrow.Author.Needs.{needs}

@@ -1,3 +1,4 @@
+-- The last m words go before the others: they are held where they are no more than the rest, else the rest is held.
 use mathlib.Core.Path.{sym}
 use Prim.Native.Nat.{_-_}
 use native.Mathlib.Omega.{arith}

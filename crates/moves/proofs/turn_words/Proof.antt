@@ -1,3 +1,4 @@
+-- The last m words go before the others. Loop: behind `low` and `high` all are in place, the first `low` are due `high` up, the next `high` are due `low` down.
 use mathlib.Core.Path.{_≡_, refl, sym, _∙_}
 use Prim.Native.Nat.{_+_, _-_, _≤_}
 use native.Mathlib.Omega.{arith}

@@ -1,3 +1,4 @@
+-- Ends, and the part of the buffer that is put is inside it: the length that `write_list` answers is at most the buffer's.
 use Rattle.notes.proofs.Fits.{fits}
 use lib.Seq.{length-take-le}
 use mathlib.Core.Path.{sym}

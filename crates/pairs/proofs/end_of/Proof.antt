@@ -1,3 +1,4 @@
+-- The end past which only zeros are made: the smaller length for and, the first for andnot, the larger for or and xor.
 use borrow.Author.Needs.{needs}
 use Rattle.pairs.proofs.end_of.Statement.{statement}
 use Rattle.pairs.proofs.end_of.Tie as tie

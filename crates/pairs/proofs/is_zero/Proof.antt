@@ -1,3 +1,4 @@
+-- Whether the operation makes only zero words. Loop: the words that it makes below k are 0.
 use Prim.Native.Nat.{_-_}
 use native.Mathlib.Omega.{arith}
 use borrow.Author.Needs.{needs}

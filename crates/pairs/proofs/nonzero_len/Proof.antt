@@ -1,3 +1,4 @@
+-- The length of what the operation makes, without trailing zero words. Loop: the words that it makes from `end` on are 0.
 use Prim.Native.Nat.{_≤_}
 use native.Mathlib.Omega.{arith}
 use borrow.Author.Needs.{needs}

@@ -1,3 +1,4 @@
+-- The answer is 0 exactly where the eight words made from i on are 0. Loop: `some` is 0 exactly where those from i on, below k, are 0.
 use mathlib.Core.Path.{sym, _∙_}
 use Prim.Native.Nat.{_+_, _-_, _≤_}
 use native.Mathlib.Omega.{arith}

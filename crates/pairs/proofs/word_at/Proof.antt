@@ -1,3 +1,4 @@
+-- Word k of what the operation makes: the operation of word k of both, where a slice past its end has 0.
 use mathlib.Core.Path.{sym, ap₂, _∙_}
 use Rattle.pairs.specs.Pairs.{wordBy}
 use Rattle.pairs.proofs.Tables.{by-at}

@@ -1,3 +1,4 @@
+-- The index behind the whole eights of zeros made from `from` on, where both slices have them. Loop: k is whole eights on, and from `from` on, below k, all are 0.
 use mathlib.Core.Path.{_≡_}
 use Prim.Native.Nat.{_-_, _%_, _≤_, min, max}
 use native.Mathlib.Omega.{arith}

@@ -1,3 +1,4 @@
+-- Every word made from the answer on, below `from`, is 0. Loop: those from `end` on, below `from`, are 0, and both slices reach to `end`.
 use Prim.Native.Nat.{_-_, _≤_}
 use native.Mathlib.Omega.{arith}
 use borrow.Author.Needs.{needs}

@@ -1,3 +1,4 @@
+-- How many digits x has, up to the list's limit: 1 to 10, told by the powers of ten that x lies between.
 use mathlib.Core.Path.{sym}
 use native.Mathlib.Omega.{arith}
 use Rattle.print.proofs.Decimals.{one-digit, digits-are}

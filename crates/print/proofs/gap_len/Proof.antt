@@ -1,3 +1,4 @@
+-- The length of what stands before a run: 0 where no byte came before, else 2.
 use Rattle.print.proofs.Pieces.{gap-none, gap-two}
 use Rattle.print.proofs.gap_len.Statement.{statement}
 use Rattle.print.proofs.gap_len.Tie as tie

@@ -1,3 +1,4 @@
+-- The next run from i on: one bit where the bit after it is clear, else up to the next clear bit, else none at the length; no scan is refused.
 use native.Mathlib.Omega.{arith}
 use borrow.Author.Needs.{needs}
 use Rattle.print.proofs.Runs.{start-below, run-none, run-single, run-found, found-never, clear-never, clear-bit}

@@ -1,3 +1,4 @@
+-- The text of the bitmap is put at the front, the bytes past it as they were. Loop: the `at` bytes of the runs before `run` are put, the others as they were.
 use native.Mathlib.Omega.{arith}
 use Prim.Native.Nat.{_-_, _*_}
 use Rattle.storage.specs.Stores.{held}

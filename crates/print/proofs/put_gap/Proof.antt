@@ -1,3 +1,4 @@
+-- What stands before a run is put at a place: nothing where no byte came before, else a comma and a blank; the answer is the place after it.
 use native.Mathlib.Omega.{arith}
 use lib.ListN.{length-set}
 use borrow.Author.Needs.{needs}

@@ -1,3 +1,4 @@
+-- The digits of x are put at a place; the answer is the place after them. Loop: those from p on are put, and y has the others.
 use mathlib.Core.Path.{_∙_}
 use mathlib.Core.List.{List, []}
 use native.Mathlib.Omega.{arith}

@@ -1,3 +1,4 @@
+-- A run is put after what stands before it: one number where both are the same, else two with the joiner between; the answer is the place after it.
 use native.Mathlib.Omega.{arith}
 use borrow.Author.Needs.{needs}
 use Rattle.print.proofs.Pieces.{first-room, run-one, joiner-room, last-room, run-two, long₃}

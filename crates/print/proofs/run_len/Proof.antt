@@ -1,3 +1,4 @@
+-- The length of a run's text: the digits of one number where both are the same, else the digits of both and one for the joiner.
 use mathlib.Core.Path.{sym, ap, _∙_}
 use native.Mathlib.Omega.{arith}
 use lib.ListN.{length}

@@ -1,3 +1,4 @@
+-- The length of the bitmap's text. Loop: `at` is the length of the text of the runs before `run`, and what follows is the text of the others.
 use mathlib.Core.Path.{sym, ap, _∙_}
 use native.Mathlib.Omega.{arith}
 use Prim.Native.Nat.{_-_, _*_}

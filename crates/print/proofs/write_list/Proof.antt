@@ -1,3 +1,4 @@
+-- The guard, then 6 where the buffer is shorter than the text, then the text at its front and the text's length; a refusal leaves every byte.
 use mathlib.Core.Path.{sym, _∙_}
 use native.Mathlib.Omega.{arith}
 use borrow.Author.Needs.{needs}

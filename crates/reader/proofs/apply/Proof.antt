@@ -1,3 +1,4 @@
+-- An edit does to the store what its kind's step does: in each case what the call promises; a shift and a rotation go by their direction.
 use mathlib.Core.Path.{ap, _∙_}
 use mathlib.Core.Bool.{Bool}
 use Rattle.sheet.specs.Reads.{step}

@@ -1,3 +1,4 @@
+-- 10 for a cut record, or what a record gets, then 11, else done. Loop: the store has what i records made, zeros past the count, and the records left decide.
 use Prim.Native.Nat.{_-_}
 use mathlib.Core.Path.{_∙_}
 use native.Mathlib.Omega.{arith}

@@ -1,3 +1,4 @@
+-- The result store becomes the n old words and zeros past them. Loop: below k the words are the old ones, from k on they are as they were.
 use mathlib.Core.Path.{refl, _∙_}
 use Prim.Native.Nat.{_-_, _≤_}
 use native.Mathlib.Omega.{arith}

@@ -1,3 +1,4 @@
+-- 14 below edition 1, then over the latest, then the guard of both stores, then what `read_into` comes to; where that is refused the result is all zero.
 use mathlib.Core.Path.{sym, _∙_}
 use native.Mathlib.Omega.{arith}
 use borrow.Author.Needs.{needs}

@@ -1,3 +1,4 @@
+-- 9 without a head, then 6 where the old words are more than the result store has, then what the records make of the old bitmap, loaded into it.
 use mathlib.Core.Path.{refl}
 use native.Mathlib.Omega.{arith}
 use Rattle.frames.proofs.Heads.{head-long, told-no, told-yes}

@@ -1,4 +1,4 @@
--- A record below 128 is a remark; another is what `perform` makes of its kind and payload.
+-- A record whose first byte is below 128 is a remark and does nothing; another is what `perform` makes of its kind and payload.
 use mathlib.Core.Path.{refl}
 use native.Mathlib.Omega.{arith}
 use Rattle.reader.proofs.Turns.{remark, acts}

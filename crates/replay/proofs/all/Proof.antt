@@ -1,3 +1,4 @@
+-- Ends after 100,000,000 lines at most, and n + 1 does not overflow. Loop: n is at most 100,000,000.
 use borrow.Author.Needs.{needs}
 use Prim.Native.Nat.{_-_, _≤_}
 use Rattle.replay.proofs.all.Statement.{statement}

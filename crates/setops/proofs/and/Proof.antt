@@ -1,4 +1,4 @@
--- The guard, and then the words that both have.
+-- The guard of both stores, then the members of both in place, without trailing zero words; words out of use become 0.
 use mathlib.Core.Path.{sym, _∙_}
 use native.Mathlib.Omega.{arith}
 use borrow.Author.Needs.{needs}

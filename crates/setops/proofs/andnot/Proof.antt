@@ -1,4 +1,4 @@
--- The guard, and then the words of the first.
+-- The guard of both stores, then the members of the first that the other lacks, in place, without trailing zero words.
 use mathlib.Core.Path.{refl, sym, _∙_}
 use native.Mathlib.Omega.{arith}
 use borrow.Author.Needs.{needs}

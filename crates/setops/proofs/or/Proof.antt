@@ -1,4 +1,4 @@
--- The guard, and then the words of the longer.
+-- The guard of both stores, then 6 where the longer has no space, then the members of either, in as many words as the longer.
 use mathlib.Core.Path.{sym, _∙_}
 use native.Mathlib.Omega.{arith}
 use lib.Seq.{length-take-le}

@@ -1,4 +1,4 @@
--- The store grows to its end, is zipped with the other's, and what falls out of use becomes 0: the words that the operation makes.
+-- The words become the operation's of those in use and the other's: zeros up to `end`, then the zip, and what falls out of use becomes 0.
 use native.Mathlib.Omega.{arith}
 use Rattle.storage.proofs.Combined.{zeroed-put}
 use Rattle.setops.proofs.Combine.{zip-put, end-holds}

@@ -1,4 +1,4 @@
--- The guard, and then the words of the first and of the other up to its last that is not 0.
+-- The guard of both stores, then 6 where the other's words up to its last that is not 0 have no space, then the members of one only, without trailing zero words.
 use mathlib.Core.Path.{sym, _∙_}
 use Prim.Native.Nat.{_≤_}
 use native.Mathlib.Omega.{arith}

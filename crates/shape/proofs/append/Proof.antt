@@ -1,3 +1,4 @@
+-- The guard of both stores, then 6, then the other's words in use stand behind the first's, and the counts are added.
 use Rattle.shape.proofs.Sizes.{append-refused, append-changes}
 use Rattle.storage.proofs.Stores.{two-stopped}
 use Rattle.storage.specs.Guards.{PassedTwo}

@@ -1,3 +1,4 @@
+-- The first m words of `other` stand from n on and the rest stays. Loop: the first j of them do, all others are as they were.
 use Rattle.shape.proofs.Sizes.{copied-none, copied-next, copied-to}
 use Rattle.shape.specs.Kernels.{Copied}
 use native.Mathlib.Omega.{arith}

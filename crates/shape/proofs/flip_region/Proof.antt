@@ -1,3 +1,4 @@
+-- The bits from i to `last` flip and no others: whole words flip, and the other bits of both edge words flip twice.
 use Rattle.shape.proofs.Flips.{flips-region}
 use lib.ListN.{length-set}
 use native.Mathlib.Omega.{arith}

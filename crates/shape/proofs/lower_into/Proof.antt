@@ -1,3 +1,4 @@
+-- The first m words of the tail are the bits from `at` on, and the rest stays. Loop: the first j are, from j on they are as they were.
 use Rattle.shape.proofs.Splits.{lowered-none, lowered-next, lowered-to}
 use Rattle.shape.specs.Kernels.{Lowered}
 use Rattle.word.specs.Words.{funneled}

@@ -1,3 +1,4 @@
+-- The guard, then 6, then the bits from k on are cleared, and exactly the words that k bits need are in use.
 use Rattle.shape.proofs.Sizes.{resize-refused, resize-changes}
 use Rattle.storage.proofs.Stores.{changes-stopped}
 use Rattle.storage.specs.Guards.{Passed}

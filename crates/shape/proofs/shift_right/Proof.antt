@@ -1,3 +1,4 @@
+-- The guard, then every bit goes k down and those below k are lost; trailing zero words go.
 use Rattle.shape.proofs.Moves.{right-changes}
 use Rattle.storage.proofs.Stores.{changes-stopped}
 use Rattle.storage.specs.Guards.{Passed}

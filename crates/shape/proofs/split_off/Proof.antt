@@ -1,3 +1,4 @@
+-- The first store's guard, the second's, then 6, then the bits from `at` on are in the tail and those below stay, both without trailing zero words.
 use Rattle.shape.proofs.Splits.{tail-told-refused, tail-told, tail-inside, split-stopped, split-second, split-no-space, split-done}
 use Rattle.storage.specs.Stores.{noWords, held}
 use Rattle.storage.specs.Guards.{Passed}

@@ -1,3 +1,4 @@
+-- The guard, then no change for k 0, then 4, then 6, then growth by zero words, and the k bits from i on flip.
 use Rattle.shape.proofs.Toggles.{region-nothing, region-index-over, region-no-space, region-flipped}
 use Rattle.storage.proofs.Stores.{changes-stopped}
 use Rattle.storage.specs.Guards.{Passed}

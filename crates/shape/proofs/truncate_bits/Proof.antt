@@ -1,3 +1,4 @@
+-- The guard, then the bits from k on are cleared, and trailing zero words go.
 use Rattle.shape.proofs.Sizes.{truncate-changes}
 use Rattle.storage.proofs.Stores.{changes-stopped}
 use Rattle.storage.specs.Guards.{Passed}

@@ -1,3 +1,4 @@
+-- Ends: there are at most as many turns as the list has bytes. Loop: `turn` is at most its end.
 use Prim.Native.Nat.{_-_, _≤_}
 use borrow.Author.Needs.{needs}
 use Rattle.sheets.proofs.lines.Statement.{statement}

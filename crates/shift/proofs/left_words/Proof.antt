@@ -1,3 +1,4 @@
+-- Bit i goes to i + k: all out, then whole words, then odd bits. Loop: the words above i are the moved ones, up to i they are as they were.
 use mathlib.Core.Path.{refl, ap, _∙_}
 use Prim.Native.Nat.{_+_, _≤_, _<_}
 use native.Mathlib.Omega.{arith}

@@ -1,3 +1,4 @@
+-- Bit i goes to i - k: all out, then whole words, then odd bits. Loop: the words below i are the moved ones, from i on they are as they were.
 use mathlib.Core.Path.{ap, _∙_}
 use Prim.Native.Nat.{_-_, _≤_}
 use native.Mathlib.Omega.{arith}

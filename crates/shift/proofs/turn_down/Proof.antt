@@ -1,3 +1,4 @@
+-- Each bit goes `down` places down, on from the end past the start; no change for 0. Loop: the words below i are turned, from i on they are as they were.
 use mathlib.Core.Path.{_∙_}
 use Prim.Native.Nat.{_-_, _*_, _≤_}
 use native.Mathlib.Omega.{arith}

@@ -1,3 +1,4 @@
+-- Bit i goes to i + k mod the length: no change with no words, else whole words turn, and then the odd bits.
 use mathlib.Core.Path.{refl}
 use native.Mathlib.Nat.{mod-lt}
 use native.Mathlib.Omega.{arith}

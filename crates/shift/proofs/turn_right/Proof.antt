@@ -1,3 +1,4 @@
+-- Bit i goes to i - k mod the length: no change with no words, else whole words turn up by what is left of the length, then odd bits down.
 use mathlib.Core.Path.{refl}
 use native.Mathlib.Nat.{mod-lt, le-of-lt}
 use native.Mathlib.Omega.{arith}

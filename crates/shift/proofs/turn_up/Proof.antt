@@ -1,3 +1,4 @@
+-- Each bit goes `up` places up, on from the start past the end; no change for 0. Loop: the words above i are turned, up to i they are as they were.
 use mathlib.Core.Path.{refl, _∙_}
 use Prim.Native.Nat.{_+_, _*_, _<_}
 use native.Mathlib.Omega.{arith}

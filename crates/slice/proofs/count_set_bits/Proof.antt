@@ -1,3 +1,4 @@
+-- The guard, then the number of set bits in the words in use, which are too few for the count to wrap.
 use mathlib.Core.Path.{sym, ap, _∙_}
 use borrow.Author.Needs.{needs}
 use lib.Seq.{length-take-le}

@@ -1,3 +1,4 @@
+-- The guard of both stores, then false where the parts without trailing zeros differ in length, then whether xor makes only zeros of them.
 use mathlib.Core.Path.{sym, ap, _∙_}
 use native.Mathlib.Omega.{arith}
 use borrow.Author.Needs.{needs}

@@ -1,3 +1,4 @@
+-- Whether i is a member: the guard, then false past the length, then the bit of the word.
 use mathlib.Core.Path.{sym, ap, _∙_}
 use native.Mathlib.Omega.{arith}
 use borrow.Author.Needs.{needs}

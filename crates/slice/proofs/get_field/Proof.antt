@@ -1,3 +1,4 @@
+-- The guard, then 3, then the `width` bits from i on as a number, out of two neighbouring words; zeros past the words in use.
 use mathlib.Core.Path.{sym, _∙_}
 use native.Mathlib.Omega.{arith}
 use borrow.Author.Needs.{needs}

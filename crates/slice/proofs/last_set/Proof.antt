@@ -1,3 +1,4 @@
+-- The guard, then nothing where every word is 0, then the highest set bit of the last word that is not 0.
 use mathlib.Core.Path.{sym, _∙_}
 use native.Mathlib.Omega.{arith}
 use borrow.Author.Needs.{needs}

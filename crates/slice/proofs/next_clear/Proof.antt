@@ -1,3 +1,4 @@
+-- The guard, then i itself past the length, then the first clear bit of its word, then that of the first later word not all ones, else the length.
 use mathlib.Core.Path.{sym, ap, _∙_}
 use native.Mathlib.Omega.{arith}
 use borrow.Author.Needs.{needs}

@@ -1,3 +1,4 @@
+-- The guard, then nothing past the length, then the first set bit of i's word from i on, then that of the first later word not 0, else nothing.
 use mathlib.Core.Path.{sym, _∙_}
 use native.Mathlib.Omega.{arith}
 use borrow.Author.Needs.{needs}

@@ -1,3 +1,4 @@
+-- Word k has x's bits at the mask's places and its own at the others; no other word changes.
 use mathlib.Core.Path.{ap}
 use native.Mathlib.Omega.{arith}
 use borrow.Author.Needs.{needs}

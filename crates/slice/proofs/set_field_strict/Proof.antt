@@ -1,3 +1,4 @@
+-- The guard, then 3, then no change for width 0, then 5, then the field has the value's low bits, within one word or over two.
 use mathlib.Core.Path.{sym, ap, _∙_}
 use native.Mathlib.Omega.{arith}
 use borrow.Author.Needs.{needs}

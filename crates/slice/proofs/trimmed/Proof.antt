@@ -1,3 +1,4 @@
+-- The front part of the words, up to the last that is not 0.
 use mathlib.Core.Path.{sym, subst}
 use Prim.Native.Nat.{ℕ, _≤_}
 use borrow.Author.Needs.{needs}

@@ -1,3 +1,4 @@
+-- 1 for a store over the limit, then 2 for a count over its store, else the call may go on.
 use mathlib.Core.Path.{sym}
 use native.Mathlib.Omega.{arith}
 use Rattle.storage.specs.declared.Guard.the-variants.{Pass, Stop}

@@ -1,3 +1,4 @@
+-- What a digit makes of a token, by the phase: 0, it begins the number; 1, it is one digit more; else the token stops.
 use borrow.Author.Needs.{needs}
 use Rattle.text.proofs.Steps.{by-digit-none, by-digit-open, by-digit-closed}
 use Rattle.text.proofs.by_digit.Statement.{statement}

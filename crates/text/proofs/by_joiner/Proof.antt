@@ -1,3 +1,4 @@
+-- What a joiner makes of a token: a second one stops it, then one after no allowed number does, else that number is the left one.
 use mathlib.Core.Path.{sym, _∙_}
 use borrow.Author.Needs.{needs}
 use Rattle.text.proofs.Steps.{by-joiner-twice, by-joiner-is}

@@ -1,3 +1,4 @@
+-- Whether nothing but blanks is read of a token: where no joiner came, by whether no digit did; after a joiner, false.
 use Rattle.text.proofs.Steps.{empty-none, empty-some}
 use Rattle.text.proofs.empty.Statement.{statement}
 use Rattle.text.proofs.empty.Tie as tie

@@ -1,3 +1,4 @@
+-- The guard, then 8, then 7, then 6, then the set of the list: a walk over no words measures, and one over zeroed words sets its ranges.
 use mathlib.Core.Path.{_≡_, sym, _∙_}
 use mathlib.Core.Bool.{true}
 use borrow.Author.Needs.{needs}

@@ -1,3 +1,4 @@
+-- What a byte is to a list: a digit with its value, then a blank, then the joiner, then the comma, then any other.
 use mathlib.Core.Path.{sym, _∙_}
 use borrow.Author.Tests.{leb-true}
 use Rattle.word.proofs.Cases.{and-true}

@@ -1,3 +1,4 @@
+-- What the next byte makes of a token, by its kind: a digit, a blank, which ends an open number, a joiner, the comma, which ends it, or a stop.
 use mathlib.Core.Path.{refl, sym, ap, _∙_}
 use borrow.Author.Needs.{needs}
 use Rattle.text.specs.Readings.{byKind}

@@ -1,3 +1,4 @@
+-- What a token is that ended: empty, then no range without an allowed number, then one number, then two where the first is not larger, else no range.
 use mathlib.Core.Path.{sym, _∙_}
 use borrow.Author.Tests.{le-leb, lt-leb}
 use Rattle.text.proofs.Steps.{token-at, token-missing, token-empty, chosen, other}

@@ -1,3 +1,4 @@
+-- A number that ended: missing without digits, then itself up to the limit, else missing.
 use mathlib.Core.Path.{sym, ap, _∙_}
 use borrow.Author.Tests.{le-leb, lt-leb}
 use Rattle.text.proofs.Steps.{chosen, other}

@@ -1,3 +1,4 @@
+-- The text is measured, its good tokens' ranges are set. Outer loop: those before `at` are, `top` is their largest. Inner loop: `part` is the token as far as it is read.
 use Rattle.text.specs.Kernels.{partOf, stepOf}
 use mathlib.Core.Logic.{⊎-elim}
 use borrow.Author.Tests.{not-true, not-false}

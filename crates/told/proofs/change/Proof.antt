@@ -1,3 +1,4 @@
+-- A change as four numbers: done, 0 and tag 2; refused, its number and tag 0; then the word count either way, and 0.
 use borrow.Author.Needs.{needs}
 use Rattle.told.proofs.change.Statement.{statement}
 use Rattle.told.proofs.change.Tie as tie

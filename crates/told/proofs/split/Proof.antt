@@ -1,3 +1,4 @@
+-- A split as four numbers: done, 0, tag 2 and both word counts; refused, its number, tag 0, its word count and 0.
 use borrow.Author.Needs.{needs}
 use Rattle.told.proofs.split.Statement.{statement}
 use Rattle.told.proofs.split.Tie as tie

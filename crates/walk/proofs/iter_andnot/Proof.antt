@@ -1,3 +1,4 @@
+-- The guard of both stores, then the least from i on that is in the first and not in the second: in i's word or the next, else from the word behind them on.
 use mathlib.Core.Path.{refl, sym, _∙_}
 use borrow.Author.Needs.{needs}
 use lib.Seq.{length-take-le}

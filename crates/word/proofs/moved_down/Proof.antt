@@ -1,3 +1,4 @@
+-- x over 2^n: 0 where n is 64 or more, else the shift.
 use native.Mathlib.Omega.{arith}
 use borrow.Author.Needs.{needs}
 use Rattle.word.proofs.Words.{down-out}

@@ -1,3 +1,4 @@
+-- x times 2^n, mod 2^64: 0 where n is 64 or more, else the shift.
 use native.Mathlib.Omega.{arith}
 use borrow.Author.Needs.{needs}
 use Rattle.word.proofs.Words.{up-out}

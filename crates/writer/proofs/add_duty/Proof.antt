@@ -1,3 +1,4 @@
+-- 13, 3 or 4 of the fields, then 6 without room, then R is raised and the record is at the end, its payload of two parts.
 use borrow.Author.Needs.{needs}
 use native.Mathlib.Omega.{arith}
 use Rattle.writer.proofs.Adds.{by-bad, by-good}

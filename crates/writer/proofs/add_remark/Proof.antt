@@ -1,3 +1,4 @@
+-- 13 for a kind over 127, then 12 for a payload over 65,535 bytes, then 6 without room, then R is raised and the remark is at the end.
 use borrow.Author.Needs.{needs}
 use native.Mathlib.Omega.{arith}
 use Rattle.writer.proofs.Adds.{by-bad, by-good, remark-13, remark-12, remark-good, remark-laid}

@@ -1,3 +1,4 @@
+-- The payload is at a place, the other bytes as they were. Loop: its first i bytes are there, the others as they were.
 use native.Mathlib.Omega.{arith}
 use Prim.Native.Nat.{_-_}
 use lib.ListN.{length}

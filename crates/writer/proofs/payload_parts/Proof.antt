@@ -1,3 +1,4 @@
+-- A duty record's payload as one number, what is over 64 bits apart, by its kind: 3 for a width over 64, 4 for too large a resize, 13 for no kind.
 use borrow.Author.Needs.{needs}
 use native.Mathlib.Omega.{arith}
 use Rattle.writer.proofs.Requests.{gets-single, gets-both, gets-nothing, gets-directed, gets-region, gets-3, gets-field, gets-4, gets-resize, gets-13-zero, gets-13-past}

@@ -1,3 +1,4 @@
+-- The bytes of a kind's payload in the latest edition, 0 where it has no such kind.
 use borrow.Author.Needs.{needs}
 use Rattle.writer.proofs.Sizes.{size-known, size-newer}
 use Rattle.sheet.specs.Kinds.{sizeIn}

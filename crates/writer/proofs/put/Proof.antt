@@ -1,3 +1,4 @@
+-- The n low bytes of x are at a place. Loop: those from i on are there, the other bytes as they were, and `left` is x without them.
 use native.Mathlib.Omega.{arith}
 use Rattle.writer.proofs.Puts.{Putting, put-first, put-next, put-last}
 use Rattle.writer.proofs.put.Statement.{statement}

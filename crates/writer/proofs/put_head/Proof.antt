@@ -1,3 +1,4 @@
+-- R is one more, and the first byte and the payload's length are at the end of the sheet, the other bytes as they were.
 use borrow.Author.Needs.{needs}
 use native.Mathlib.Omega.{arith}
 use lib.ListN.{length, length-set}

@@ -1,3 +1,4 @@
+-- The n low bytes of a number of two parts are at a place: the last eight from the low part, those before them from the high one.
 use borrow.Author.Needs.{needs}
 use native.Mathlib.Omega.{arith}
 use Rattle.writer.proofs.Bytes.{put-parts}

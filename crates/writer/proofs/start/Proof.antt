@@ -1,3 +1,4 @@
+-- 6 in a buffer under four bytes, else the letters N and S and two zeros at its front, and the length 4.
 use borrow.Author.Needs.{needs}
 use native.Mathlib.Omega.{arith}
 use lib.ListN.{length-set}

@@ -1,3 +1,4 @@
+-- Byte k of the answer is the number of set bits of byte k of x; no step borrows or overflows.
 use native.Mathlib.Omega.{arith}
 use Rattle.arch.proofs.Counted.{paired, added-le, no-wrap, counted}
 use Rattle.arch.proofs.select.byte_counts.Statement.{statement}

@@ -1,3 +1,4 @@
+-- How many of the eight bytes are at most n: as n and the bytes leave each top bit free, no byte borrows of the next.
 use mathlib.Core.Path.{_∙_, ap}
 use Prim.Native.Nat.{ℕ, _/_, _^_}
 use borrow.Author.Needs.{needs}

@@ -1,3 +1,4 @@
+-- The place of the n-th set bit, which x has: its byte is found by the running counts, and its place there by the table.
 use mathlib.Core.Path.{_∙_, ap}
 use Prim.Native.Nat.{ℕ, _+_, _*_, _%_, _^_}
 use native.Mathlib.Omega.{arith}
@@ -5,21 +6,9 @@ use borrow.Author.Needs.{needs}
 use Rattle.arch.proofs.Present.{Present, present, room}
 use Rattle.arch.proofs.select.select_present.Statement.{statement}
 use Rattle.arch.proofs.select.select_present.Tie as tie
-use Rattle.arch.proofs.select.select_present.Reads as reads
-use Rattle.arch.proofs.select.select_present.Lts as lts
-use Rattle.arch.proofs.select.byte_counts.Reads as byte-counts-reads
-use Rattle.arch.proofs.select.bytes_before.Reads as bytes-before-reads
-use Rattle.arch.proofs.select.wide.Reads as wide-reads
-use Rattle.word.proofs.Word.wrapping_mul.Reads as wrapping-mul-reads
 
 -- where the byte is known
-abbrev Here : Type 0
-Here =
-    lts.After-bytes-before
-    (byte-counts-reads.Asked, byte-counts-reads.Learnt, wrapping-mul-reads.Asked, wrapping-mul-reads.Learnt, bytes-before-reads.Asked, bytes-before-reads.Learnt, wide-reads.Asked, wide-reads.Learnt)
-    reads.Pre reads.Post
-
-known : (c : Here) → Present (c .before .before .before .args .x) (c .before .before .before .args .n) (c .before .wrapping-mul .result) (c .bytes-before .result)
+known : (c : tie.After-bytes-before) → Present (c .before .before .before .args .x) (c .before .before .before .args .n) (c .before .wrapping-mul .result) (c .bytes-before .result)
 known c =
     present _ _
     (c .before .wrapping-mul .ensures ∙ ap (λ (y : ℕ). (y * 0x0101_0101_0101_0101) % 2 ^ 64) (c .before .before .byte-counts .ensures))

@@ -1,3 +1,4 @@
+-- The place of the n-th set bit, 64 if there is none: the constant is the table of the rule, each of its 2,048 entries computed.
 use mathlib.Core.Path.{refl}
 use borrow.Author.Needs.{needs}
 use Rattle.word.specs.Sets.{countBelow, nth}

@@ -1,3 +1,4 @@
+-- 64 where x has at most n set bits, else the place of the n-th one by the table that is lent.
 use mathlib.Core.Path.{sym}
 use native.Mathlib.Omega.{arith}
 use borrow.Author.Needs.{needs}

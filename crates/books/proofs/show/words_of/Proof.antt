@@ -1,13 +1,10 @@
+-- Ends, and each word that is shown is inside the slice. Loop: k is at most the length.
 use Prim.Native.Nat.{_≤_, _-_}
 use native.Mathlib.Omega.{arith}
 use borrow.Author.Needs.{needs}
 use lib.ListN.{length}
 use Rattle.books.proofs.show.words_of.Statement.{statement}
 use Rattle.books.proofs.show.words_of.Tie as tie
-use Rattle.books.proofs.show.words_of.Reads as reads
-use Rattle.books.proofs.show.words_of.Lts as lts
-use Rattle.books.proofs.show.put.Reads as put-reads
-use Rattle.books.proofs.show.word_of.Reads as word-of-reads
 
 abbrev Inv-loop : tie.InvT-loop
 Inv-loop words k₀ k-end k = k ≤ length words

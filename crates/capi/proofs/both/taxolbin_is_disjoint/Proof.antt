@@ -1,3 +1,4 @@
+-- What `algebra::is_disjoint` answers of both bitmaps, handed out as a truth value.
 use borrow.Author.Needs.{needs}
 use Rattle.capi.proofs.Calls.{truth}
 use Rattle.capi.proofs.both.taxolbin_is_disjoint.Statement.{statement}

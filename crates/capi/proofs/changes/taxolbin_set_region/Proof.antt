@@ -1,3 +1,4 @@
+-- What `bitmap::set_region` answers and leaves, the value 0 taken as false, with its count handed out as a change's.
 use borrow.Author.Needs.{needs}
 use Rattle.capi.proofs.Calls.{changed}
 use Rattle.capi.proofs.changes.taxolbin_set_region.Statement.{statement}

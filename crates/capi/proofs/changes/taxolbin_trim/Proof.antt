@@ -1,3 +1,4 @@
+-- What `bitmap::trim` answers, with its count handed out as a change's; the words are only read.
 use borrow.Author.Needs.{needs}
 use Rattle.capi.proofs.Calls.{changed}
 use Rattle.capi.proofs.changes.taxolbin_trim.Statement.{statement}

@@ -1,3 +1,4 @@
+-- What `text::from_list` of the list's bytes answers and leaves, with its count handed out as a change's.
 use borrow.Author.Needs.{needs}
 use Rattle.capi.proofs.Calls.{changed}
 use Rattle.capi.proofs.lists.taxolbin_from_list.Statement.{statement}

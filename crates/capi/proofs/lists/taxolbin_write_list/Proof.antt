@@ -1,3 +1,4 @@
+-- What `print::write_list` answers and leaves in the buffer, with the text's length handed out as an amount.
 use borrow.Author.Needs.{needs}
 use Rattle.capi.proofs.Calls.{printed}
 use Rattle.capi.proofs.lists.taxolbin_write_list.Statement.{statement}

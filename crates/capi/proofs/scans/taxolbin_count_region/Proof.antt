@@ -1,3 +1,4 @@
+-- What `bits::count_region` answers, handed out as an amount.
 use borrow.Author.Needs.{needs}
 use Rattle.capi.proofs.Calls.{amount}
 use Rattle.capi.proofs.scans.taxolbin_count_region.Statement.{statement}

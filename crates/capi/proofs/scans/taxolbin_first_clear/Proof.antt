@@ -1,3 +1,4 @@
+-- What `slice::first_clear` answers, handed out as an amount.
 use borrow.Author.Needs.{needs}
 use Rattle.capi.proofs.Calls.{amount}
 use Rattle.capi.proofs.scans.taxolbin_first_clear.Statement.{statement}

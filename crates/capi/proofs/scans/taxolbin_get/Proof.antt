@@ -1,3 +1,4 @@
+-- What `slice::get` answers of bit i, handed out as a truth value.
 use borrow.Author.Needs.{needs}
 use Rattle.capi.proofs.Calls.{truth}
 use Rattle.capi.proofs.scans.taxolbin_get.Statement.{statement}

@@ -1,3 +1,4 @@
+-- What `slice::get_field` answers of the bits from i on, handed out as a field.
 use borrow.Author.Needs.{needs}
 use Rattle.capi.proofs.Calls.{field}
 use Rattle.capi.proofs.scans.taxolbin_get_field.Statement.{statement}

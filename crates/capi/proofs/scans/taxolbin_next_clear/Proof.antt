@@ -1,3 +1,4 @@
+-- What `slice::next_clear` answers, handed out as an amount.
 use borrow.Author.Needs.{needs}
 use Rattle.capi.proofs.Calls.{amount}
 use Rattle.capi.proofs.scans.taxolbin_next_clear.Statement.{statement}

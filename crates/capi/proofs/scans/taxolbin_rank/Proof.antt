@@ -1,3 +1,4 @@
+-- What `bits::rank` answers of the bits below i, handed out as an amount.
 use borrow.Author.Needs.{needs}
 use Rattle.capi.proofs.Calls.{amount}
 use Rattle.capi.proofs.scans.taxolbin_rank.Statement.{statement}

@@ -1,3 +1,4 @@
+-- What `setops::or` with the other bitmap answers and leaves, with its count handed out as a change's.
 use borrow.Author.Needs.{needs}
 use Rattle.capi.proofs.Calls.{changed}
 use Rattle.capi.proofs.sets.taxolbin_or.Statement.{statement}

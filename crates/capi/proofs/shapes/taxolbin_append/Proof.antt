@@ -1,3 +1,4 @@
+-- What `shape::append` of the other bitmap answers and leaves, with its count handed out as a change's.
 use borrow.Author.Needs.{needs}
 use Rattle.capi.proofs.Calls.{changed}
 use Rattle.capi.proofs.shapes.taxolbin_append.Statement.{statement}

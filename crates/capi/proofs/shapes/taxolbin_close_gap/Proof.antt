@@ -1,3 +1,4 @@
+-- What `gap::close_gap` answers and leaves, with its count handed out as a change's.
 use borrow.Author.Needs.{needs}
 use Rattle.capi.proofs.Calls.{changed}
 use Rattle.capi.proofs.shapes.taxolbin_close_gap.Statement.{statement}

@@ -1,3 +1,4 @@
+-- What `shape::split_off` answers and leaves in both stores, with the head's and the tail's count handed out as a split's.
 use borrow.Author.Needs.{needs}
 use Rattle.capi.proofs.Calls.{split}
 use Rattle.capi.proofs.shapes.taxolbin_split_off.Statement.{statement}

@@ -1,3 +1,4 @@
+-- What `writer::add` answers and leaves, a duty or flag of 0 taken as false, with the sheet's length handed out as an addition's.
 use borrow.Author.Needs.{needs}
 use Rattle.capi.proofs.Calls.{written}
 use Rattle.capi.proofs.sheets.taxolbin_add.Statement.{statement}

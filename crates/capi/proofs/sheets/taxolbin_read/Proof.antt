@@ -1,3 +1,4 @@
+-- What `reader::read` answers and leaves in the result store, with the record and the count handed out as a reading's.
 use borrow.Author.Needs.{needs}
 use Rattle.capi.proofs.Calls.{read}
 use Rattle.capi.proofs.sheets.taxolbin_read.Statement.{statement}

@@ -1,3 +1,4 @@
+-- What `writer::start` answers and leaves, with the sheet's length handed out as an addition's.
 use borrow.Author.Needs.{needs}
 use Rattle.capi.proofs.Calls.{written}
 use Rattle.capi.proofs.sheets.taxolbin_start.Statement.{statement}

@@ -1,3 +1,4 @@
+-- What `shift::rotate_right` answers and leaves, with its count handed out as a change's.
 use borrow.Author.Needs.{needs}
 use Rattle.capi.proofs.Calls.{changed}
 use Rattle.capi.proofs.within.taxolbin_rotate_right.Statement.{statement}

@@ -1,4 +1,4 @@
--- The rest of the left slice, and the rest of the right one.
+-- From the shorter slice's end on, below m, the words become the longer one's: the rest of the left slice, then the rest of the right.
 use native.Mathlib.Omega.{arith}
 use borrow.Author.Needs.{needs}
 use Rattle.combine.proofs.Writes.{tail-put}

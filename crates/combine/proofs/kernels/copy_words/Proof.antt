@@ -1,3 +1,4 @@
+-- The words from a on, below e, become those of `from`. Loop: below k they are, from k on they are as they were.
 use mathlib.Core.Path.{refl}
 use Prim.Native.Nat.{_-_, _≤_, max}
 use lib.ListN.{getD}

@@ -1,4 +1,4 @@
--- Words below k are the operation's of both, the others are as they were.
+-- The first e words become the operation's of both slices. Loop: below k they are, from k on they are as they were.
 use mathlib.Core.Path.{sym, _∙_}
 use Prim.Native.Nat.{_-_, _≤_}
 use native.Mathlib.Omega.{arith}

@@ -1,3 +1,4 @@
+-- Each of the four operations, one by one: every place has what the truth table makes of the two bits.
 use native.Mathlib.Omega.{arith}
 use Rattle.pairs.proofs.Tables.{by-and, by-andnot, by-or, by-xor}
 use borrow.Author.Needs.{needs}

@@ -1,3 +1,4 @@
+-- Ends, and the first x words that `check` is lent are inside the store of 1,000: a larger x is answered before.
 use mathlib.Core.Path.{sym}
 use native.Mathlib.Omega.{arith}
 use lib.Seq.{length-take-le}

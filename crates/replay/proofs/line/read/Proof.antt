@@ -1,3 +1,4 @@
+-- Ends after 20,000 bytes at most, each read by `next` and each number kept by `put`. Loop: `step` is at most 20,000.
 use borrow.Author.Needs.{needs}
 use Prim.Native.Nat.{_-_, _≤_}
 use Rattle.replay.proofs.line.read.Statement.{statement}

@@ -1,3 +1,4 @@
+-- Ends, and each byte is written inside the 512. Loop: k is at most 512.
 use borrow.Author.Needs.{needs}
 use Prim.Native.Nat.{_-_, _≤_}
 use Rattle.replay.proofs.store.bytes.Statement.{statement}

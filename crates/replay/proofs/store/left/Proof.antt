@@ -1,3 +1,4 @@
+-- Ends, and each word that is compared is inside the store of 64. Loop: k is at most 64.
 use borrow.Author.Needs.{needs}
 use Prim.Native.Nat.{_-_, _≤_}
 use Rattle.replay.proofs.store.left.Statement.{statement}

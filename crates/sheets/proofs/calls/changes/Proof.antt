@@ -1,3 +1,4 @@
+-- Ends: more than 16 changes are lost at once, others take a turn each. Loop: `want` is as long as it was.
 use Prim.Native.Nat.{_-_}
 use lib.ListN.{length}
 use mathlib.Core.Path.{_≡_}

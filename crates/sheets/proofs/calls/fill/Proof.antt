@@ -1,3 +1,4 @@
+-- Ends, and each byte from `from` on is written inside, its value below 256. Loop: `out` is as long as it was, and the end of k is at most its length.
 use Prim.Native.Nat.{_-_, _≤_}
 use lib.ListN.{length}
 use mathlib.Core.Path.{_≡_}

@@ -1,3 +1,4 @@
+-- Ends, and each byte is read inside both: slices of two lengths are answered before. Loop: the end of k is at most the length of `a`.
 use Prim.Native.Nat.{_-_, _≤_}
 use lib.ListN.{length}
 use borrow.Author.Needs.{needs}

@@ -1,3 +1,4 @@
+-- Ends, each word is written inside, and its sum does not overflow. Loop: `out` is as long as it was, and the end of k is at most its length.
 use Prim.Native.Nat.{_-_, _≤_}
 use lib.ListN.{length}
 use mathlib.Core.Path.{_≡_}

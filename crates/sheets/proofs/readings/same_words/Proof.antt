@@ -1,3 +1,4 @@
+-- Ends, and each word is read inside both stores of 128. Loop: k is at most 128.
 use Prim.Native.Nat.{_-_, _≤_}
 use borrow.Author.Needs.{needs}
 use Rattle.sheets.proofs.readings.same_words.Statement.{statement}

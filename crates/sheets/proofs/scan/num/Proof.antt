@@ -1,3 +1,4 @@
+-- Ends, each byte is read inside, and v stays below 2^64: one of 2^60 or more gets no further digit. Loop: the end of k is at most the length.
 use Prim.Native.Nat.{_-_, _≤_}
 use lib.ListN.{length}
 use borrow.Author.Needs.{needs}

@@ -1,3 +1,4 @@
+-- Ends, and each number is written inside: an end past `out` is lost before. Loop: `out` is as long as it was, and `to` is at most its length.
 use Prim.Native.Nat.{_-_, _≤_}
 use lib.ListN.{length}
 use mathlib.Core.Path.{_≡_}

@@ -1,3 +1,4 @@
+-- Ends, and byte k and the one three before it are inside. Loop: `out` is as long as it was, the end of k is at most its length, and k is 3 or more.
 use Prim.Native.Nat.{_-_, _≤_}
 use lib.ListN.{length}
 use mathlib.Core.Path.{_≡_}

@@ -1,3 +1,4 @@
+-- Ends, and each count that is shown is inside the 170: five rows of 17. Loop: n is at most 15.
 use Prim.Native.Nat.{_-_, _≤_}
 use borrow.Author.Needs.{needs}
 use Rattle.sheets.proofs.tally.by_number.Statement.{statement}

@@ -1,3 +1,4 @@
+-- Ends: there is one turn for each of the five rows. Loop: `row` is at most 5.
 use Prim.Native.Nat.{_-_, _≤_}
 use borrow.Author.Needs.{needs}
 use Rattle.sheets.proofs.tally.summaries.Statement.{statement}

@@ -1,8 +1,8 @@
+-- Whether a byte is a blank: true for 32, then false below 9, else by whether it is at most 13.
 use mathlib.Core.Path.{sym, ap}
-use borrow.Author.Tests.{le-leb, lt-leb}
 use mathlib.Core.Bool.{_&&_, _||_}
 use lib.Dec.{leb}
-use borrow.Author.Tests.{eq-eqb, ne-eqb}
+use borrow.Author.Tests.{le-leb, lt-leb, eq-eqb, ne-eqb}
 use Rattle.text.proofs.bytes.is_blank.Statement.{statement}
 use Rattle.text.proofs.bytes.is_blank.Tie as tie
 

@@ -1,3 +1,4 @@
+-- Whether a byte is a digit: false below 48, else by whether it is at most 57.
 use borrow.Author.Tests.{le-leb, lt-leb}
 use Rattle.text.proofs.bytes.is_digit.Statement.{statement}
 use Rattle.text.proofs.bytes.is_digit.Tie as tie

@@ -1,3 +1,4 @@
+-- Whether every byte is below 128. Loop: the text is plain exactly where its bytes from i on are.
 use mathlib.Core.Path.{_≡_, refl}
 use native.Mathlib.Omega.{arith}
 use Prim.Native.Nat.{_≤_, _-_}

@@ -1,4 +1,4 @@
--- Every word from the start on, below k, is 0.
+-- The least member from i on, or nothing, for every i with none up to word `from`. Loop: the words made from `from` on, below k, are 0.
 use mathlib.Core.Path.{sym, _∙_}
 use Prim.Native.Nat.{_+_, _-_, _≤_}
 use native.Mathlib.Omega.{arith}

@@ -1,4 +1,4 @@
--- Each word that is looked at is not 0, and has the least member, or is 0, and it is clear up to the next.
+-- The least member from i on in i's word, then in the next word, else nothing, and then both are clear from i on.
 use mathlib.Core.Path.{sym, _∙_}
 use native.Mathlib.Omega.{arith}
 use borrow.Author.Needs.{needs}

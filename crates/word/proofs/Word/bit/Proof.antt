@@ -1,3 +1,4 @@
+-- Only place i mod 64 is set: 1 moved up that far is the word of that place alone.
 use Prim.Native.Nat.{_%_}
 use borrow.Author.Needs.{needs}
 use Rattle.word.proofs.Words.{single-is}

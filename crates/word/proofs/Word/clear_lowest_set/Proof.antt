@@ -1,3 +1,4 @@
+-- The places of x but the least: those that x and x - 1, wrapped, have in common.
 use native.Mathlib.Omega.{arith}
 use borrow.Author.Needs.{needs}
 use Rattle.word.proofs.Words.{clear-lowest}

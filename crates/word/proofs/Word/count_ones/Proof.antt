@@ -1,3 +1,4 @@
+-- The set places below 64 are counted, and the count fits: it is at most 64.
 use native.Mathlib.Omega.{arith}
 use lib.Count.{ones-le}
 use Rattle.word.proofs.Words.{ones-count}

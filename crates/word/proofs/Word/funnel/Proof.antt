@@ -1,3 +1,4 @@
+-- Place j is lo's place j + `down`, or, from `up` on, hi's place j - `up`: the two moved words joined.
 use native.Mathlib.Omega.{arith}
 use borrow.Author.Needs.{needs}
 use Rattle.word.proofs.Words.{funnel-is}

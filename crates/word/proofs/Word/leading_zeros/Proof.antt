@@ -1,3 +1,4 @@
+-- 64 less one more than the highest set place; 64 for zero.
 use native.Mathlib.Omega.{arith}
 use lib.Count.{leading-le}
 use Rattle.word.proofs.Words.{leading-from}

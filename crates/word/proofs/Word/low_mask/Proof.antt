@@ -1,3 +1,4 @@
+-- The places below n are set: all of them where n is 64 or more, else those that moving all ones up by n leaves clear.
 use native.Mathlib.Omega.{arith}
 use borrow.Author.Needs.{needs}
 use Rattle.word.proofs.Words.{low-mask, all-mask}

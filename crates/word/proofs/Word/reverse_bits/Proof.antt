@@ -1,3 +1,4 @@
+-- Place i is what was place 63 - i: the six swaps, of groups of 1, 2, 4, 8, 16 and 32 bits, turn the word round.
 use native.Mathlib.Omega.{arith}
 use borrow.Author.Needs.{needs}
 use Rattle.word.proofs.Reverse.{reversed}

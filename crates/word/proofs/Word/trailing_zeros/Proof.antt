@@ -1,3 +1,4 @@
+-- The least set place; 64 where none is set.
 use native.Mathlib.Omega.{arith}
 use lib.Count.{trailing-le}
 use Rattle.word.proofs.Words.{trailing-least}

@@ -1,3 +1,4 @@
+-- The product mod 2^64, by halves of 32 bits: no product of two halves overflows, and the two sums wrap.
 use mathlib.Core.Path.{_≡_, _∙_, ap}
 use Prim.Native.Nat.{ℕ, _+_, _*_, _%_, _/_, _^_}
 use borrow.Author.Needs.{needs}
