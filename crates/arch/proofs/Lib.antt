@@ -2,9 +2,4 @@ pub mod Eights
 pub mod Scans
 pub mod Counts
 pub mod Regions
-pub mod Digits
-pub mod Counted
-pub mod Before
-pub mod Table
-pub mod Present
 pub mod Promises

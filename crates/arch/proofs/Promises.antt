@@ -3,30 +3,26 @@ use mathlib.Core.Path.{_≡_, refl, sym, ap, ap₂, _∙_, subst}
 use mathlib.Core.Bool.{Bool, true, false, not, _&&_}
 use mathlib.Core.List.{List}
 use mathlib.Core.Logic.{inl, inr}
-use Prim.Native.Nat.{ℕ, suc, _+_, _-_, _*_, _/_, _%_, _^_, _<_}
+use Prim.Native.Nat.{ℕ, _+_, _*_, _/_, _%_, _^_, _<_}
 use native.Mathlib.Nat.{mod-eq-of-lt}
 use native.Mathlib.Omega.{arith}
 use lib.ListN.{length, getD}
 use lib.Dec.{leb, ltb, eqb}
 use borrow.Author.Tests.{lt-ltb, le-ltb, le-leb, lt-leb, eq-eqb, eqb-true, eqb-false, not-true, not-false}
-use Rattle.word.specs.Sets.{choose, countBelow, leastFrom, topBelow, nth, Least, Counts}
+use Rattle.word.specs.Sets.{choose, leastFrom, topBelow, Least}
 use Rattle.word.specs.Places.{bit, member, wordsOf}
 use Rattle.word.specs.Words.{allOnes}
 use Rattle.word.proofs.Cases.{by-lt, and-false}
-use Rattle.word.proofs.Places.{bit-zero, no-bits, bits-ext}
-use Rattle.word.proofs.Sets.{Nth, count-le, count-add, counts-is, least, top, nth-has, nth-none}
-use Rattle.word.proofs.Lists.{at-place, member-at, member-past, member-words, length-words, length-tab}
+use Rattle.word.proofs.Places.{bit-zero, no-bits}
+use Rattle.word.proofs.Sets.{count-le, counts-is, least, top}
+use Rattle.word.proofs.Lists.{at-place, member-at, member-past, member-words, length-words}
 use Rattle.arch.specs.Scans.{Alike, firstOther, wordFound, wordFlag, wordIndex, wordThere, nonzeroLen, isZero, countSet, filled}
-use Rattle.arch.specs.Select.{selectIn, selectTable, byteOf}
 use Rattle.arch.specs.Promises.{FirstOther, FirstNonzeroMeans, FirstNotOnesMeans, NonzeroLenMeans, IsZeroMeans, CountSetMeans}
-use Rattle.arch.specs.Promises.{CountIsWhole, FillWordsMeans, FillRegionMeans, TableRule, SelectsRank, SelectWordMeans, SelectByMeans}
-use Rattle.arch.specs.Promises.{SelectPortableMeans}
+use Rattle.arch.specs.Promises.{CountIsWhole, FillWordsMeans, FillRegionMeans}
 use Rattle.arch.specs.declared.FoundWord.{FoundWord}
 use Rattle.arch.specs.declared.FoundWord.the-variants.{At, Nothing}
 use Rattle.arch.proofs.Scans.{nonzero-none, nonzero-le, nonzero-past, nonzero-last}
 use Rattle.arch.proofs.Regions.{length-filled-words, filled-in, filled-below, filled-above}
-use Rattle.arch.proofs.Digits.{byte-le}
-use Rattle.arch.proofs.Table.{table-entry, bit-byte, in-byte, placedIn, select-none, select-placed, select-by-table}
 
 -- ---- scans
 
@@ -119,47 +115,3 @@ fills from end v ws = record {
         by-lt i (64 * length ws)
         (λ l. member-words s (length ws) i l ∙ ap (λ (p : Bool). choose p v (member ws i)) e)
         (λ l. member-past (wordsOf s (length ws)) i (omega (arith, length-words s (length ws))) ∙ sym (member-past ws i l))
-
--- ---- the member of a rank
-
-selects : (w out x r : ℕ) (count : ℕ → ℕ) → Counts (bit x) count → SelectsRank w out x r (nth (bit x) r out w) count
-selects w out x r count c = record {
-  one = λ h. let n = nth-has (bit x) r out w (omega (arith, all)) in (n .within, n .here, counts-is (bit x) count c _ ∙ n .under);
-  none = λ h. nth-none (bit x) r out w (omega (arith, all));
-}
-  where
-    all : count w ≡ countBelow (bit x) w
-    all = counts-is (bit x) count c w
-
-pub select-word-means : SelectWordMeans
-select-word-means = selects 64 64
-
-pub table-rule : TableRule
-unfolding selectTable
-table-rule = record {
-  size = length-tab 0 2048 (λ k. selectIn (k / 8) (k % 8));
-  entry = λ byte rank hb hr count c. subst (λ (p : ℕ). SelectsRank 8 0 byte rank p count) (sym (table-entry byte rank hb hr)) (selects 8 0 byte rank count c);
-}
-
-pub selects-by : SelectByMeans
-selects-by table x r count c = record {
-  one = λ b y l from to small same.
-      let all = counts-is (bit x) count c in
-      let n : Nth (bit x) r 64 (nth (bit x) r 64 64) =
-      nth-has (bit x) r 64 64 (omega (arith, all (8 * b + 8), count-add (bit x) (8 * b + 8) (56 - 8 * b), whole b l)) in
-      let e : nth (bit x) r 64 64 / 8 ≡ b = in-byte x r _ b n (omega (arith, all (8 * b))) (omega (arith, all (8 * b + 8), ap (countBelow (bit x)) (next b))) in
-      let byte : byteOf x b ≡ y = bits-ext 8 (byteOf x b) y (omega (arith, byte-le x b)) small (λ j h. bit-byte x b j h ∙ sym (same j h)) in
-      select-placed table x r _ n
-      ∙ ap (placedIn table x r) e
-      ∙ ap₂ (λ (v k : ℕ). 8 * b + getD table (v * 8 + (r - k)) 0) byte (sym (all (8 * b)));
-  none = λ h. select-none table x r (omega (arith, counts-is (bit x) count c 64));
-}
-  where
-    whole : (b : ℕ) → b < 8 → countBelow (bit x) (8 * b + 8 + (56 - 8 * b)) ≡ countBelow (bit x) 64
-    whole b l = let e : 8 * b + 8 + (56 - 8 * b) ≡ 64 = omega arith in ap (countBelow (bit x)) e
-
-    next : (b : ℕ) → 8 * b + 8 ≡ 8 * suc b
-    next b = omega arith
-
-pub selects-rank : SelectPortableMeans
-selects-rank x r count c = subst (λ (p : ℕ). SelectsRank 64 64 x r p count) (sym (select-by-table x r)) (select-word-means x r count c)

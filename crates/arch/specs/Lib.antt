@@ -1,4 +1,3 @@
 pub mod Scans
-pub mod Select
 pub mod Kernels
 pub mod Promises

@@ -1,8 +1,6 @@
 // Kernels on a slice of words.
 //
 // The other processor paths of arch.rs are left out. Everything here is total: no slice, index, rank or region is asked for.
-pub mod select;
-
 use word::Word;
 ghost use mathlib.Core.Path.{_≡_};
 ghost use Prim.Native.Nat.{_+_, _*_, _^_, _≤_, _<_};

@@ -215,5 +215,5 @@ pub fn select(words: &[u64], b: Bitmap, r: usize) -> Found
     if at >= n {
         return Found::Nothing;
     }
-    Found::At(64 * at + arch::select::select_u64(words[at], s.left))
+    Found::At(64 * at + select::select_u64(words[at], s.left))
 }

@@ -67,8 +67,8 @@ fn kernels() {
     show::put(b"first_not_ones from word 1 on:");
     found(arch::first_not_ones(&store[1..]));
     show::put(b"bit of rank 1 and of rank 2 of 12:");
-    show::number(arch::select::select_u64(0x12, 1));
-    show::number(arch::select::select_u64(0x12, 2));
+    show::number(select::select_u64(0x12, 1));
+    show::number(select::select_u64(0x12, 2));
     show::end();
 }
 

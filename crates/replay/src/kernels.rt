@@ -47,7 +47,7 @@ fn guard(x: usize, y: usize) -> Told {
 
 pub(crate) fn kernel(op: u64, words: &mut [u64], x: usize, y: usize, z: u64) -> Told {
     match op {
-        0x22 => told::size(arch::select::select_u64(z, x)),
+        0x22 => told::size(select::select_u64(z, x)),
         0x24 => guard(x, y),
         0x20 => {
             arch::fill_region(words, x, y, z != 0);

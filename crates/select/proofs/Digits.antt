@@ -6,8 +6,8 @@ use native.Mathlib.Omega.{arith}
 use lib.Arith.{digits-mod}
 use lib.Pow.{pow-add, high, low, shr-shr, mod-pow-add}
 use lib.Bits.{bitAnd, bitOr, and-block, or-block}
-use Rattle.arch.specs.Select.{byteOf}
-use Rattle.arch.specs.Kernels.{num, sumBelow}
+use Rattle.select.specs.Select.{byteOf}
+use Rattle.select.specs.Kernels.{num, sumBelow}
 
 -- f's bytes above the lowest
 abbrev pub up : (ℕ → ℕ) → ℕ → ℕ

@@ -3,9 +3,9 @@ use mathlib.Core.Path.{_∙_, ap}
 use Prim.Native.Nat.{ℕ, _+_, _*_, _%_, _^_}
 use native.Mathlib.Omega.{arith}
 use borrow.Author.Needs.{needs}
-use Rattle.arch.proofs.Present.{Present, present, room}
-use Rattle.arch.proofs.select.select_present.Statement.{statement}
-use Rattle.arch.proofs.select.select_present.Tie as tie
+use Rattle.select.proofs.Present.{Present, present, room}
+use Rattle.select.proofs.select_present.Statement.{statement}
+use Rattle.select.proofs.select_present.Tie as tie
 
 -- where the byte is known
 known : (c : tie.After-bytes-before) → Present (c .before .before .before .args .x) (c .before .before .before .args .n) (c .before .wrapping-mul .result) (c .bytes-before .result)

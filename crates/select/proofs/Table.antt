@@ -14,8 +14,8 @@ use Rattle.word.proofs.Cases.{by-lt}
 use Rattle.word.proofs.Places.{bit-mod, bit-shr}
 use Rattle.word.proofs.Sets.{Nth, count-le, count-ext, count-add, count-more, nth-is, nth-none, nth-has}
 use Rattle.word.proofs.Lists.{tab-at}
-use Rattle.arch.specs.Select.{selectIn, selectTable, byteOf, selectBy}
-use Rattle.arch.proofs.Digits.{byte-le}
+use Rattle.select.specs.Select.{selectIn, selectTable, byteOf, selectBy}
+use Rattle.select.proofs.Digits.{byte-le}
 
 pub table-entry : (byte rank : ℕ) → byte < 256 → rank < 8 → getD selectTable (byte * 8 + rank) 0 ≡ selectIn byte rank
 unfolding selectTable

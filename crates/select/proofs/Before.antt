@@ -11,9 +11,9 @@ use lib.Pow.{shl-shr, shr-mod}
 use lib.Bits.{bitAnd, bitOr, and-high, or-shifted-r}
 use Rattle.word.specs.Sets.{val}
 use Rattle.word.proofs.Sets.{val-le}
-use Rattle.arch.specs.Select.{byteOf}
-use Rattle.arch.specs.Kernels.{num, sumBelow, atMost, Room}
-use Rattle.arch.proofs.Digits.{DigitsBelow, up, num-byte, byte-num, num-ext, num-lt, num-sub, num-same, num-scale, num-and, num-or, product}
+use Rattle.select.specs.Select.{byteOf}
+use Rattle.select.specs.Kernels.{num, sumBelow, atMost, Room}
+use Rattle.select.proofs.Digits.{DigitsBelow, up, num-byte, byte-num, num-ext, num-lt, num-sub, num-same, num-scale, num-and, num-or, product}
 
 -- ---- sums
 

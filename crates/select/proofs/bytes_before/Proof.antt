@@ -2,9 +2,9 @@
 use mathlib.Core.Path.{_∙_, ap}
 use Prim.Native.Nat.{ℕ, _/_, _^_}
 use borrow.Author.Needs.{needs}
-use Rattle.arch.proofs.Before.{no-borrow, before}
-use Rattle.arch.proofs.select.bytes_before.Statement.{statement}
-use Rattle.arch.proofs.select.bytes_before.Tie as tie
+use Rattle.select.proofs.Before.{no-borrow, before}
+use Rattle.select.proofs.bytes_before.Statement.{statement}
+use Rattle.select.proofs.bytes_before.Tie as tie
 
 mul-before : tie.Need-mul-before
 mul-before c = search needs

@@ -3,10 +3,10 @@ use mathlib.Core.Path.{refl}
 use borrow.Author.Needs.{needs}
 use Rattle.word.specs.Sets.{countBelow, nth}
 use Rattle.word.specs.Places.{bit, tabFrom}
-use Rattle.arch.specs.Select.{selectTable}
-use Rattle.arch.proofs.Table.{select-by-rule}
-use Rattle.arch.proofs.select.select_u64.Statement.{statement}
-use Rattle.arch.proofs.select.select_u64.Tie as tie
+use Rattle.select.specs.Select.{selectTable}
+use Rattle.select.proofs.Table.{select-by-rule}
+use Rattle.select.proofs.select_u64.Statement.{statement}
+use Rattle.select.proofs.select_u64.Tie as tie
 
 select-u64-portable-requires : tie.Need-select-u64-portable-requires
 select-u64-portable-requires c κs = search needs

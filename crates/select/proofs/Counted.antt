@@ -8,9 +8,9 @@ use lib.Bits.{bitAnd, and-block, and-le-r, and-mask, and-zero-r}
 use Rattle.word.specs.Sets.{countBelow}
 use Rattle.word.specs.Places.{bit}
 use Rattle.word.proofs.Cases.{every, every-at}
-use Rattle.arch.specs.Select.{byteOf}
-use Rattle.arch.specs.Kernels.{num, setIn}
-use Rattle.arch.proofs.Digits.{DigitsBelow, up, rest, num-byte, byte-le, num-add, num-sub, num-and}
+use Rattle.select.specs.Select.{byteOf}
+use Rattle.select.specs.Kernels.{num, setIn}
+use Rattle.select.proofs.Digits.{DigitsBelow, up, rest, num-byte, byte-le, num-add, num-sub, num-and}
 
 -- ---- a test at every byte
 

@@ -4,8 +4,8 @@ ghost use mathlib.Core.Path.{_≡_};
 ghost use Prim.Native.Nat.{_<_};
 ghost use Rattle.word.specs.Sets.{countBelow, nth};
 ghost use Rattle.word.specs.Places.{bit};
-ghost use Rattle.arch.specs.Select.{selectBy};
-ghost use Rattle.arch.specs.Kernels.{num, sumBelow, setIn, atMost, Room};
+ghost use Rattle.select.specs.Select.{selectBy};
+ghost use Rattle.select.specs.Kernels.{num, sumBelow, setIn, atMost, Room};
 
 // The lowest bit of each byte.
 const L8: u64 = 0x0101_0101_0101_0101;

@@ -11,11 +11,11 @@ use lib.ListN.{getD}
 use Rattle.word.specs.Sets.{val, countBelow, nth}
 use Rattle.word.specs.Places.{bit}
 use Rattle.word.proofs.Sets.{Nth, count-le, nth-has}
-use Rattle.arch.specs.Select.{byteOf, selectBy}
-use Rattle.arch.specs.Kernels.{num, sumBelow, setIn, atMost, Room}
-use Rattle.arch.proofs.Digits.{DigitsBelow, num-byte, byte-num, byte-le, byte-suc, byte-zero, product}
-use Rattle.arch.proofs.Before.{upTo-ext, SumsPass, passes}
-use Rattle.arch.proofs.Table.{count-byte, in-byte, placedIn, select-placed}
+use Rattle.select.specs.Select.{byteOf, selectBy}
+use Rattle.select.specs.Kernels.{num, sumBelow, setIn, atMost, Room}
+use Rattle.select.proofs.Digits.{DigitsBelow, num-byte, byte-num, byte-le, byte-suc, byte-zero, product}
+use Rattle.select.proofs.Before.{upTo-ext, SumsPass, passes}
+use Rattle.select.proofs.Table.{count-byte, in-byte, placedIn, select-placed}
 
 count-next : (x k : ℕ) → countBelow (bit x) (8 * k) + setIn x k ≡ countBelow (bit x) (8 * suc k)
 count-next x k = count-byte x k 8 (omega arith) ∙ ap (countBelow (bit x)) (sym (mul-suc 8 k))

@@ -1,8 +1,8 @@
 -- Byte k of the answer is the number of set bits of byte k of x; no step borrows or overflows.
 use native.Mathlib.Omega.{arith}
-use Rattle.arch.proofs.Counted.{paired, added-le, no-wrap, counted}
-use Rattle.arch.proofs.select.byte_counts.Statement.{statement}
-use Rattle.arch.proofs.select.byte_counts.Tie as tie
+use Rattle.select.proofs.Counted.{paired, added-le, no-wrap, counted}
+use Rattle.select.proofs.byte_counts.Statement.{statement}
+use Rattle.select.proofs.byte_counts.Tie as tie
 
 sub-s : tie.Need-sub-s
 sub-s c = no-wrap (c .args .x) (c .fits .x .fits)

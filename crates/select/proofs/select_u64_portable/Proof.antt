@@ -2,9 +2,9 @@
 use mathlib.Core.Path.{sym}
 use native.Mathlib.Omega.{arith}
 use borrow.Author.Needs.{needs}
-use Rattle.arch.proofs.Table.{select-none}
-use Rattle.arch.proofs.select.select_u64_portable.Statement.{statement}
-use Rattle.arch.proofs.select.select_u64_portable.Tie as tie
+use Rattle.select.proofs.Table.{select-none}
+use Rattle.select.proofs.select_u64_portable.Statement.{statement}
+use Rattle.select.proofs.select_u64_portable.Tie as tie
 
 count-ones-requires : tie.Need-count-ones-requires
 count-ones-requires c κs = search needs
