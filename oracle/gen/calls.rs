@@ -9,9 +9,9 @@ pub const NAMES: [&[&str]; 16] = [
         "word::bit", "word::wrapping_mul",
     ],
     &["arch::first_nonzero", "arch::first_not_ones", "arch::nonzero_len", "arch::is_zero", "arch::count_set_bits", "slice::trimmed"],
-    &["arch::fill_region", "arch::fill_words", "arch::select_u64", "storage::zero_words", "storage::check"],
-    &["slice::first_set", "slice::last_set", "slice::next_set", "bits::select"],
-    &["slice::first_clear", "slice::next_clear", "slice::count_set_bits", "bits::count_clear_bits", "bits::count_region", "bits::rank"],
+    &["arch::fill_region", "arch::fill_words", "select::select_u64", "storage::zero_words", "storage::check"],
+    &["scans::first_set", "scans::last_set", "scans::next_set", "bits::select"],
+    &["scans::first_clear", "scans::next_clear", "scans::count_set_bits", "bits::count_clear_bits", "bits::count_region", "bits::rank"],
     &["slice::get", "slice::eq", "algebra::is_subset", "algebra::is_disjoint"],
     &["algebra::and_count", "algebra::or_count", "algebra::xor_count", "algebra::andnot_count"],
     &["walk::iter_and", "walk::iter_or", "walk::iter_xor", "walk::iter_andnot"],
@@ -124,8 +124,8 @@ fn of_arch(op: Op, c: &Args) -> Out {
             kernels::fill_words(&mut words[x.min(end)..end], c.z as u8);
             filled(words)
         }
-        "arch::select_u64" if x < c.z.count_ones() as usize => value(kernels::select_u64(c.z, x) as u64),
-        "arch::select_u64" => value(64), // by rule: the Rust asks its caller for a bit of this rank
+        "select::select_u64" if x < c.z.count_ones() as usize => value(kernels::select_u64(c.z, x) as u64),
+        "select::select_u64" => value(64), // by rule: the Rust asks its caller for a bit of this rank
         "storage::zero_words" => filled(kernels::resize_zeroed(&c.a, x, y)),
         _ if y > x => refused(2), // by rule: the Rust has no such test
         _ => Out::default(),
@@ -138,12 +138,12 @@ fn of_slice(op: Op, c: &Args) -> Out {
     match op.name {
         "slice::get" => value(s.get(x) as u64),
         "slice::get_field" => value(s.get_field(x, y)),
-        "slice::first_set" => found(s.first_set()),
-        "slice::last_set" => found(s.last_set()),
-        "slice::first_clear" => value(s.first_clear() as u64),
-        "slice::next_set" => found(s.next_set(x)),
-        "slice::next_clear" => value(s.next_clear(x) as u64),
-        "slice::count_set_bits" => value(s.count_set_bits() as u64),
+        "scans::first_set" => found(s.first_set()),
+        "scans::last_set" => found(s.last_set()),
+        "scans::first_clear" => value(s.first_clear() as u64),
+        "scans::next_set" => found(s.next_set(x)),
+        "scans::next_clear" => value(s.next_clear(x) as u64),
+        "scans::count_set_bits" => value(s.count_set_bits() as u64),
         "slice::eq" => value((s == o) as u64),
         "slice::trimmed" => {
             let n = kernels::nonzero_len(&c.a);
@@ -271,8 +271,8 @@ fn of_shape(op: Op, c: &Args) -> Out {
 pub fn run(op: Op, c: &Args) -> Out {
     let done = catch_unwind(AssertUnwindSafe(|| match op.name.split("::").next().unwrap() {
         "word" => of_word(op, c),
-        "arch" | "storage" => of_arch(op, c),
-        "slice" | "bits" | "shift" | "algebra" | "walk" => of_slice(op, c),
+        "arch" | "select" | "storage" => of_arch(op, c),
+        "slice" | "scans" | "bits" | "shift" | "algebra" | "walk" => of_slice(op, c),
         "bitmap" | "setops" => of_bitmap(op, c),
         "combine" => of_combine(op, c),
         _ => of_shape(op, c),

@@ -74,7 +74,7 @@ fn kernels(op: Op) -> Vec<Args> {
             .iter()
             .flat_map(|&x| [0, 1, 63, 64, 65, 127, 128, 129].map(|y| of(TWO, x, y, (x ^ y) & 1)))
             .collect(),
-        "arch::select_u64" => (0..64).flat_map(|k| [of(&[], 0, 0, 1 << k), of(&[], k, 0, F)]).collect(),
+        "select::select_u64" => (0..64).flat_map(|k| [of(&[], 0, 0, 1 << k), of(&[], k, 0, F)]).collect(),
         _ => vec![],
     }
 }
@@ -92,7 +92,7 @@ fn texts() -> Vec<Args> {
 pub fn args(g: &mut Rng, op: Op) -> Vec<Args> {
     let indexes = [0, 1, 63, 64, 65, 127, 128, 129, 1 << 32, F];
     match op.name {
-        "slice::first_set" | "slice::last_set" | "slice::first_clear" | "slice::count_set_bits" | "bits::count_clear_bits" | "bits::invert"
+        "scans::first_set" | "scans::last_set" | "scans::first_clear" | "scans::count_set_bits" | "bits::count_clear_bits" | "bits::invert"
         | "bits::reverse" | "bitmap::trim" | "print::write_list" => lone_bits(g),
         "slice::get_field" | "slice::set_field_strict" | "bitmap::set_field" => fields(g, op),
         "bits::count_region" => regions(g, op),

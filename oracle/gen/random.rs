@@ -168,7 +168,7 @@ impl Rng {
             "word::bit" => c.x = self.index(3, true),
             "word::wrapping_mul" => (c.x, c.y) = (self.word(), if self.below(2) == 0 { self.word() } else { self.next() }),
             _ if op.kind == 0 => c.x = if self.below(2) == 0 { self.word() } else { self.next() & self.next() },
-            "arch::select_u64" => {
+            "select::select_u64" => {
                 c.z = if self.below(2) == 0 { self.word() } else { self.next() & self.next() };
                 c.x = self.below(c.z.count_ones() as u64 + 1);
             }

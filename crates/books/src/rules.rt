@@ -144,9 +144,9 @@ fn length_nothing() {
     show::put(b"reverse:");
     show::change(bits::reverse(&mut store, EMPTY), &store);
     show::put(b"next_clear(7):");
-    show::counted(slice::next_clear(&store, EMPTY, 7));
+    show::counted(scans::next_clear(&store, EMPTY, 7));
     show::put(b"last_set:");
-    show::found(slice::last_set(&store, EMPTY));
+    show::found(scans::last_set(&store, EMPTY));
 }
 
 pub(crate) fn books() {

@@ -8,7 +8,7 @@
 mod both;
 mod changes;
 mod lists;
-mod scans;
+mod readings;
 mod sets;
 mod shapes;
 mod sheets;

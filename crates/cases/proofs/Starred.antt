@@ -8,7 +8,8 @@ use Rattle.word.specs.Places.{bit, pack, wordOf, member, tabFrom, wordsOf}
 use Rattle.arch.specs.Scans.{filledWords}
 use Rattle.storage.specs.Stores.{Outcome, andThen, noWords, checked, view, reading, readingBoth, size, combined, foundBelow, within, bitmapOf}
 use Rattle.storage.specs.Stores.{wordsFor, trimmedCount, wordAt, written, zeroed, answer, store, outcome}
-use Rattle.slice.specs.Slices.{equal, fieldAt, nextClear}
+use Rattle.slice.specs.Slices.{equal, fieldAt}
+use Rattle.scans.specs.Searches.{nextClear}
 use Rattle.bits.specs.Bitwise.{selected}
 use Rattle.shift.specs.Shifts.{movedUp, movedDown, turnedDown, rotatingRight}
 use Rattle.bitmap.specs.Bitmaps.{settingRegion, tidied, flippingBit}

@@ -11,7 +11,8 @@ use Rattle.storage.specs.declared.Found.{Found}
 use Rattle.storage.specs.declared.Amount.{Amount}
 use Rattle.storage.specs.declared.Field.{Field}
 use Rattle.storage.specs.declared.Truth.{Truth}
-use Rattle.slice.specs.Slices.{equal, fieldAt, nextClear}
+use Rattle.slice.specs.Slices.{equal, fieldAt}
+use Rattle.scans.specs.Searches.{nextClear}
 use Rattle.bits.specs.Bitwise.{selected}
 use Rattle.shift.specs.Shifts.{rotatingRight}
 use Rattle.bitmap.specs.Bitmaps.{flippingBit}

@@ -48,7 +48,7 @@ pub fn open_gap(words: &mut [u64], b: Bitmap, p: usize, k: usize) -> Change
     ensures { λ r. ⌜ Changes (opening p k) (now (words .entry)) b r (now (words .exit)) ⌝ }
 {
     let n = b.count;
-    let top = match slice::last_set(words, b) {
+    let top = match scans::last_set(words, b) {
         Found::Refused(e) => return Change::Refused(e, b),
         Found::Nothing => return bitmap::trim(words, b),
         Found::At(i) => i,

@@ -29,9 +29,9 @@ use Rattle.storage.specs.declared.Amount.the-variants.{Is}
 use Rattle.storage.proofs.Checks.{reading-ok}
 use Rattle.storage.proofs.Views.{view-count, bounded-view}
 use Rattle.storage.proofs.Promises.{each-number-once, next-member, finds-at, finds-nothing}
-use Rattle.slice.specs.Slices.{nextClear}
-use Rattle.slice.specs.Promises.{NextOther}
-use Rattle.slice.proofs.Promises.{next-other}
+use Rattle.scans.specs.Searches.{nextClear}
+use Rattle.scans.specs.Promises.{NextOther}
+use Rattle.scans.proofs.Promises.{next-other}
 use Rattle.slice.proofs.Fields.{bit-of}
 
 -- ---- they are found

@@ -32,7 +32,7 @@ fn next_run(words: &[u64], b: Bitmap, i: usize) -> Run
 {
     let end = 64 * b.count;
     let none = Run { low: end, end: end };
-    let f = slice::next_set(words, b, i);
+    let f = scans::next_set(words, b, i);
     match f {
         Found::At(a) => {
             let next = a + 1;
@@ -42,7 +42,7 @@ fn next_run(words: &[u64], b: Bitmap, i: usize) -> Run
                     return Run { low: a, end: next };
                 }
             }
-            let c = slice::next_clear(words, b, next);
+            let c = scans::next_clear(words, b, next);
             match c {
                 Amount::Is(e) => Run { low: a, end: e },
                 Amount::Refused(_) => none,

@@ -6,18 +6,18 @@ use storage::Truth;
 
 pub(crate) fn search(op: u64, words: &[u64], b: Bitmap, x: usize) -> Found {
     match op {
-        0x30 => slice::first_set(words, b),
-        0x31 => slice::last_set(words, b),
-        0x32 => slice::next_set(words, b, x),
+        0x30 => scans::first_set(words, b),
+        0x31 => scans::last_set(words, b),
+        0x32 => scans::next_set(words, b, x),
         _ => bits::select(words, b, x),
     }
 }
 
 pub(crate) fn count(op: u64, words: &[u64], b: Bitmap, x: usize, y: usize) -> Amount {
     match op {
-        0x40 => slice::first_clear(words, b),
-        0x41 => slice::next_clear(words, b, x),
-        0x42 => slice::count_set_bits(words, b),
+        0x40 => scans::first_clear(words, b),
+        0x41 => scans::next_clear(words, b, x),
+        0x42 => scans::count_set_bits(words, b),
         0x43 => bits::count_clear_bits(words, b),
         0x44 => bits::count_region(words, b, x, y),
         _ => bits::rank(words, b, x),

@@ -85,7 +85,7 @@ pub fn shift_left(words: &mut [u64], b: Bitmap, k: usize) -> Change
     ensures { λ r. ⌜ Changes (raising k) (now (words .entry)) b r (now (words .exit)) ⌝ }
 {
     let n = b.count;
-    let top = match slice::last_set(words, b) {
+    let top = match scans::last_set(words, b) {
         Found::Refused(e) => return Change::Refused(e, b),
         Found::Nothing => return Change::Done(b),
         Found::At(p) => p,
@@ -158,7 +158,7 @@ pub fn resize_bits(words: &mut [u64], b: Bitmap, k: usize) -> Change
 fn tail_len(words: &[u64], b: Bitmap, at: usize) -> Amount
     ensures { λ r. ⌜ r ≡ reading (now (words .entry)) b Amount.Refused (λ s. Amount.Is (lowered at s .count)) ⌝ }
 {
-    match slice::last_set(words, b) {
+    match scans::last_set(words, b) {
         Found::Refused(e) => Amount::Refused(e),
         Found::Nothing => Amount::Is(0),
         Found::At(p) => {

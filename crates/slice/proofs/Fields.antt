@@ -17,7 +17,7 @@ use Rattle.word.specs.Promises.{FromPlace}
 use Rattle.word.proofs.Cases.{by-lt, and-false, and-keep}
 use Rattle.word.proofs.Places.{bit-and, bit-past, bits-ext, pack-lt, bit-pack}
 use Rattle.word.proofs.Words.{bit-low-mask, low-mask-lt, from-place}
-use Rattle.word.proofs.Lists.{Fit, past, fit-part, member-at}
+use Rattle.word.proofs.Lists.{Fit, fit-part, member-at}
 use Rattle.storage.specs.Stores.{Bits, view}
 use Rattle.storage.specs.declared.Refusal.the-variants.{WidthOver}
 use Rattle.storage.specs.declared.Change.the-variants.{Refused}

@@ -1,9 +1,5 @@
-pub mod Answers
-pub mod Lasts
-pub mod Firsts
 pub mod Fields
 pub mod Stricts
-pub mod Scans
 pub mod Equals
 pub mod Promises
 pub mod Once

@@ -1,17 +1,15 @@
--- The calls of slice.rs, on sets: reading, fields, scans and equality within the words in use.
+-- Reading, fields and equality within the words in use, on sets.
 use Prim.Native.Nat.{ℕ, _+_, _-_, _*_}
-use mathlib.Core.Bool.{Bool, not, _&&_}
+use mathlib.Core.Bool.{Bool, _&&_}
 use mathlib.Core.List.{List}
 use lib.Dec.{ltb, leb, eqb}
 use lib.ListN.{take}
-use Rattle.word.specs.Sets.{choose, leastFrom, topBelow}
+use Rattle.word.specs.Sets.{choose}
 use Rattle.word.specs.Places.{bit, pack}
 use Rattle.arch.specs.Scans.{nonzeroLen}
 use Rattle.pairs.specs.declared.SetOp.the-variants.{Xor}
 use Rattle.storage.specs.Stores.{Bits, refused, done, Op, size, combined}
 use Rattle.storage.specs.declared.Refusal.the-variants.{WidthOver, PastLength}
-use Rattle.storage.specs.declared.Found.{Found}
-use Rattle.storage.specs.declared.Found.the-variants.{At, Nothing}
 use Rattle.storage.specs.declared.Field.{Field}
 use Rattle.storage.specs.declared.Field.the-variants.{Is, Refused}
 
@@ -38,11 +36,3 @@ unfolding withField
 settingFieldInside i value width c b =
     let inside = choose (ltb (64 * b .count) (i + width)) (refused PastLength) (done (withField i value width b)) in
     choose (ltb 64 width) (refused WidthOver) (choose (eqb width 0) (done b) inside)
-
--- the greatest member
-unfoldable pub lastSet : Bits → Found
-lastSet b = let t = topBelow (b .members) (64 * b .count) in choose (eqb t 0) Nothing (At (t - 1))
-
--- the least number from i on that is no member; past the length that is i
-unfoldable pub nextClear : Bits → ℕ → ℕ
-nextClear b i = leastFrom (λ p. not (b .members p)) i (64 * b .count - i)

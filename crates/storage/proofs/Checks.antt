@@ -126,6 +126,10 @@ pub reading-ok : {A : Type 0} (ws : List ℕ) (b : Bitmap) (refuse : Refusal →
 unfolding reading
 reading-ok ws b refuse f p = checked-ok ws b refuse (f (held ws b)) p
 
+-- and what is told of it
+pub reading-is : {A : Type 0} (ws : List ℕ) (b : Bitmap) (refuse : Refusal → A) (f : Bits → A) (a : A) → Passed ws b → a ≡ f (held ws b) → a ≡ reading ws b refuse f
+reading-is ws b refuse f a p q = q ∙ sym (reading-ok ws b refuse f p)
+
 pub reading-stopped : {A : Type 0} (ws : List ℕ) (b : Bitmap) (e : Refusal) (refuse : Refusal → A) (f : Bits → A) → Stop e ≡ checked ws b Stop Pass
     → reading ws b refuse f ≡ refuse e
 unfolding reading

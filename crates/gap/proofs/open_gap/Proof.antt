@@ -8,7 +8,7 @@ use Rattle.storage.specs.Stores.{held}
 use Rattle.storage.specs.Guards.{Passed}
 use Rattle.storage.proofs.Stores.{changes-stopped}
 use Rattle.shape.specs.Shapes.{topOf}
-use Rattle.slice.proofs.Lasts.{last-refused, last-nothing, last-at}
+use Rattle.scans.proofs.Lasts.{last-refused, last-nothing, last-at}
 use Rattle.gap.proofs.Calls.{open-trims, open-refused, open-no-space, open-changes}
 use Rattle.gap.proofs.open_gap.Statement.{statement}
 use Rattle.gap.proofs.open_gap.Tie as tie

@@ -1,6 +1,6 @@
 -- The guard, then no change with no member, then 4, then 6, then growth to the highest one's word, and every bit goes k up.
 use Rattle.shape.proofs.Moves.{left-nothing, left-over, left-no-space, left-changes}
-use Rattle.slice.proofs.Lasts.{last-refused, last-nothing, last-at}
+use Rattle.scans.proofs.Lasts.{last-refused, last-nothing, last-at}
 use Rattle.storage.proofs.Stores.{changes-stopped}
 use lib.Seq.{length-take-le}
 use native.Mathlib.Omega.{arith}

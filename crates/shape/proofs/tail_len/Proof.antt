@@ -1,6 +1,6 @@
 -- The guard, then 0 with no member, then 0 with none from `at` on, else the words up to the highest one's, counted from `at`.
 use Rattle.shape.proofs.Splits.{tail-refused, tail-is, tail-none, tail-some}
-use Rattle.slice.proofs.Lasts.{last-refused, last-nothing, last-at}
+use Rattle.scans.proofs.Lasts.{last-refused, last-nothing, last-at}
 use native.Mathlib.Omega.{arith}
 use Prim.Native.Nat.{suc}
 use Rattle.storage.specs.Stores.{held}

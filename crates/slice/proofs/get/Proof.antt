@@ -4,8 +4,7 @@ use native.Mathlib.Omega.{arith}
 use borrow.Author.Needs.{needs}
 use Rattle.slice.proofs.Fields.{bit-of}
 use Rattle.storage.specs.Guards.{Passed}
-use Rattle.storage.proofs.Checks.{passed, reading-stopped}
-use Rattle.slice.proofs.Answers.{reading-is}
+use Rattle.storage.proofs.Checks.{passed, reading-is, reading-stopped}
 use Rattle.storage.specs.declared.Truth.{Truth}
 use Rattle.storage.proofs.Views.{view-out}
 use Rattle.slice.proofs.get.Statement.{statement}

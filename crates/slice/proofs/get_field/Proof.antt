@@ -4,8 +4,7 @@ use native.Mathlib.Omega.{arith}
 use borrow.Author.Needs.{needs}
 use lib.Seq.{length-take-le}
 use Rattle.storage.specs.Guards.{Passed}
-use Rattle.storage.proofs.Checks.{passed, reading-stopped}
-use Rattle.slice.proofs.Answers.{reading-is}
+use Rattle.storage.proofs.Checks.{passed, reading-is, reading-stopped}
 use Rattle.slice.proofs.Fields.{field-wide, field-is}
 use Rattle.slice.proofs.get_field.Statement.{statement}
 use Rattle.slice.proofs.get_field.Tie as tie

@@ -1,0 +1,4 @@
+pub mod Lasts
+pub mod Firsts
+pub mod Scans
+pub mod Promises
