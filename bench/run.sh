@@ -1,7 +1,7 @@
 #!/bin/sh
 # Times of the library beside the Rust: run.sh SRC
 # SRC has the published Rust files (see oracle/README.md). Both builds of the Rust are timed, with -O and with the flags of this processor; the
-# library is the archive of `rt staticlib capi` in both.
+# library is the archive of archive.sh in both.
 set -e
 if [ $# -ne 1 ]; then
     echo "usage: $0 SRC" >&2
@@ -11,10 +11,7 @@ root=$(cd "$(dirname "$0")/.." && pwd)
 src=$(cd "$1" && pwd)
 out=$root/target/bench
 mkdir -p "$out"
-(cd "$root" && rt staticlib capi) >"$out/log" 2>&1 || {
-    cat "$out/log"
-    exit 1
-}
+"$root/archive.sh"
 for flags in "-O" "-O -C target-cpu=native"; do
     "$root/oracle/build.sh" "$src" "$out" $flags
     rustc --edition 2024 $flags -C codegen-units=1 "$root/bench/main.rs" --extern vbitmap="$out/libvbitmap.rlib" \

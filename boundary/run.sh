@@ -10,10 +10,7 @@ src=$(cd "$1" && pwd)
 cd "$(dirname "$0")/.."
 out=target/boundary
 mkdir -p "$out"
-rt staticlib capi > "$out/log" 2>&1 || {
-    cat "$out/log"
-    exit 1
-}
+./archive.sh
 oracle/build.sh "$src" "$out"
 rustc --edition 2021 -O -D warnings -L target/staticlib --extern vbitmap="$out/libvbitmap.rlib" boundary/main.rs -o "$out/boundary"
 "$out/boundary" "${2:-2000}" "${3:-1}"

@@ -6,10 +6,7 @@ cd "$(dirname "$0")/.."
 lib=target/staticlib
 out=target/examples
 mkdir -p "$out"
-rt staticlib capi > "$out/log" 2>&1 || {
-    cat "$out/log"
-    exit 1
-}
+./archive.sh
 nm "$lib/libcapi.a" | sed -n 's/.* T \(taxolbin_.*\)/\1/p' | sort > "$out/archive.names"
 sed -n 's/^uint32_t \(taxolbin_[a-z_]*\)(.*/\1/p' include/taxolbin.h | sort > "$out/header.names"
 cmp "$out/archive.names" "$out/header.names"
