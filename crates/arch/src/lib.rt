@@ -1,6 +1,6 @@
 // Kernels on a slice of words.
 //
-// The other processor paths of arch.rs are left out. Everything here is total: no slice, index, rank or region is asked for.
+// The other processor paths of arch.rs are left out. Every public function is total: no slice, index or region is asked for.
 use word::Word;
 ghost use mathlib.Core.Path.{_≡_};
 ghost use Prim.Native.Nat.{_+_, _*_, _^_, _≤_, _<_};

@@ -112,7 +112,8 @@ pub fn set_many(words: &mut [u64], b: Bitmap, bits: &[usize]) -> Change
     })
 }
 
-// The k bits from i on become `value`: true grows to the last one's word, false clears what is there. k 0 does nothing.
+// The k bits from i on become `value`: true grows to the last one's word, false clears what is there. k 0 does nothing. 4 where the last index passes
+// 2^64 - 1, whatever the value; then 6.
 pub fn set_region(words: &mut [u64], b: Bitmap, i: usize, value: bool, k: usize) -> Change
     ensures { λ r. ⌜ Changes (settingRegion i value k) (now (words .entry)) b r (now (words .exit)) ⌝ }
 {
@@ -145,7 +146,7 @@ pub fn set_region(words: &mut [u64], b: Bitmap, i: usize, value: bool, k: usize)
 }
 
 // The bits from i on, below i + width, become the low bits of value: zeros clear what is there, another value grows to the last one's word. Width 0 does
-// nothing, whatever i. 3 over 64 bits.
+// nothing, whatever i. 3 over 64 bits; 4 where the last index passes 2^64 - 1, whatever the value; then 6.
 pub fn set_field(words: &mut [u64], b: Bitmap, i: usize, value: u64, width: usize) -> Change
     ensures { λ r. ⌜ Changes (settingField i value width) (now (words .entry)) b r (now (words .exit)) ⌝ }
 {
@@ -187,7 +188,7 @@ fn tidy(words: &[u64], n: usize, k: usize) -> usize
     arch::nonzero_len(&words[..n])
 }
 
-// Of word i / 64 only bit i stays; never grows.
+// Of word i / 64 only bit i stays; never grows. Trailing zero words go where that word is the last and is then zero.
 pub fn andi(words: &mut [u64], b: Bitmap, i: usize) -> Change
     ensures { λ r. ⌜ Changes (keepingBit i) (now (words .entry)) b r (now (words .exit)) ⌝ }
 {
@@ -207,7 +208,7 @@ pub fn andi(words: &mut [u64], b: Bitmap, i: usize) -> Change
     })
 }
 
-// Clears bit i; never grows.
+// Clears bit i; never grows. Trailing zero words go where its word is the last and is then zero.
 pub fn andnoti(words: &mut [u64], b: Bitmap, i: usize) -> Change
     ensures { λ r. ⌜ Changes (droppingBit i) (now (words .entry)) b r (now (words .exit)) ⌝ }
 {
@@ -227,7 +228,7 @@ pub fn andnoti(words: &mut [u64], b: Bitmap, i: usize) -> Change
     })
 }
 
-// Flips bit i; grows to its word.
+// Flips bit i; grows to its word. Trailing zero words go where that word is the last and is then zero.
 pub fn xori(words: &mut [u64], b: Bitmap, i: usize) -> Change
     ensures { λ r. ⌜ Changes (flippingBit i) (now (words .entry)) b r (now (words .exit)) ⌝ }
 {

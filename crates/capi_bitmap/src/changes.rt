@@ -76,7 +76,7 @@ pub extern "C" fn taxolbin_set_field(
     answers::change(a, count)
 }
 
-// Clears the other bits of the word of bit i.
+// Clears the other bits of the word of bit i; trims where that word is the last and is then zero.
 #[no_mangle]
 pub extern "C" fn taxolbin_andi(words: &mut [u64], count: &mut usize, i: usize) -> u32
     ensures { λ r. ⌜ Changed (keepingBit i) (now (words .entry)) (now (count .entry)) r (now (words .exit)) (now (count .exit)) ⌝ }

@@ -1,6 +1,6 @@
 // Kernels on two slices of words: what a set operation makes of them, looked at without being built. The shorter slice reads as zero past its end.
 //
-// Everything here is total. One function serves every operation, and a call names one: where the body is short enough the compiler takes it into the
+// Every public function is total. One function serves every operation, and a call names one: where the body is short enough the compiler takes it into the
 // call, with no test of the operation left in its loops.
 ghost use mathlib.Core.Path.{_≡_};
 ghost use mathlib.Core.Logic.{_↔_};

@@ -55,7 +55,7 @@ pub(crate) fn past(s: &[u8], at: usize, b: u8) -> usize {
     at + 1
 }
 
-// A number of 1 to 16 digits.
+// A number below 2^64, of at least one digit.
 pub(crate) fn num(s: &[u8], at: usize) -> Scan {
     let mut v: u64 = 0;
     for k in at..s.len() {

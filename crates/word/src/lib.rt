@@ -1,6 +1,6 @@
 // The machine word that a bitmap is built from: 64 bits, the lowest first.
 //
-// A word is a set of places below 64, and each contract says which. Every function is total.
+// A word is a set of places below 64, and each contract says which. Every public function is total.
 ghost use mathlib.Core.Path.{_≡_};
 ghost use Prim.Native.Nat.{_-_, _*_, _/_, _%_, _^_, _<_, min, max};
 ghost use Rattle.word.specs.Sets.{countBelow, leastFrom, topBelow};
