@@ -9,8 +9,8 @@ use Rattle.storage.specs.declared.Refusal.{Refusal}
 use Rattle.storage.proofs.Promises.{each-number-once}
 use Rattle.storage.specs.declared.Change.{Change}
 use Rattle.storage.specs.declared.Change.the-variants.{Done, Refused}
-use Rattle.shape.specs.declared.Split.{Split}
-use Rattle.shape.specs.declared.Split.the-variants.{Done, Refused}
+use Rattle.shapes.specs.declared.Split.{Split}
+use Rattle.shapes.specs.declared.Split.the-variants.{Done, Refused}
 use Rattle.storage.specs.declared.Found.{Found}
 use Rattle.storage.specs.declared.Found.the-variants.{At, Nothing, Refused}
 use Rattle.storage.specs.declared.Amount.{Amount}

@@ -6,7 +6,7 @@ use Rattle.storage.specs.declared.Found.{Found}
 use Rattle.storage.specs.declared.Amount.{Amount}
 use Rattle.storage.specs.declared.Field.{Field}
 use Rattle.storage.specs.declared.Truth.{Truth}
-use Rattle.shape.specs.declared.Split.{Split}
+use Rattle.shapes.specs.declared.Split.{Split}
 use Rattle.sheet.specs.Reads.{readingNumber, readingRecord, readingCount}
 use Rattle.sheet.specs.Writer.{addedNumber}
 use Rattle.sheet.specs.declared.Reading.{Reading}

@@ -1,5 +1,5 @@
 // How each kind of answer crosses to C: of what is told of it the number is returned, and the rest goes out by parameters.
-use shape::Split;
+use shapes::Split;
 use sheet::Added;
 use sheet::Reading;
 use storage::Amount;

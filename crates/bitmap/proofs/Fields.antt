@@ -1,23 +1,17 @@
 -- A field written into bits that may have to come into use.
-use mathlib.Core.Path.{_≡_, refl, sym, ap, _∙_, subst, fun-ext}
-use mathlib.Core.Bool.{Bool, true, false, _&&_}
+use mathlib.Core.Path.{_≡_, refl, sym, ap, _∙_, subst}
+use mathlib.Core.Bool.{false}
 use mathlib.Core.List.{List}
 use Prim.Native.Nat.{ℕ, _+_, _-_, _*_, _/_, _%_, _^_, _≤_, _<_, max}
-use native.Mathlib.Nat.{mod-lt}
 use native.Mathlib.Omega.{arith}
 use lib.ListN.{length}
 use lib.Bits.{bitAnd}
-use lib.Pow.{pow-pos}
-use lib.Dec.{leb, ltb, eqb}
-use borrow.Author.Tests.{lt-ltb, le-ltb, le-leb, lt-leb, eq-eqb, ne-eqb}
-use Rattle.word.specs.Sets.{choose, leastFrom}
+use Rattle.word.specs.Sets.{choose}
 use Rattle.word.specs.Places.{bit}
 use Rattle.word.specs.Words.{lowMask}
-use Rattle.word.proofs.Cases.{by-lt, by-eq}
-use Rattle.word.proofs.Places.{bit-mod, bit-zero, pack-bit, no-bits}
-use Rattle.word.proofs.Sets.{least}
-use Rattle.word.proofs.Words.{least-bit}
-use Rattle.storage.specs.Stores.{Bits, Outcome, refused, done, withCount, view, held, within, inRegion, passes, zeroed, answer, store, outcome, Changes}
+use Rattle.word.proofs.Cases.{by-eq}
+use Rattle.word.proofs.Places.{pack-bit}
+use Rattle.storage.specs.Stores.{Bits, Outcome, done, withCount, view, held, inRegion, zeroed, answer, store, outcome, Changes}
 use Rattle.storage.specs.Guards.{Passed}
 use Rattle.storage.specs.declared.Bitmap.{Bitmap}
 use Rattle.storage.specs.declared.Refusal.the-variants.{WidthOver, IndexOver, NoSpace}
@@ -30,36 +24,12 @@ use Rattle.storage.proofs.Grown.{passed-grown, grown-long, grown-kept, grown-at
 use Rattle.slice.specs.Slices.{withField, settingFieldInside}
 use Rattle.slice.proofs.Fields.{low-digits}
 use Rattle.slice.proofs.Stricts.{setting-in}
-use Rattle.bitmap.specs.Bitmaps.{settingRegion, settingField}
+use Rattle.bitmaps.specs.Bitmaps.{settingRegion, settingField}
+use Rattle.bitmaps.proofs.Cases.{Some, field-wide, field-over, field-some, field-cleared}
 
 -- what a mask leaves of the value
 masked : (value width mask : ℕ) → value < 2 ^ 64 → width ≤ 64 → mask ≡ lowMask 64 width → bitAnd value mask ≡ value % 2 ^ width
 masked value width mask h l e = ap (bitAnd value) e ∙ low-digits value width (bit value) l h (λ j m. refl) ∙ pack-bit width value
-
--- the digits of a field that is 0, and a digit of one that is not
-pub zero-digit : (value width : ℕ) → value % 2 ^ width ≡ 0 → (j : ℕ) → j < width → bit value j ≡ false
-zero-digit value width z j l = sym (bit-mod value width j l) ∙ ap (λ (x : ℕ). bit x j) z ∙ bit-zero j
-
-pub no-digits : (value width : ℕ) → ((j : ℕ) → j < width → bit value j ≡ false) → value % 2 ^ width ≡ 0
-no-digits value width none = no-bits width (value % 2 ^ width) (mod-lt value (pow-pos width)) (λ j l. bit-mod value width j l ∙ none j l)
-
-pub some-at : (value width : ℕ) → (value % 2 ^ width ≡ 0 → ⊥) → (j : ℕ) × (j < width) × (bit value j ≡ true)
-some-at value width some = (p, l, sym (bit-mod value width p l) ∙ least (bit x) 0 width .here (omega (arith, l)))
-  where
-    x : ℕ
-    x = value % 2 ^ width
-
-    p : ℕ
-    p = leastFrom (bit x) 0 width
-
-    l : p < width
-    l = least-bit width x (by-eq x 0 (λ e. absurd (some e)) (λ e. omega arith)) (mod-lt value (pow-pos width))
-
--- a value with a digit in the field
-pub record Some (value width : ℕ) : Type 0 where
-  pub wide : width ≤ 64
-  pub some : value % 2 ^ width ≡ 0 → ⊥
-  pub pos : 0 < width
 
 pub some-digit : (value width mask : ℕ) → value < 2 ^ 64 → width ≤ 64 → mask ≡ lowMask 64 width → (bitAnd value mask ≡ 0 → ⊥) → Some value width
 some-digit value width mask h l e n = record {
@@ -67,46 +37,6 @@ some-digit value width mask h l e n = record {
   some = λ z. n (masked value width mask h l e ∙ z);
   pos = by-eq width 0 (λ z. absurd (n (masked value width mask h l e ∙ ap (λ (w : ℕ). value % 2 ^ w) z ∙ omega arith))) (λ p. omega arith);
 }
-
--- ---- the definition's cases
-
-module _ (i value width c : ℕ) (b : Bits) where
-  -- the bitmap with the field, in n words
-  abbrev with : ℕ → Bits
-  with n = record { members = λ p. choose (inRegion i width p) (bit value (p - i)) (b .members p); count = n }
-
-  pub field-wide : 64 < width → settingField i value width c b ≡ refused WidthOver
-  unfolding settingField
-  field-wide h = rw (lt-ltb 64 width h)
-
-  pub field-over : width ≤ 64 → (width ≡ 0 → ⊥) → 2 ^ 64 < i + width → settingField i value width c b ≡ refused IndexOver
-  unfolding settingField
-  field-over l n h = rw (le-ltb 64 width l, ne-eqb width 0 n, lt-ltb (2 ^ 64) (i + width) h)
-
-  pub field-put : width ≤ 64 → (width ≡ 0 → ⊥) → i + width ≤ 2 ^ 64
-      → settingField i value width c b ≡ within c (with (choose (eqb (value % 2 ^ width) 0) (b .count) (max (b .count) ((i + width - 1) / 64 + 1))))
-  unfolding settingField
-  field-put l n h = rw (le-ltb 64 width l, ne-eqb width 0 n, le-ltb (2 ^ 64) (i + width) h)
-
-  pub field-some : Some value width → i + width ≤ 2 ^ 64 → settingField i value width c b ≡ within c (with (max (b .count) ((i + width - 1) / 64 + 1)))
-  field-some d h =
-      field-put (d .wide) (omega (arith, d .pos)) h
-      ∙ ap (λ (t : Bool). within c (with (choose t (b .count) (max (b .count) ((i + width - 1) / 64 + 1))))) (ne-eqb (value % 2 ^ width) 0 (d .some))
-
-  -- a field of zeros is a region cleared
-  pub field-cleared : width ≤ 64 → value % 2 ^ width ≡ 0 → settingField i value width c b ≡ settingRegion i false width c b
-  unfolding settingField settingRegion
-  field-cleared l z =
-      rw (le-ltb 64 width l, eq-eqb (value % 2 ^ width) 0 z)
-      (ap (λ (s : ℕ → Bool). choose (eqb width 0) (done b) (choose (passes i width) (refused IndexOver) (within c (record { members = s; count = b .count })))) (fun-ext at))
-    where
-      at : (p : ℕ) → choose (leb i p && ltb p (i + width)) (bit value (p - i)) (b .members p) ≡ choose (leb i p && ltb p (i + width)) false (b .members p)
-      at p =
-          by-lt p i
-          (λ h. rw (lt-leb i p h))
-          (λ h. by-lt p (i + width)
-          (λ k. rw (le-leb i p h, lt-ltb p (i + width) k) (zero-digit value width z (p - i) (omega arith)))
-          (λ k. rw (le-leb i p h, le-ltb p (i + width) k)))
 
 -- ---- the call
 

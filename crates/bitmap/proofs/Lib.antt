@@ -1,8 +1,5 @@
 pub mod Singles
-pub mod Many
 pub mod Tidies
+pub mod Many
 pub mod Regions
 pub mod Fields
-pub mod Contained
-pub mod Promises
-pub mod Once

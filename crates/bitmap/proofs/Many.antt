@@ -1,6 +1,6 @@
 -- Listed bits set, one after the other.
 use mathlib.Core.Path.{_≡_, refl, sym, ap, ap₂, _∙_, subst}
-use mathlib.Core.Bool.{Bool, true, false, _||_, false≢true}
+use mathlib.Core.Bool.{Bool, true, false, _||_}
 use mathlib.Core.List.{List, [], _∷_}
 use mathlib.Core.Logic.{inl, inr}
 use Prim.Native.Nat.{ℕ, zero, suc, _+_, _*_, _/_, _%_, _^_, _≤_, _<_, max}
@@ -9,10 +9,10 @@ use lib.ListN.{length, getD, set, take, length-set}
 use lib.Seq.{getD-set-other}
 use lib.Dec.{eqb}
 use lib.Bits.{bitOr, or-lt}
-use borrow.Author.Tests.{eq-eqb, ne-eqb}
+use borrow.Author.Tests.{ne-eqb}
 use Rattle.word.specs.Places.{bit}
 use Rattle.word.specs.Words.{single}
-use Rattle.word.proofs.Cases.{by-lt, by-eq, eqb-same, or-false, or-true}
+use Rattle.word.proofs.Cases.{by-lt, by-eq, eqb-same, or-false}
 use Rattle.word.proofs.Places.{bit-or}
 use Rattle.word.proofs.Words.{bit-single, single-lt}
 use Rattle.word.proofs.Lists.{Fit}
@@ -25,7 +25,7 @@ use Rattle.storage.specs.declared.Change.the-variants.{Done, Refused}
 use Rattle.storage.proofs.Checks.{within-ok, within-no}
 use Rattle.storage.proofs.Views.{view-count}
 use Rattle.storage.proofs.Stores.{changes-done, changes-refused, length-zeroed, zeroed-out, zeroed-fit, grown-bit}
-use Rattle.bitmap.specs.Bitmaps.{isListed, reachOf, settingMany}
+use Rattle.bitmaps.specs.Bitmaps.{isListed, reachOf, settingMany}
 use Rattle.bitmap.specs.Kernels.{SetsListed}
 
 -- ---- one more of the list
@@ -54,37 +54,6 @@ reach-next is t h =
 pub reach-none : (is : List ℕ) → 0 ≡ reachOf (take 0 is)
 unfolding reachOf
 reach-none is = refl
-
--- a listed bit lies within the reach
-pub reach-in : (is : List ℕ) (t : ℕ) → t < length is → getD is t 0 / 64 < reachOf is
-unfolding reachOf
-reach-in [] t h = absurd (omega arith)
-reach-in (i ∷ is) zero h = omega arith
-reach-in (i ∷ is) (suc t) h = let e = reach-in is t (omega arith) in omega (arith, e)
-
--- and there is no reach but to a listed bit
-pub reach-who : (is : List ℕ) (c : ℕ) → c < reachOf is → (t : ℕ) × ((t < length is) × (c ≤ getD is t 0 / 64))
-unfolding reachOf
-reach-who [] c h = absurd (omega arith)
-reach-who (i ∷ is) c h =
-    by-lt c (i / 64 + 1) (λ l. (zero, (omega arith, omega arith)))
-    (λ l. let r = reach-who is c (omega arith) in (suc (r .0), (omega (arith, r .1 .0), r .1 .1)))
-
-pub reach-under : (is : List ℕ) (n : ℕ) → ((t : ℕ) → t < length is → getD is t 0 / 64 < n) → reachOf is ≤ n
-reach-under is n h = by-lt n (reachOf is) (λ l. let r = reach-who is n l in absurd (omega (arith, h (r .0) (r .1 .0), r .1 .1))) (λ l. l)
-
-pub listed-at : (is : List ℕ) (t : ℕ) → t < length is → isListed is (getD is t 0) ≡ true
-unfolding isListed
-listed-at [] t h = absurd (omega arith)
-listed-at (i ∷ is) zero h = ap (λ (x : Bool). x || isListed is i) (eq-eqb i i refl)
-listed-at (i ∷ is) (suc t) h = ap (λ (x : Bool). eqb (getD is t 0) i || x) (listed-at is t (omega arith)) ∙ or-true (eqb (getD is t 0) i)
-
-pub listed-who : (is : List ℕ) (j : ℕ) → isListed is j ≡ true → (t : ℕ) × ((t < length is) × (getD is t 0 ≡ j))
-unfolding isListed
-listed-who [] j h = absurd (false≢true h)
-listed-who (i ∷ is) j h =
-    by-eq j i (λ e. (zero, (omega arith, sym e)))
-    (λ n. let r = listed-who is j (sym (ap (λ (x : Bool). x || isListed is j) (ne-eqb j i n)) ∙ h) in (suc (r .0), (omega (arith, r .1 .0), r .1 .1)))
 
 pub take-all : (is : List ℕ) (t : ℕ) → length is ≤ t → take t is ≡ is
 take-all [] zero h = refl

@@ -7,7 +7,7 @@ use Prim.Native.Nat.{ℕ, _+_, _-_, _*_, _/_, _^_, _≤_, _<_, min, max}
 use native.Mathlib.Omega.{arith}
 use lib.ListN.{length, getD, take, drop}
 use lib.Dec.{leb, ltb}
-use borrow.Author.Tests.{lt-ltb, le-ltb, le-leb, lt-leb, eq-eqb, ne-eqb}
+use borrow.Author.Tests.{lt-ltb, le-ltb, le-leb, lt-leb}
 use Rattle.word.specs.Sets.{choose}
 use Rattle.word.specs.Places.{bit, member}
 use Rattle.word.proofs.Cases.{by-lt}
@@ -16,7 +16,7 @@ use Rattle.word.proofs.Lists.{Fit, member-at, words-fit}
 use Rattle.arch.specs.Scans.{filled}
 use Rattle.arch.specs.Promises.{Fills}
 use Rattle.arch.proofs.Promises.{fills}
-use Rattle.storage.specs.Stores.{withCount, Bits, refused, done, view, within, inRegion, zeroed, Changes}
+use Rattle.storage.specs.Stores.{withCount, Bits, view, within, inRegion, zeroed, Changes}
 use Rattle.storage.specs.Guards.{Passed}
 use Rattle.storage.specs.declared.Bitmap.{Bitmap}
 use Rattle.storage.specs.declared.Refusal.the-variants.{IndexOver, NoSpace}
@@ -24,7 +24,8 @@ use Rattle.storage.specs.declared.Change.the-variants.{Done, Refused}
 use Rattle.storage.proofs.Checks.{within-ok, within-no}
 use Rattle.storage.proofs.Views.{view-count, view-part}
 use Rattle.storage.proofs.Stores.{changes-done, changes-refused, keeps-changes, part-changes, length-zeroed, zeroed-out, zeroed-fit, grown-bit}
-use Rattle.bitmap.specs.Bitmaps.{settingRegion}
+use Rattle.bitmaps.specs.Bitmaps.{settingRegion}
+use Rattle.bitmaps.proofs.Cases.{region-none, region-over, region-put}
 
 -- ---- the filled words
 
@@ -55,23 +56,6 @@ filled-past : (a e : ℕ) (v : Bool) (ws : List ℕ) (k : ℕ) → Fit ws → e 
 filled-past a e v ws k f h =
     bits-ext 64 (getD (filled a e v ws) k 0) (getD ws k 0) (filled-fit a e v ws k) (f k)
     (λ j l. sym (member-at (filled a e v ws) k j l) ∙ fills a e v ws .after (64 * k + j) (omega arith) ∙ member-at ws k j l)
-
--- ---- the definition's cases
-
-module _ (i k c : ℕ) (v : Bool) (b : Bits) where
-  pub region-none : k ≡ 0 → settingRegion i v k c b ≡ done b
-  unfolding settingRegion
-  region-none e = rw (eq-eqb k 0 e)
-
-  pub region-over : (k ≡ 0 → ⊥) → 2 ^ 64 < i + k → settingRegion i v k c b ≡ refused IndexOver
-  unfolding settingRegion
-  region-over n h = rw (ne-eqb k 0 n, lt-ltb (2 ^ 64) (i + k) h)
-
-  pub region-put : (k ≡ 0 → ⊥) → i + k ≤ 2 ^ 64
-      → settingRegion i v k c b
-      ≡ within c (record { members = λ p. choose (inRegion i k p) v (b .members p); count = choose v (max (b .count) ((i + k - 1) / 64 + 1)) (b .count) })
-  unfolding settingRegion
-  region-put n h = rw (ne-eqb k 0 n, le-ltb (2 ^ 64) (i + k) h)
 
 -- ---- the call
 

@@ -26,7 +26,7 @@ use Rattle.storage.proofs.Views.{view-count, view-in, view-out}
 use Rattle.storage.proofs.Stores.{changes-done, changes-refused, word-stored}
 use Rattle.storage.proofs.Grown.{grown-fit, grown-at, grown-word}
 use Rattle.storage.proofs.Trims.{trimmed-length, trimmed-stored}
-use Rattle.bitmap.specs.Bitmaps.{trimming, setting, without, unsetting}
+use Rattle.bitmaps.specs.Bitmaps.{trimming, setting, without, unsetting}
 
 pub trim-changes : (ws : List ℕ) (b : Bitmap) (r : ℕ) → Fit ws → Passed ws b → r ≡ nonzeroLen (take (b .count) ws)
     → Changes trimming ws b (Done (withCount b r)) ws

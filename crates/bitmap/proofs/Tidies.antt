@@ -30,7 +30,7 @@ use Rattle.storage.proofs.Views.{view-count, view-in, view-out}
 use Rattle.storage.proofs.Stores.{Stored, changes-done, changes-refused, word-stored}
 use Rattle.storage.proofs.Grown.{flip-stored}
 use Rattle.storage.proofs.Trims.{trimmed-length, trimmed-stored}
-use Rattle.bitmap.specs.Bitmaps.{tidied, keepingBit, droppingBit, flippingBit}
+use Rattle.bitmaps.specs.Bitmaps.{tidied, keepingBit, droppingBit, flippingBit}
 use Rattle.bitmap.specs.Kernels.{tidyCount}
 
 -- ---- the count

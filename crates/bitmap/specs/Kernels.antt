@@ -8,7 +8,7 @@ use lib.Dec.{eqb}
 use Rattle.word.specs.Sets.{choose}
 use Rattle.word.specs.Places.{bit}
 use Rattle.arch.specs.Scans.{nonzeroLen}
-use Rattle.bitmap.specs.Bitmaps.{isListed, reachOf}
+use Rattle.bitmaps.specs.Bitmaps.{isListed, reachOf}
 
 -- the listed bits are set, and words that have none are as they were
 pub record SetsListed (ws is ws' : List ℕ) : Type 0 where

@@ -1,3 +1,1 @@
-pub mod Bitmaps
 pub mod Kernels
-pub mod Promises

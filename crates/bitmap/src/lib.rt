@@ -8,8 +8,8 @@ ghost use mathlib.Core.Path.{_≡_};
 ghost use Prim.Native.Nat.{_≤_, _<_};
 ghost use lib.ListN.{length};
 ghost use Rattle.storage.specs.Stores.{Changes};
-ghost use Rattle.bitmap.specs.Bitmaps.{trimming, setting, unsetting, settingMany, settingRegion};
-ghost use Rattle.bitmap.specs.Bitmaps.{settingField, keepingBit, droppingBit, flippingBit, reachOf};
+ghost use Rattle.bitmaps.specs.Bitmaps.{trimming, setting, unsetting, settingMany, settingRegion};
+ghost use Rattle.bitmaps.specs.Bitmaps.{settingField, keepingBit, droppingBit, flippingBit, reachOf};
 ghost use Rattle.bitmap.specs.Kernels.{SetsListed, tidyCount};
 
 // Drops trailing zero words.

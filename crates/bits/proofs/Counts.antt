@@ -24,7 +24,7 @@ use Rattle.storage.specs.Guards.{Passed}
 use Rattle.storage.specs.declared.Bitmap.{Bitmap}
 use Rattle.storage.proofs.Views.{view-count, view-part, view-out}
 use Rattle.storage.proofs.Sizes.{size-counted}
-use Rattle.bits.specs.Bitwise.{clearSize, countRegion, rankOf}
+use Rattle.bitwise.specs.Bitwise.{clearSize, countRegion, rankOf}
 
 pub clear-size : (ws : List ℕ) (b : Bitmap) (c : ℕ) → Passed ws b → c ≡ countSet (take (b .count) ws) → 64 * b .count - c ≡ clearSize (held ws b)
 unfolding clearSize

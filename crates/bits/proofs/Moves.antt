@@ -7,7 +7,7 @@ use native.Mathlib.Omega.{arith}
 use lib.ListN.{length, getD, set, take, drop}
 use lib.Seq.{length-take-le}
 use lib.Dec.{eqb}
-use borrow.Author.Tests.{lt-ltb, le-ltb, ne-eqb}
+use borrow.Author.Tests.{lt-ltb, ne-eqb}
 use lib.Pow.{ones-sub-lt}
 use lib.Bits.{bitXor, xor-lt}
 use Rattle.word.specs.Places.{bit, member, wordsOf}
@@ -24,8 +24,9 @@ use Rattle.storage.specs.declared.Change.the-variants.{Done, Refused}
 use Rattle.storage.specs.declared.Refusal.the-variants.{PastLength}
 use Rattle.storage.proofs.Views.{view-count, view-in, view-part}
 use Rattle.storage.proofs.Stores.{part-changes, changes-done, changes-refused, word-stored}
-use Rattle.bits.specs.Bitwise.{togglingInside, inverting, reversing}
+use Rattle.bitwise.specs.Bitwise.{togglingInside, inverting, reversing}
 use Rattle.word.proofs.Sweep.{Swept, swept-words}
+use Rattle.bitwise.proofs.Cases.{toggling-past}
 
 pub inverted-is : (ws ws' : List ℕ) (e : ℕ) → FitTo ws e → Swept ws (λ k. (2 ^ 64 - 1) - getD ws k 0) 0 e ws' → length ws ≤ e
     → ws' ≡ wordsOf (λ i. not (member ws i)) (length ws)
@@ -112,10 +113,6 @@ toggle-changes ws b i x f p h e =
 
     there : (m j : ℕ) → (m ≡ k → ⊥) → j < 64 → view ws n .members (64 * m + j) ≡ xorb (view ws n .members (64 * m + j)) (eqb (64 * m + j) i)
     there m j q l = keep (view ws n .members (64 * m + j)) ∙ ap (xorb (view ws n .members (64 * m + j))) (sym (ne-eqb (64 * m + j) i (omega arith)))
-
-pub toggling-past : (i c : ℕ) (s : Bits) → 64 * s .count ≤ i → togglingInside i c s ≡ refused PastLength
-unfolding togglingInside
-toggling-past i c s h = rw (le-ltb i (64 * s .count) h)
 
 pub toggle-past : (ws : List ℕ) (b : Bitmap) (i : ℕ) → Passed ws b → b .count ≤ i / 64 → Changes (togglingInside i) ws b (Refused PastLength b) ws
 toggle-past ws b i p h =

@@ -16,7 +16,7 @@ use Rattle.arch.proofs.Counts.{count-word}
 use Rattle.storage.specs.Stores.{view, foundBelow}
 use Rattle.storage.specs.declared.Found.the-variants.{At, Nothing}
 use Rattle.storage.proofs.Views.{view-count, view-part, view-in}
-use Rattle.bits.specs.Bitwise.{selected}
+use Rattle.bitwise.specs.Bitwise.{selected}
 use Rattle.bits.specs.Kernels.{Passing}
 use Rattle.bits.proofs.Counts.{whole-words}
 

@@ -1,3 +1,1 @@
-pub mod Bitwise
 pub mod Kernels
-pub mod Promises

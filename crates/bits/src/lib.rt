@@ -13,7 +13,7 @@ ghost use lib.ListN.{length, getD};
 ghost use Rattle.word.specs.Sets.{countBelow};
 ghost use Rattle.word.specs.Places.{bit, member, wordsOf};
 ghost use Rattle.storage.specs.Stores.{storeLimit, reading, Changes};
-ghost use Rattle.bits.specs.Bitwise.{togglingInside, inverting, reversing, clearSize, countRegion, rankOf, selected};
+ghost use Rattle.bitwise.specs.Bitwise.{togglingInside, inverting, reversing, clearSize, countRegion, rankOf, selected};
 ghost use Rattle.bits.specs.Kernels.{Passing};
 
 // Flips bit i; 5 past the length.

@@ -16,8 +16,11 @@ fn append_after_split(at: usize) {
     show::number(at);
     show::put(b", then append:");
     match shape::split_off(&mut store, whole, at, &mut tail) {
-        shape::Split::Done(h, t) => show::change(shape::append(&mut store, h, &tail, t), &store),
-        shape::Split::Refused(_, h) => show::change(shape::append(&mut store, h, &tail, h), &store),
+        shapes::Split::Done(h, t) => show::change(shape::append(&mut store, h, &tail, t), &store),
+        shapes::Split::Refused(_, h) => show::change(
+            shape::append(&mut store, h, &tail, h),
+            &store,
+        ),
     }
 }
 

@@ -1,6 +1,6 @@
 // Rules of document 01, a line each: words that enter and leave use, what grows and what trims, and which number comes first.
 use crate::show;
-use shape::Split;
+use shapes::Split;
 use storage::Bitmap;
 use storage::EMPTY;
 

@@ -8,8 +8,8 @@ use Rattle.storage.specs.declared.Found.{Found}
 use Rattle.storage.specs.declared.Amount.{Amount}
 use Rattle.storage.specs.declared.Field.{Field}
 use Rattle.storage.specs.declared.Truth.{Truth}
-use Rattle.shape.specs.Shapes.{Splits}
-use Rattle.shape.specs.declared.Split.{Split}
+use Rattle.shapes.specs.Shapes.{Splits}
+use Rattle.shapes.specs.declared.Split.{Split}
 use Rattle.print.specs.Texts.{Prints}
 use Rattle.sheet.specs.Reads.{Reads}
 use Rattle.sheet.specs.Writer.{Left, Writes}

@@ -22,8 +22,8 @@ use Rattle.storage.specs.declared.Truth.the-variants.{Refused}
 use Rattle.storage.proofs.Promises as storage
 use Rattle.storage.proofs.Checks.{which-way}
 use Rattle.combine.proofs.Promises as combine
-use Rattle.shape.specs.Promises.{SplitMeans}
-use Rattle.shape.proofs.Halves as halves
+use Rattle.shapes.specs.Promises.{SplitMeans}
+use Rattle.shapes.proofs.Halves as halves
 use Rattle.print.specs.Promises.{NotPrinted, TextPut, PrintsText}
 use Rattle.storage.specs.declared.Bitmap.{Bitmap}
 use Rattle.print.proofs.Promises.{prints-text}

@@ -8,7 +8,7 @@ use lib.Dec.{eqb}
 use Rattle.storage.specs.Stores.{Op, reading, answer, store, outcome, bitmapOf}
 use Rattle.storage.specs.declared.Amount.{Amount}
 use Rattle.storage.specs.declared.Amount.the-variants.{Refused}
-use Rattle.shape.specs.Shapes.{headOutcome, tailOutcome, splitAnswer}
+use Rattle.shapes.specs.Shapes.{headOutcome, tailOutcome, splitAnswer}
 use Rattle.print.specs.Texts.{textOf, fitted, replaced}
 use Rattle.sheet.specs.Reads.{course, readAnswer, readStore}
 use Rattle.sheet.specs.Writer.{Left}

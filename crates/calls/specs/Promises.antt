@@ -15,7 +15,7 @@ use Rattle.storage.specs.declared.Field.the-variants.{Refused}
 use Rattle.storage.specs.declared.Truth.{Truth}
 use Rattle.storage.specs.declared.Truth.the-variants.{Refused}
 use Rattle.combine.specs.Combine.{besideBoth}
-use Rattle.shape.specs.Promises.{SplitMeans}
+use Rattle.shapes.specs.Promises.{SplitMeans}
 use Rattle.print.specs.Promises.{PrintsText}
 use Rattle.sheet.specs.Writer.{duty, remark, started, added, requested}
 use Rattle.sheet.specs.Promises.{ReadingMeans, StartMeans, AddMeans}

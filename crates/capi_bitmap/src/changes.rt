@@ -1,7 +1,7 @@
 // Changes that grow and trim.
 use storage::Bitmap;
 use storage::EMPTY;
-ghost use Rattle.bitmap.specs.Bitmaps.{trimming, setting, unsetting, settingMany, settingRegion, settingField, keepingBit, droppingBit, flippingBit};
+ghost use Rattle.bitmaps.specs.Bitmaps.{trimming, setting, unsetting, settingMany, settingRegion, settingField, keepingBit, droppingBit, flippingBit};
 ghost use Rattle.calls.specs.Calls.{Changed, truth};
 
 // Drops trailing zero words.

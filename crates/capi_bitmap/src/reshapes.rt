@@ -2,7 +2,7 @@
 use storage::Bitmap;
 use storage::EMPTY;
 ghost use Rattle.storage.specs.Stores.{beside, bitmapOf};
-ghost use Rattle.shape.specs.Shapes.{toggling, togglingRegion, raising, lowering, truncating, resizing, appending};
+ghost use Rattle.shapes.specs.Shapes.{toggling, togglingRegion, raising, lowering, truncating, resizing, appending};
 ghost use Rattle.gap.specs.Gaps.{opening, closing};
 ghost use Rattle.calls.specs.Calls.{Changed, SplitOff};
 

@@ -12,7 +12,7 @@ ghost use Rattle.storage.specs.declared.Truth.{Truth};
 ghost use Rattle.storage.specs.declared.Truth.the-variants.{Is, Refused};
 ghost use Rattle.slice.specs.Slices.{fieldAt};
 ghost use Rattle.scans.specs.Searches.{lastSet, nextClear};
-ghost use Rattle.bits.specs.Bitwise.{clearSize, countRegion, rankOf, selected};
+ghost use Rattle.bitwise.specs.Bitwise.{clearSize, countRegion, rankOf, selected};
 ghost use Rattle.answers.specs.Answers.{FoundOut, AmountOut, FieldOut, TruthOut};
 
 // Whether bit i is set; it is not past the length.

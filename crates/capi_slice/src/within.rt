@@ -2,8 +2,8 @@
 use storage::Bitmap;
 use storage::EMPTY;
 ghost use Rattle.slice.specs.Slices.{settingFieldInside};
-ghost use Rattle.bits.specs.Bitwise.{togglingInside, inverting, reversing};
-ghost use Rattle.shift.specs.Shifts.{shiftingLeft, shiftingRight, rotatingLeft, rotatingRight};
+ghost use Rattle.bitwise.specs.Bitwise.{togglingInside, inverting, reversing};
+ghost use Rattle.shifts.specs.Shifts.{shiftingLeft, shiftingRight, rotatingLeft, rotatingRight};
 ghost use Rattle.calls.specs.Calls.{Changed};
 
 // Writes the low `width` bits of the value from bit i on; 5 where one of them is past the length.

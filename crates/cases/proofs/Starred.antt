@@ -10,11 +10,11 @@ use Rattle.storage.specs.Stores.{Outcome, andThen, noWords, checked, view, read
 use Rattle.storage.specs.Stores.{wordsFor, trimmedCount, wordAt, written, zeroed, answer, store, outcome}
 use Rattle.slice.specs.Slices.{equal, fieldAt}
 use Rattle.scans.specs.Searches.{nextClear}
-use Rattle.bits.specs.Bitwise.{selected}
-use Rattle.shift.specs.Shifts.{movedUp, movedDown, turnedDown, rotatingRight}
-use Rattle.bitmap.specs.Bitmaps.{settingRegion, tidied, flippingBit}
+use Rattle.bitwise.specs.Bitwise.{selected}
+use Rattle.shifts.specs.Shifts.{movedUp, movedDown, turnedDown, rotatingRight}
+use Rattle.bitmaps.specs.Bitmaps.{settingRegion, tidied, flippingBit}
 use Rattle.setops.specs.Setops.{uniting}
-use Rattle.shape.specs.Shapes.{raising, lowered, truncated, tailOutcome, headOutcome, splitAnswer}
+use Rattle.shapes.specs.Shapes.{raising, lowered, truncated, tailOutcome, headOutcome, splitAnswer}
 use Rattle.gap.specs.Gaps.{opening}
 use Rattle.text.specs.Lists.{plain, covers, highest}
 use Rattle.text.specs.Readings as read
@@ -34,7 +34,7 @@ use Rattle.storage.specs.declared.Truth.{Truth}
 use Rattle.storage.specs.declared.Truth.the-variants.{Is, Refused}
 use Rattle.print.specs.Texts.{textOf, fitted, replaced}
 use Rattle.sheet.specs.Reads.{readAnswer, readStore, readingCount}
-use Rattle.shape.specs.declared.Split.{Split}
+use Rattle.shapes.specs.declared.Split.{Split}
 use Rattle.sheet.specs.declared.Reading.{Reading}
 use Rattle.cases.specs.Cases.{Question, from-list, next-clear, first-clear, get-field, select, eq, rotate-right, xori, split-off, read, zeros, whole, changed, found, counted, fielded}
 use Rattle.cases.specs.Cases.{tested, parted, sheeted, Comes, Sample, sample, Hold, starred, StarredHold}

@@ -13,11 +13,11 @@ use Rattle.storage.specs.declared.Field.{Field}
 use Rattle.storage.specs.declared.Truth.{Truth}
 use Rattle.slice.specs.Slices.{equal, fieldAt}
 use Rattle.scans.specs.Searches.{nextClear}
-use Rattle.bits.specs.Bitwise.{selected}
-use Rattle.shift.specs.Shifts.{rotatingRight}
-use Rattle.bitmap.specs.Bitmaps.{flippingBit}
-use Rattle.shape.specs.Shapes.{splitNumber, splitHead, splitTail, Splits}
-use Rattle.shape.specs.declared.Split.{Split}
+use Rattle.bitwise.specs.Bitwise.{selected}
+use Rattle.shifts.specs.Shifts.{rotatingRight}
+use Rattle.bitmaps.specs.Bitmaps.{flippingBit}
+use Rattle.shapes.specs.Shapes.{splitNumber, splitHead, splitTail, Splits}
+use Rattle.shapes.specs.declared.Split.{Split}
 use Rattle.text.specs.Readings.{readingList}
 use Rattle.print.specs.Texts.{Prints}
 use Rattle.sheet.specs.Reads.{readingNumber, readingRecord, readingCount, Reads}

@@ -19,8 +19,8 @@ use Rattle.storage.proofs.Views.{view-count, view-whole, bounded-view}
 use Rattle.storage.proofs.Stores.{changes-done, changes-refused, changes-same}
 use Rattle.storage.proofs.Trims.{trimmed-le}
 use Rattle.storage.proofs.Grown.{grown-members, grown-part, part-trimmed, part-trimmed-length}
-use Rattle.bitmap.specs.Bitmaps.{trimming}
-use Rattle.shape.specs.Shapes.{topOf}
+use Rattle.bitmaps.specs.Bitmaps.{trimming}
+use Rattle.shapes.specs.Shapes.{topOf}
 use Rattle.gap.specs.Gaps.{opening, closing}
 use Rattle.gap.specs.Kernels.{gapOpened, gapClosed}
 use Rattle.gap.proofs.Opens.{open-none, open-over, open-put, opened-ends}

@@ -11,11 +11,11 @@ use Rattle.storage.specs.declared.Refusal.the-variants.{IndexOver}
 use Rattle.storage.proofs.Checks.{within-ok, within-no}
 use Rattle.storage.proofs.Once.{same-bits}
 use Rattle.storage.proofs.Trims.{trimmed-least}
-use Rattle.shift.specs.Shifts.{movedUp, movedDown}
-use Rattle.shift.proofs.Moves.{moved-up, moved-in}
+use Rattle.shifts.specs.Shifts.{movedUp, movedDown}
+use Rattle.shifts.proofs.Cases.{moved-up, moved-in}
 use Rattle.setops.specs.Setops.{uniting}
-use Rattle.shape.specs.Shapes.{topOf, cutAt, lowered, truncated}
-use Rattle.shape.proofs.Moves.{raised, raise-none, raise-over, raise-put}
+use Rattle.shapes.specs.Shapes.{topOf, cutAt, lowered, truncated}
+use Rattle.shapes.proofs.Cases.{raised, raise-none, raise-over, raise-put}
 use Rattle.gap.specs.Gaps.{opening}
 use Rattle.gap.specs.Kernels.{gapOpened}
 use Rattle.gap.proofs.Tops.{TopAt, ends-of, top-le, ends-count, ends-top, ends-down}

@@ -10,7 +10,7 @@ use Rattle.storage.specs.Stores.{Bits, Bounded, refused, done, within, wordsFor
 use Rattle.storage.specs.declared.Refusal.{Refusal}
 use Rattle.storage.proofs.Checks.{within-done}
 use Rattle.storage.proofs.Outcomes.{never, which, lacks}
-use Rattle.shape.specs.Shapes.{topOf}
+use Rattle.shapes.specs.Shapes.{topOf}
 use Rattle.gap.specs.Gaps.{opening, closing}
 use Rattle.gap.specs.Kernels.{gapOpened}
 use Rattle.gap.specs.Promises.{Trimmed, Opens, NotOpened, OpenMeans, Closes, CloseMeans}

@@ -18,8 +18,8 @@ use Rattle.word.proofs.Places.{bit-and, bit-not, bit-pack, pack-lt}
 use Rattle.word.proofs.Words.{bit-low-mask, low-mask-lt}
 use Rattle.word.proofs.Lists.{Fit, at-place, past, length-words, word-at, words-is, member-at}
 use Rattle.word.proofs.Sweep.{getD-set}
-use Rattle.shift.specs.Shifts.{movedUp, movedDown}
-use Rattle.shift.proofs.Moves.{moved-up, moved-in}
+use Rattle.shifts.specs.Shifts.{movedUp, movedDown}
+use Rattle.shifts.proofs.Cases.{moved-up, moved-in}
 use Rattle.slice.specs.Kernels.{overlaid}
 use Rattle.slice.proofs.Stricts.{overlay-is}
 use Rattle.gap.specs.Kernels.{gapOpened, gapClosed}

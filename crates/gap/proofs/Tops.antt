@@ -7,8 +7,8 @@ use Rattle.word.specs.Sets.{topBelow, Top}
 use Rattle.word.proofs.Cases.{by-lt}
 use Rattle.word.proofs.Sets.{top, top-is}
 use Rattle.storage.specs.Stores.{Bits, Bounded, wordsFor, trimmedCount}
-use Rattle.shift.specs.Shifts.{movedDown}
-use Rattle.shape.specs.Shapes.{topOf}
+use Rattle.shifts.specs.Shifts.{movedDown}
+use Rattle.shapes.specs.Shapes.{topOf}
 
 -- t is one more than the greatest member of all; or it is 0, and there is none
 pub record TopAt (s : ℕ → Bool) (t : ℕ) : Type 0 where

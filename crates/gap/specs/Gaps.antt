@@ -2,7 +2,7 @@
 use Prim.Native.Nat.{ℕ, _+_}
 use Rattle.storage.specs.Stores.{Op, andThen}
 use Rattle.setops.specs.Setops.{uniting}
-use Rattle.shape.specs.Shapes.{raising, lowered, lowering, truncated}
+use Rattle.shapes.specs.Shapes.{raising, lowered, lowering, truncated}
 
 -- `open` of k places at p: the tail shifted left by p + k, then `or`
 unfoldable pub opening : ℕ → ℕ → Op

@@ -1,8 +1,5 @@
 pub mod Flips
-pub mod Toggles
 pub mod Moves
+pub mod Toggles
 pub mod Sizes
 pub mod Splits
-pub mod Promises
-pub mod Halves
-pub mod Once

@@ -5,11 +5,10 @@ use mathlib.Core.List.{List, _++_}
 use Prim.Native.Nat.{ℕ, suc, _+_, _/_, _^_, _≤_, _<_, max}
 use native.Mathlib.Omega.{arith}
 use lib.ListN.{length, take, drop}
-use borrow.Author.Tests.{le-ltb, lt-ltb, eq-eqb, ne-eqb}
 use Rattle.word.specs.Places.{member, wordsOf}
 use Rattle.word.proofs.Lists.{Fit}
 use Rattle.arch.specs.Scans.{nonzeroLen}
-use Rattle.storage.specs.Stores.{Bits, refused, done, Space, withCount, view, held, within, wordsFor, trimmed, zeroed, Changes}
+use Rattle.storage.specs.Stores.{Bits, withCount, view, held, wordsFor, trimmed, zeroed, Changes}
 use Rattle.storage.specs.Guards.{Passed}
 use Rattle.storage.specs.declared.Bitmap.{Bitmap}
 use Rattle.storage.specs.declared.Refusal.the-variants.{IndexOver, NoSpace}
@@ -18,28 +17,9 @@ use Rattle.storage.proofs.Checks.{within-ok, within-no}
 use Rattle.storage.proofs.Views.{view-count, view-whole}
 use Rattle.storage.proofs.Stores.{changes-done, changes-refused, keeps-changes}
 use Rattle.storage.proofs.Grown.{grown-members, grown-part, part-trimmed, part-trimmed-length}
-use Rattle.shift.specs.Shifts.{movedUp, movedDown}
-use Rattle.shape.specs.Shapes.{topOf, raising, lowered, lowering}
-
--- ---- up: the definition's cases
-
-abbrev pub raised : ℕ → Bits → Bits
-raised k b = record { members = movedUp k (b .members); count = max (b .count) (wordsFor (topOf b + k)) }
-
-module _ (k : ℕ) (c : Space) (b : Bits) where
-  pub raise-none : topOf b ≡ 0 → raising k c b ≡ done b
-  unfolding raising
-  raise-none e = rw (eq-eqb (topOf b) 0 e)
-
-  pub raise-over : (topOf b ≡ 0 → ⊥) → 2 ^ 64 < topOf b + k → raising k c b ≡ refused IndexOver
-  unfolding raising
-  raise-over n h = rw (ne-eqb (topOf b) 0 n, lt-ltb (2 ^ 64) (topOf b + k) h)
-
-  pub raise-put : (topOf b ≡ 0 → ⊥) → topOf b + k ≤ 2 ^ 64 → raising k c b ≡ within c (raised k b)
-  unfolding raising
-  raise-put n h = rw (ne-eqb (topOf b) 0 n, le-ltb (2 ^ 64) (topOf b + k) h)
-
--- ---- the calls
+use Rattle.shifts.specs.Shifts.{movedUp, movedDown}
+use Rattle.shapes.specs.Shapes.{topOf, raising, lowered, lowering}
+use Rattle.shapes.proofs.Cases.{raised, raise-none, raise-over, raise-put}
 
 module _ (ws : List ℕ) (b : Bitmap) (k : ℕ) (f : Fit ws) (p : Passed ws b) where
   pub left-nothing : topOf (held ws b) ≡ 0 → Changes (raising k) ws b (Done b) ws

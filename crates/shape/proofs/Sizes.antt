@@ -23,8 +23,8 @@ use Rattle.storage.proofs.Checks.{beside-ok, within-ok, within-no}
 use Rattle.storage.proofs.Views.{view-count, view-in, view-out, view-whole}
 use Rattle.storage.proofs.Stores.{Stored, changes-done, changes-refused}
 use Rattle.storage.proofs.Grown.{grown-members, grown-part, part-trimmed, part-trimmed-length}
-use Rattle.shift.specs.Shifts.{movedUp}
-use Rattle.shape.specs.Shapes.{cutAt, truncated, truncating, resizing, joined, appending}
+use Rattle.shifts.specs.Shifts.{movedUp}
+use Rattle.shapes.specs.Shapes.{cutAt, truncated, truncating, resizing, joined, appending}
 use Rattle.shape.specs.Kernels.{Copied}
 
 -- what is cleared from k on, below e, of the numbers below e

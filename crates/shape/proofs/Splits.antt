@@ -26,12 +26,12 @@ use Rattle.storage.specs.declared.Guard.the-variants.{Pass, Stop}
 use Rattle.storage.proofs.Checks.{checked-ok, stopped, reading-ok, reading-stopped, told, told-refused, within-ok, within-no}
 use Rattle.storage.proofs.Views.{view-count, view-out, view-whole}
 use Rattle.storage.proofs.Stores.{Stored, stored-written}
-use Rattle.shift.specs.Shifts.{movedDown}
+use Rattle.shifts.specs.Shifts.{movedDown}
 use Rattle.shift.proofs.Moves.{right-word}
-use Rattle.shape.specs.Shapes.{topOf, lowered, truncated, tailOutcome, headOutcome, splitAnswer, Splits}
+use Rattle.shapes.specs.Shapes.{topOf, lowered, truncated, tailOutcome, headOutcome, splitAnswer, Splits}
 use Rattle.shape.specs.Kernels.{Lowered}
-use Rattle.shape.specs.declared.Split.{Split}
-use Rattle.shape.specs.declared.Split.the-variants.{Done, Refused}
+use Rattle.shapes.specs.declared.Split.{Split}
+use Rattle.shapes.specs.declared.Split.the-variants.{Done, Refused}
 use Rattle.shape.proofs.Sizes.{truncate-stored, truncate-count}
 
 -- ---- the greatest member moves down with the others

@@ -7,11 +7,10 @@ use native.Mathlib.Omega.{arith}
 use lib.ListN.{length, getD, set}
 use lib.Dec.{leb, ltb}
 use lib.Bits.{bitXor}
-use borrow.Author.Tests.{le-ltb, lt-ltb, eq-eqb, ne-eqb}
 use Rattle.word.specs.Sets.{xorb}
 use Rattle.word.specs.Words.{single}
 use Rattle.word.proofs.Lists.{Fit}
-use Rattle.storage.specs.Stores.{Bits, refused, done, Space, withCount, view, held, within, flipped, inRegion, zeroed, Changes}
+use Rattle.storage.specs.Stores.{withCount, view, held, flipped, zeroed, Changes}
 use Rattle.storage.specs.Guards.{Passed}
 use Rattle.storage.specs.declared.Bitmap.{Bitmap}
 use Rattle.storage.specs.declared.Refusal.the-variants.{IndexOver, NoSpace}
@@ -20,8 +19,9 @@ use Rattle.storage.proofs.Checks.{within-ok, within-no}
 use Rattle.storage.proofs.Views.{view-count}
 use Rattle.storage.proofs.Stores.{changes-done, changes-refused, keeps-changes}
 use Rattle.storage.proofs.Grown.{grown-long, grown-fit, grown-kept, grown-at, flip-stored}
-use Rattle.shape.specs.Shapes.{toggling, togglingRegion}
+use Rattle.shapes.specs.Shapes.{toggling, togglingRegion}
 use Rattle.shape.specs.Kernels.{Flipped}
+use Rattle.shapes.proofs.Cases.{flippedRegion, region-none, region-over, region-put}
 
 -- ---- `toggle`
 
@@ -41,25 +41,7 @@ module _ (ws : List ℕ) (b : Bitmap) (i : ℕ) (f : Fit ws) (p : Passed ws b) w
       n : ℕ
       n = b .count
 
--- ---- `toggle_region`: the definition's cases
-
-abbrev pub flippedRegion : ℕ → ℕ → Bits → Bits
-flippedRegion i k b = record { members = λ j. xorb (b .members j) (inRegion i k j); count = max (b .count) ((i + k - 1) / 64 + 1) }
-
-module _ (i k : ℕ) (c : Space) (b : Bits) where
-  pub region-none : k ≡ 0 → togglingRegion i k c b ≡ done b
-  unfolding togglingRegion
-  region-none e = rw (eq-eqb k 0 e)
-
-  pub region-over : (k ≡ 0 → ⊥) → 2 ^ 64 < i + k → togglingRegion i k c b ≡ refused IndexOver
-  unfolding togglingRegion
-  region-over n h = rw (ne-eqb k 0 n, lt-ltb (2 ^ 64) (i + k) h)
-
-  pub region-put : (k ≡ 0 → ⊥) → i + k ≤ 2 ^ 64 → togglingRegion i k c b ≡ within c (flippedRegion i k b)
-  unfolding togglingRegion
-  region-put n h = rw (ne-eqb k 0 n, le-ltb (2 ^ 64) (i + k) h)
-
--- ---- the call
+-- ---- `toggle_region`
 
 module _ (ws : List ℕ) (b : Bitmap) (i k : ℕ) (f : Fit ws) (p : Passed ws b) where
   pub region-nothing : k ≡ 0 → Changes (togglingRegion i k) ws b (Done b) ws

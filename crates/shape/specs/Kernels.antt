@@ -7,7 +7,7 @@ use lib.ListN.{length, getD}
 use lib.Dec.{leb, ltb}
 use Rattle.word.specs.Sets.{xorb}
 use Rattle.word.specs.Places.{bit, wordOf, member}
-use Rattle.shift.specs.Shifts.{movedDown}
+use Rattle.shifts.specs.Shifts.{movedDown}
 
 -- the bits from i on, below end, are flipped, and words that have none are as they were
 pub record Flipped (i end : ℕ) (ws ws' : List ℕ) : Type 0 where

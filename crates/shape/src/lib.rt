@@ -1,4 +1,5 @@
 // Calls that flip, shift, resize, split and join a bitmap, growing and trimming it.
+use shapes::Split;
 use storage::Amount;
 use storage::Bitmap;
 use storage::Change;
@@ -10,14 +11,8 @@ ghost use mathlib.Core.Path.{_≡_};
 ghost use Prim.Native.Nat.{_+_, _-_, _/_, _≤_, _<_};
 ghost use lib.ListN.{length};
 ghost use Rattle.storage.specs.Stores.{reading, beside, Changes};
-ghost use Rattle.shape.specs.Shapes.{toggling, togglingRegion, raising, lowered, lowering, truncating, resizing, appending, Splits};
+ghost use Rattle.shapes.specs.Shapes.{toggling, togglingRegion, raising, lowered, lowering, truncating, resizing, appending, Splits};
 ghost use Rattle.shape.specs.Kernels.{Flipped, Copied, Lowered};
-
-// What `split_off` answers: the records of head and tail, or the refusal with the old one.
-pub enum Split {
-    Done(Bitmap, Bitmap),
-    Refused(Refusal, Bitmap),
-}
 
 // Flips bit i; grows to its word.
 pub fn toggle(words: &mut [u64], b: Bitmap, i: usize) -> Change

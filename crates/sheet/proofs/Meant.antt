@@ -5,12 +5,12 @@ use mathlib.Core.Bool.{true, false}
 use Rattle.word.proofs.Cases.{by-eq}
 use Rattle.storage.specs.Stores.{Bits, Bounded}
 use Rattle.storage.proofs.Once.{same-bits, one-bit}
-use Rattle.bits.proofs.Once.{one-reversed}
-use Rattle.shift.proofs.Once.{one-turned-left, one-turned-right}
-use Rattle.bitmap.specs.Promises.{WithRegion, WithField}
-use Rattle.bitmap.proofs.Once.{one-region, one-field}
-use Rattle.shape.specs.Promises.{FlippedFrom}
-use Rattle.shape.proofs.Once.{one-flipped, one-raised, one-lowered, one-resized}
+use Rattle.bitwise.proofs.Once.{one-reversed}
+use Rattle.shifts.proofs.Once.{one-turned-left, one-turned-right}
+use Rattle.bitmaps.specs.Promises.{WithRegion, WithField}
+use Rattle.bitmaps.proofs.Once.{one-region, one-field}
+use Rattle.shapes.specs.Promises.{FlippedFrom}
+use Rattle.shapes.proofs.Once.{one-flipped, one-raised, one-lowered, one-resized}
 use Rattle.gap.proofs.Once.{one-opened, one-closed}
 use Rattle.sheet.specs.Promises.{Does}
 use Rattle.sheet.specs.declared.Edit.{Edit}

@@ -12,12 +12,12 @@ use Rattle.storage.specs.Promises.{Contained, Meets}
 use Rattle.storage.specs.declared.Refusal.{Refusal}
 use Rattle.storage.proofs.Outcomes.{same, never, which, by-outcome, contained-done}
 use Rattle.storage.proofs.Promises.{each-number-once}
-use Rattle.bits.proofs.Promises.{reverses}
-use Rattle.shift.proofs.Promises.{rotates-left, rotates-right}
-use Rattle.bitmap.specs.Bitmaps.{settingRegion, settingField}
-use Rattle.bitmap.proofs.Promises.{sets, unsets, regions, region-nothing, fields, field-nothing}
-use Rattle.shape.specs.Shapes.{togglingRegion}
-use Rattle.shape.proofs.Promises.{toggles-region, region-nothing as toggles-nothing, raises, lowers, resizes}
+use Rattle.bitwise.proofs.Promises.{reverses}
+use Rattle.shifts.proofs.Promises.{rotates-left, rotates-right}
+use Rattle.bitmaps.specs.Bitmaps.{settingRegion, settingField}
+use Rattle.bitmaps.proofs.Promises.{sets, unsets, regions, region-nothing, fields, field-nothing}
+use Rattle.shapes.specs.Shapes.{togglingRegion}
+use Rattle.shapes.proofs.Promises.{toggles-region, region-nothing as toggles-nothing, raises, lowers, resizes}
 use Rattle.gap.proofs.Promises.{opens, closes}
 use Rattle.sheet.specs.Kinds.{Ranged}
 use Rattle.sheet.specs.Reader.{stop, next}

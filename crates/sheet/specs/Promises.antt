@@ -15,10 +15,10 @@ use Rattle.storage.specs.Stores.{Bits, Bounded, noWords, spaceOf, held, written
 use Rattle.storage.specs.Guards.{mostWords, Stopped, Passed}
 use Rattle.storage.specs.declared.Bitmap.{Bitmap}
 use Rattle.storage.specs.declared.Refusal.{Refusal}
-use Rattle.bits.specs.Promises.{Reversed}
-use Rattle.shift.specs.Promises.{RotatedLeft, RotatedRight}
-use Rattle.bitmap.specs.Promises.{WithBit, WithoutBit, WithRegion, WithField}
-use Rattle.shape.specs.Promises.{FlippedFrom, RaisedBy, LoweredBy, ResizedTo}
+use Rattle.bitwise.specs.Promises.{Reversed}
+use Rattle.shifts.specs.Promises.{RotatedLeft, RotatedRight}
+use Rattle.bitmaps.specs.Promises.{WithBit, WithoutBit, WithRegion, WithField}
+use Rattle.shapes.specs.Promises.{FlippedFrom, RaisedBy, LoweredBy, ResizedTo}
 use Rattle.gap.specs.Promises.{Opens, Closes}
 use Rattle.sheet.specs.Kinds.{sizeIn, known, knownNumber, knownBytes, kindOf, payloadOf, Ranged}
 use Rattle.sheet.specs.Paper.{IsEdition, paperLine, values, given, Allowed, digits, cellDigits, byteDigits}

@@ -11,10 +11,10 @@ use Rattle.storage.specs.Stores.{Bits, Outcome, refused, done, Space, Op, noWor
 use Rattle.storage.specs.declared.Bitmap.{Bitmap}
 use Rattle.storage.specs.declared.Refusal.{Refusal}
 use Rattle.storage.specs.declared.Refusal.the-variants.{NoSpace, NoEdition}
-use Rattle.bits.specs.Bitwise.{reversing}
-use Rattle.shift.specs.Shifts.{rotatingLeft, rotatingRight}
-use Rattle.bitmap.specs.Bitmaps.{setting, unsetting, settingRegion, settingField}
-use Rattle.shape.specs.Shapes.{togglingRegion, raising, lowering, resizing}
+use Rattle.bitwise.specs.Bitwise.{reversing}
+use Rattle.shifts.specs.Shifts.{rotatingLeft, rotatingRight}
+use Rattle.bitmaps.specs.Bitmaps.{setting, unsetting, settingRegion, settingField}
+use Rattle.shapes.specs.Shapes.{togglingRegion, raising, lowering, resizing}
 use Rattle.gap.specs.Gaps.{opening, closing}
 use Rattle.sheet.specs.Kinds.{sizeIn, ruleOf}
 use Rattle.sheet.specs.Reader.{Edition, Turn, stop, next, Answer, refused, done, read}

@@ -14,7 +14,7 @@ use Rattle.storage.specs.declared.Bitmap.{Bitmap}
 use Rattle.storage.specs.declared.Change.the-variants.{Done}
 use Rattle.storage.proofs.Views.{view-count, view-whole}
 use Rattle.storage.proofs.Stores.{part-changes}
-use Rattle.shift.specs.Shifts.{kept}
+use Rattle.shifts.specs.Shifts.{kept}
 
 -- f makes the set from the length and the old set
 pub kept-changes : (op : Op) (f : ℕ → (ℕ → Bool) → ℕ → Bool) (ws part : List ℕ) (b : Bitmap) → Passed ws b

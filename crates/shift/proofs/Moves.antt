@@ -1,10 +1,10 @@
 -- What the walks of the shifts leave: each new word is made of two neighbours, and the words that nothing moves into are 0.
 use mathlib.Core.Path.{_≡_, refl, sym, ap, ap₂, _∙_}
-use mathlib.Core.Bool.{Bool, false, _&&_}
+use mathlib.Core.Bool.{Bool, false}
 use mathlib.Core.List.{List}
 use Prim.Native.Nat.{ℕ, _+_, _-_, _*_, _/_, _%_, _^_, _≤_, _<_}
 use native.Mathlib.Omega.{arith}
-use borrow.Author.Tests.{lt-ltb, le-ltb, le-leb, lt-leb}
+use borrow.Author.Tests.{lt-ltb, le-ltb}
 use lib.ListN.{length, getD, set, length-set}
 use Rattle.word.specs.Sets.{choose}
 use Rattle.word.specs.Places.{bit, wordOf, member, wordsOf}
@@ -16,9 +16,10 @@ use Rattle.word.proofs.Lists.{Fit, past, tab-is, member-at, member-past}
 use Rattle.word.proofs.Sweep.{Swept, sweep-none, sweep-to, sweep-down, sweep-up}
 use Rattle.arch.specs.Scans.{filledWords}
 use Rattle.arch.proofs.Regions.{length-filled-words, filled-in, filled-below, filled-above}
-use Rattle.shift.specs.Shifts.{movedUp, movedDown}
+use Rattle.shifts.specs.Shifts.{movedUp, movedDown}
 use Rattle.moves.specs.Promises.{GoesUp, GoesDown}
 use Rattle.moves.proofs.Promises.{came-up}
+use Rattle.shifts.proofs.Cases.{moved-up, moved-in}
 
 -- ---- one word
 
@@ -66,15 +67,6 @@ pub length-after : (old ws ws' : List ℕ) (i v a e : ℕ) → length ws ≡ len
 length-after old ws ws' i v a e l f = ap length f ∙ length-filled-words a e 0 (set ws i v) ∙ length-set ws i v ∙ l
 
 -- ---- moved up
-
-pub moved-up : (k : ℕ) (s : ℕ → Bool) (i : ℕ) → k ≤ i → movedUp k s i ≡ s (i - k)
-unfolding movedUp
-moved-up k s i h = ap (λ (t : Bool). t && s (i - k)) (le-leb k i h)
-
--- nothing moves in below k
-pub moved-in : (k : ℕ) (s : ℕ → Bool) (i : ℕ) → i < k → movedUp k s i ≡ false
-unfolding movedUp
-moved-in k s i h = ap (λ (t : Bool). t && s (i - k)) (lt-leb k i h)
 
 module _ (ws : List ℕ) (fit : Fit ws) (k : ℕ) where
   abbrev left : ℕ → Bool

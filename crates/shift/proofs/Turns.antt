@@ -14,11 +14,11 @@ use Rattle.word.proofs.Cases.{by-lt, by-eq}
 use Rattle.word.proofs.Places.{bit-pack}
 use Rattle.word.proofs.Lists.{Fit, tab-is, words-is, length-words, word-at, words-fit, member-at, member-words}
 use Rattle.word.proofs.Sweep.{Swept, sweep-to, sweep-up, sweep-down}
-use Rattle.shift.specs.Shifts.{turnedUp, turnedDown}
+use Rattle.shifts.specs.Shifts.{turnedUp, turnedDown}
 use Rattle.moves.specs.Moves.{turnedWords}
 use Rattle.shift.proofs.Moves.{funneled-is}
 use Rattle.moves.proofs.Swaps.{turned-long, turned-low, turned-high}
-use Rattle.shift.proofs.Rings.{turned-from, turned-by, turned-rest, turned-twice, sunk-by}
+use Rattle.shifts.proofs.Rings.{turned-from, turned-by, turned-rest, turned-twice, sunk-by}
 
 -- where there are no words, they are any set's
 pub no-words : (ws : List ℕ) (s : ℕ → Bool) → length ws ≡ 0 → ws ≡ wordsOf s (length ws)

@@ -9,7 +9,7 @@ ghost use Prim.Native.Nat.{_*_, _<_};
 ghost use lib.ListN.{length};
 ghost use Rattle.word.specs.Places.{member, wordsOf};
 ghost use Rattle.storage.specs.Stores.{Changes};
-ghost use Rattle.shift.specs.Shifts.{
+ghost use Rattle.shifts.specs.Shifts.{
   movedUp,
   movedDown,
   turnedUp,

@@ -20,8 +20,8 @@ use Rattle.storage.specs.declared.Guard.{Guard}
 use Rattle.storage.specs.declared.Guard.the-variants.{Pass, Stop}
 use Rattle.arch.specs.declared.FoundWord.{FoundWord}
 use Rattle.arch.specs.declared.FoundWord.the-variants.{At, Nothing}
-use Rattle.shape.specs.declared.Split.{Split}
-use Rattle.shape.specs.declared.Split.the-variants.{Done, Refused}
+use Rattle.shapes.specs.declared.Split.{Split}
+use Rattle.shapes.specs.declared.Split.the-variants.{Done, Refused}
 use Rattle.told.specs.declared.Told.{Told}
 use Rattle.told.specs.Tellings.{SameNumbers, four, foundTold, amountTold, fieldTold, truthTold, changeTold, splitTold, wordTold, guardTold}
 

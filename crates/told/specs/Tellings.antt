@@ -14,9 +14,9 @@ use Rattle.storage.specs.declared.Truth.the-variants.{Is, Refused}
 use Rattle.storage.specs.declared.Guard.{Guard}
 use Rattle.arch.specs.Scans.{wordFlag, wordIndex, wordThere}
 use Rattle.arch.specs.declared.FoundWord.{FoundWord}
-use Rattle.shape.specs.Shapes.{splitNumber, splitHead, splitTail}
-use Rattle.shape.specs.declared.Split.{Split}
-use Rattle.shape.specs.declared.Split.the-variants.{Done, Refused}
+use Rattle.shapes.specs.Shapes.{splitNumber, splitHead, splitTail}
+use Rattle.shapes.specs.declared.Split.{Split}
+use Rattle.shapes.specs.declared.Split.the-variants.{Done, Refused}
 use Rattle.told.specs.declared.Told.{Told}
 
 -- r is t, number by number

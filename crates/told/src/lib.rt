@@ -1,6 +1,6 @@
 // What a call answers, as four numbers: what crosses to C of it, and what a list of calls has of it and two answers are compared by.
 use arch::FoundWord;
-use shape::Split;
+use shapes::Split;
 use storage::Amount;
 use storage::Change;
 use storage::Field;

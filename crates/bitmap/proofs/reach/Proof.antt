@@ -4,7 +4,7 @@ use Prim.Native.Nat.{_+_, _-_, _/_, _≤_, ℕ, max}
 use native.Mathlib.Omega.{arith}
 use lib.ListN.{length, getD, take}
 use borrow.Author.Needs.{needs}
-use Rattle.bitmap.specs.Bitmaps.{reachOf}
+use Rattle.bitmaps.specs.Bitmaps.{reachOf}
 use Rattle.bitmap.proofs.Many.{reach-none, reach-next, take-all}
 use Rattle.bitmap.proofs.reach.Statement.{statement}
 use Rattle.bitmap.proofs.reach.Tie as tie

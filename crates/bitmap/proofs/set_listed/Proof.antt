@@ -6,7 +6,8 @@ use native.Mathlib.Omega.{arith}
 use lib.ListN.{length, take}
 use borrow.Author.Needs.{needs}
 use Rattle.bitmap.specs.Kernels.{SetsListed}
-use Rattle.bitmap.proofs.Many.{reach-in, take-all, listed-none, listed-next}
+use Rattle.bitmaps.proofs.Cases.{reach-in}
+use Rattle.bitmap.proofs.Many.{take-all, listed-none, listed-next}
 use Rattle.bitmap.proofs.set_listed.Statement.{statement}
 use Rattle.bitmap.proofs.set_listed.Tie as tie
 

@@ -7,7 +7,7 @@ use lib.Seq.{length-take-le}
 use Rattle.storage.specs.Stores.{held}
 use Rattle.storage.specs.Guards.{Passed}
 use Rattle.storage.proofs.Stores.{changes-stopped}
-use Rattle.shape.specs.Shapes.{topOf}
+use Rattle.shapes.specs.Shapes.{topOf}
 use Rattle.scans.proofs.Lasts.{last-refused, last-nothing, last-at}
 use Rattle.gap.proofs.Calls.{open-trims, open-refused, open-no-space, open-changes}
 use Rattle.gap.proofs.open_gap.Statement.{statement}

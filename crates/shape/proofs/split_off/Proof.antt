@@ -3,7 +3,7 @@ use Rattle.shape.proofs.Splits.{tail-told-refused, tail-told, tail-insi
 use Rattle.storage.specs.Stores.{noWords, held}
 use Rattle.storage.specs.Guards.{Passed}
 use Rattle.storage.proofs.Checks.{passed}
-use Rattle.shape.specs.Shapes.{lowered}
+use Rattle.shapes.specs.Shapes.{lowered}
 use lib.Seq.{length-take-le}
 use native.Mathlib.Omega.{arith}
 use Rattle.word.proofs.Lists.{Fit}

@@ -5,7 +5,7 @@ use native.Mathlib.Omega.{arith}
 use Prim.Native.Nat.{suc}
 use Rattle.storage.specs.Stores.{held}
 use Rattle.storage.specs.Guards.{Passed}
-use Rattle.shape.specs.Shapes.{topOf}
+use Rattle.shapes.specs.Shapes.{topOf}
 use mathlib.Core.Path.{_≡_, sym, _∙_}
 use borrow.Author.Needs.{needs}
 use Rattle.shape.proofs.tail_len.Statement.{statement}

@@ -8,7 +8,7 @@ use Rattle.word.specs.Places.{member, wordOf}
 use Rattle.word.proofs.Sweep.{Swept, sweep-none, sweep-to}
 use Rattle.arch.proofs.Regions.{length-filled-words}
 use Rattle.moves.proofs.Promises.{gone-up}
-use Rattle.shift.specs.Shifts.{movedUp}
+use Rattle.shifts.specs.Shifts.{movedUp}
 use Rattle.shift.proofs.Moves.{length-after, left-step, left-last, left-out, left-moved}
 use Rattle.shift.proofs.left_words.Statement.{statement}
 use Rattle.shift.proofs.left_words.Tie as tie

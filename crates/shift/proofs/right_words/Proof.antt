@@ -8,7 +8,7 @@ use Rattle.word.specs.Places.{member, wordOf}
 use Rattle.word.proofs.Sweep.{Swept, sweep-none}
 use Rattle.arch.proofs.Regions.{length-filled-words}
 use Rattle.moves.proofs.Promises.{gone-down}
-use Rattle.shift.specs.Shifts.{movedDown}
+use Rattle.shifts.specs.Shifts.{movedDown}
 use Rattle.shift.proofs.Moves.{length-after, right-step, right-last, right-out, right-moved}
 use Rattle.shift.proofs.right_words.Statement.{statement}
 use Rattle.shift.proofs.right_words.Tie as tie

@@ -5,7 +5,7 @@ use lib.Seq.{length-take-le}
 use Rattle.storage.specs.Guards.{Passed}
 use Rattle.storage.proofs.Checks.{passed}
 use Rattle.storage.proofs.Stores.{changes-stopped}
-use Rattle.shift.specs.Shifts.{shiftingRight, movedDown}
+use Rattle.shifts.specs.Shifts.{shiftingRight, movedDown}
 use Rattle.shift.proofs.Calls.{kept-changes}
 use Rattle.shift.proofs.shift_right.Statement.{statement}
 use Rattle.shift.proofs.shift_right.Tie as tie

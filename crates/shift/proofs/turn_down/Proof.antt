@@ -6,7 +6,7 @@ use borrow.Author.Needs.{needs}
 use lib.ListN.{length-set, length}
 use Rattle.word.specs.Places.{member, wordOf}
 use Rattle.word.proofs.Sweep.{Swept, sweep-none}
-use Rattle.shift.specs.Shifts.{turnedDown}
+use Rattle.shifts.specs.Shifts.{turnedDown}
 use Rattle.shift.proofs.Turns.{sunk-none, down-step, down-last}
 use Rattle.shift.proofs.turn_down.Statement.{statement}
 use Rattle.shift.proofs.turn_down.Tie as tie

@@ -6,7 +6,7 @@ use borrow.Author.Needs.{needs}
 use lib.ListN.{length-set, length}
 use Rattle.word.specs.Places.{member, wordOf}
 use Rattle.word.proofs.Sweep.{Swept, sweep-none, sweep-to}
-use Rattle.shift.specs.Shifts.{turnedUp}
+use Rattle.shifts.specs.Shifts.{turnedUp}
 use Rattle.shift.proofs.Turns.{turn-none, up-step, up-last}
 use Rattle.shift.proofs.turn_up.Statement.{statement}
 use Rattle.shift.proofs.turn_up.Tie as tie

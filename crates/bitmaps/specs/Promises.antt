@@ -8,7 +8,7 @@ use lib.ListN.{length, getD}
 use Rattle.word.specs.Places.{bit}
 use Rattle.storage.specs.Stores.{Bits}
 use Rattle.storage.specs.Promises.{LeastCount, Meets, Unchanged, Never, Lacks, LacksResult, MeetsExactly}
-use Rattle.bitmap.specs.Bitmaps.{trimming, setting, unsetting, settingMany, settingRegion, settingField, tidied, keepingBit, droppingBit, flippingBit}
+use Rattle.bitmaps.specs.Bitmaps.{trimming, setting, unsetting, settingMany, settingRegion, settingField, tidied, keepingBit, droppingBit, flippingBit}
 
 -- `set`: i is a member, every other number is as it was, and the words reach to i's
 pub record WithBit (i : ℕ) (b s : Bits) : Type 0 where

@@ -5,7 +5,7 @@ use mathlib.Core.Logic.{_⊎_, inl, inr}
 use Prim.Native.Nat.{ℕ, _+_, _-_, _%_, _<_}
 use native.Mathlib.Nat.{mod-lt, mod-eq-of-lt, mod-mod, mod-add-mod, add-mod-mod, add-mod-right}
 use native.Mathlib.Omega.{arith}
-use Rattle.shift.specs.Shifts.{turnedUp, turnedDown}
+use Rattle.shifts.specs.Shifts.{turnedUp, turnedDown}
 
 -- from where i came, k on is i
 pub there : (len k i : ℕ) → i < len → ((i + (len - k % len)) % len + k) % len ≡ i

@@ -7,9 +7,9 @@ use Rattle.word.proofs.Cases.{by-lt}
 use Rattle.storage.specs.Stores.{Bounded, Op}
 use Rattle.storage.proofs.Once.{same-bits, same-set, once-never}
 use Rattle.storage.proofs.Promises.{once-exact}
-use Rattle.shift.specs.Shifts.{shiftingLeft, shiftingRight, rotatingLeft, rotatingRight}
-use Rattle.shift.specs.Promises.{Moves, MovesExactly, ShiftedLeft, ShiftedRight, RotatedLeft, RotatedRight, CallsExact}
-use Rattle.shift.proofs.Promises.{shifts-left, shifts-right, rotates-left, rotates-right}
+use Rattle.shifts.specs.Shifts.{shiftingLeft, shiftingRight, rotatingLeft, rotatingRight}
+use Rattle.shifts.specs.Promises.{Moves, MovesExactly, ShiftedLeft, ShiftedRight, RotatedLeft, RotatedRight, CallsExact}
+use Rattle.shifts.proofs.Promises.{shifts-left, shifts-right, rotates-left, rotates-right}
 
 module _ (k len : ℕ) (old f g : ℕ → Bool) where
   one-left : ShiftedLeft k len old f → ShiftedLeft k len old g → (m : ℕ) → f m ≡ g m

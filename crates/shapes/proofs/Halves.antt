@@ -17,11 +17,11 @@ use Rattle.storage.proofs.Checks.{within-ok, within-no}
 use Rattle.storage.proofs.Outcomes.{by-outcome}
 use Rattle.storage.proofs.Views.{view-count, bounded-view}
 use Rattle.storage.proofs.Promises.{guarded, stored}
-use Rattle.shape.specs.Shapes.{lowered, truncated, tailOutcome, headOutcome, splitAnswer, splitNumber, splitHead, splitTail}
-use Rattle.shape.specs.Promises.{LoweredBy, TruncatedTo, SplitKept, Halves, SplitMeans, SplitOffMeans, SplitKeeps}
-use Rattle.shape.specs.declared.Split.{Split}
-use Rattle.shape.specs.declared.Split.the-variants.{Refused}
-use Rattle.shape.proofs.Promises.{lowers-by, bounded-lowered, truncates-to, bounded-truncated}
+use Rattle.shapes.specs.Shapes.{lowered, truncated, tailOutcome, headOutcome, splitAnswer, splitNumber, splitHead, splitTail}
+use Rattle.shapes.specs.Promises.{LoweredBy, TruncatedTo, SplitKept, Halves, SplitMeans, SplitOffMeans, SplitKeeps}
+use Rattle.shapes.specs.declared.Split.{Split}
+use Rattle.shapes.specs.declared.Split.the-variants.{Refused}
+use Rattle.shapes.proofs.Promises.{lowers-by, bounded-lowered, truncates-to, bounded-truncated}
 
 module _ (at : ℕ) (ws : List ℕ) (b : Bitmap) (ts : List ℕ) where
   abbrev v : Bits

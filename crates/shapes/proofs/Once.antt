@@ -11,9 +11,9 @@ use Rattle.storage.specs.Stores.{Bits, Bounded}
 use Rattle.storage.specs.Promises.{OneEnd}
 use Rattle.storage.proofs.Once.{same-bits, same-set, by-region, fewest-of, once-never, once-lacks}
 use Rattle.storage.proofs.Promises.{once-exact}
-use Rattle.shape.specs.Shapes.{toggling, togglingRegion, raising, lowering, truncating, resizing, appending}
-use Rattle.shape.specs.Promises.{FlippedFrom, NotFlipped, IsTop, RaisedBy, TopPasses, LoweredBy, TruncatedTo, ResizedTo, JoinedWith, CallsExact}
-use Rattle.shape.proofs.Promises.{toggles, toggles-region, raises, lowers, truncates, resizes, joins}
+use Rattle.shapes.specs.Shapes.{toggling, togglingRegion, raising, lowering, truncating, resizing, appending}
+use Rattle.shapes.specs.Promises.{FlippedFrom, NotFlipped, IsTop, RaisedBy, TopPasses, LoweredBy, TruncatedTo, ResizedTo, JoinedWith, CallsExact}
+use Rattle.shapes.proofs.Promises.{toggles, toggles-region, raises, lowers, truncates, resizes, joins}
 
 module _ (b s t : Bits) where
   pub one-flipped : (i k : ℕ) → (k ≡ 0 → ⊥) → FlippedFrom i k b s → FlippedFrom i k b t → s ≡ t

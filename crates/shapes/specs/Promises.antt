@@ -7,8 +7,8 @@ use mathlib.Core.Logic.{_⊎_}
 use Rattle.storage.specs.Stores.{Bits, Bounded, Space, noWords, spaceOf, held}
 use Rattle.storage.specs.Promises.{LeastCount, GuardedBoth, Meets, Unchanged, Never, Lacks, Kept, Made, MeetsExactly}
 use Rattle.storage.specs.declared.Bitmap.{Bitmap}
-use Rattle.shape.specs.Shapes.{toggling, togglingRegion, raising, lowering, truncating, resizing, appending, splitNumber, splitHead, splitTail, Splits}
-use Rattle.shape.specs.declared.Split.{Split}
+use Rattle.shapes.specs.Shapes.{toggling, togglingRegion, raising, lowering, truncating, resizing, appending, splitNumber, splitHead, splitTail, Splits}
+use Rattle.shapes.specs.declared.Split.{Split}
 
 -- k > 0 numbers, those from i on, below i + k, flip and no others; the words reach to the last
 pub record FlippedFrom (i k : ℕ) (b s : Bits) : Type 0 where

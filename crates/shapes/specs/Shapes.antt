@@ -9,9 +9,9 @@ use Rattle.storage.specs.Refusals.{numberOf}
 use Rattle.storage.specs.Stores.{Bits, Outcome, refused, done, Op, withCount, noWords, spaceOf, checked, view, held, within, upTo, flipped, inRegion, passes, wordsFor, trimmed, store, andThen}
 use Rattle.storage.specs.declared.Bitmap.{Bitmap}
 use Rattle.storage.specs.declared.Refusal.the-variants.{IndexOver}
-use Rattle.shift.specs.Shifts.{movedUp, movedDown}
-use Rattle.shape.specs.declared.Split.{Split}
-use Rattle.shape.specs.declared.Split.the-variants.{Done, Refused}
+use Rattle.shifts.specs.Shifts.{movedUp, movedDown}
+use Rattle.shapes.specs.declared.Split.{Split}
+use Rattle.shapes.specs.declared.Split.the-variants.{Done, Refused}
 
 -- one past the greatest member; 0 where there is none
 abbrev pub topOf : Bits → ℕ

@@ -23,10 +23,10 @@ use Rattle.storage.specs.declared.Amount.{Amount}
 use Rattle.storage.specs.declared.Amount.the-variants.{Is}
 use Rattle.storage.proofs.Outcomes.{same, never, which, contained-done}
 use Rattle.storage.proofs.Promises.{amount-call, found-call}
-use Rattle.bits.specs.Bitwise.{togglingInside, inverting, reversing, clearSize, countRegion, rankOf, selected}
-use Rattle.bits.specs.Promises.{Toggled, TogglesInside, Inverted, Inverts, Reversed, Reverses, InvertWordsMeans, ReverseWordsMeans}
-use Rattle.bits.specs.Promises.{CountClearBitsMeans, CountRegionMeans, RankMeans, Selected, SelectMeans}
-use Rattle.bits.proofs.Moves.{toggling-past}
+use Rattle.bitwise.specs.Bitwise.{togglingInside, inverting, reversing, clearSize, countRegion, rankOf, selected}
+use Rattle.bitwise.specs.Promises.{Toggled, TogglesInside, Inverted, Inverts, Reversed, Reverses, InvertWordsMeans, ReverseWordsMeans}
+use Rattle.bitwise.specs.Promises.{CountClearBitsMeans, CountRegionMeans, RankMeans, Selected, SelectMeans}
+use Rattle.bitwise.proofs.Cases.{toggling-past}
 
 -- ---- toggle
 

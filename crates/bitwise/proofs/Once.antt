@@ -8,9 +8,9 @@ use Rattle.storage.specs.Stores.{Bits}
 use Rattle.storage.specs.Promises.{OneEnd}
 use Rattle.storage.proofs.Once.{same-bits, one-bit, once-never}
 use Rattle.storage.proofs.Promises.{once-exact}
-use Rattle.bits.specs.Bitwise.{togglingInside, inverting, reversing}
-use Rattle.bits.specs.Promises.{Toggled, Inverted, Reversed, CallsExact}
-use Rattle.bits.proofs.Promises.{toggles-inside, inverts, reverses}
+use Rattle.bitwise.specs.Bitwise.{togglingInside, inverting, reversing}
+use Rattle.bitwise.specs.Promises.{Toggled, Inverted, Reversed, CallsExact}
+use Rattle.bitwise.proofs.Promises.{toggles-inside, inverts, reverses}
 
 one-inverted : (b s t : Bits) → Inverted b s → Inverted b t → s ≡ t
 one-inverted b s t p q =

@@ -5,7 +5,7 @@ use mathlib.Core.Bool.{Bool, true, false}
 use Rattle.word.specs.Promises.{MovesWords}
 use Rattle.storage.specs.Stores.{Bits, Bounded, done, Op}
 use Rattle.storage.specs.Promises.{Meets, Never, MeetsExactly}
-use Rattle.shift.specs.Shifts.{movedUp, movedDown, turnedUp, turnedDown, shiftingLeft, shiftingRight, rotatingLeft, rotatingRight}
+use Rattle.shifts.specs.Shifts.{movedUp, movedDown, turnedUp, turnedDown, shiftingLeft, shiftingRight, rotatingLeft, rotatingRight}
 
 -- whatever the capacity, the call is done, the count stays, and the rule holds of the length, the old set and the new one
 abbrev pub Moves : Op → (ℕ → (ℕ → Bool) → (ℕ → Bool) → Type 0) → Type 0

@@ -17,13 +17,13 @@ use Rattle.storage.specs.Promises.{LeastCount}
 use Rattle.storage.proofs.Checks.{within-done}
 use Rattle.storage.proofs.Outcomes.{same, never, which, lacks, meets-nothing}
 use Rattle.storage.proofs.Promises.{least-count}
-use Rattle.bitmap.specs.Bitmaps.{trimming, setting, without, unsetting, isListed, reachOf, settingMany, settingRegion, settingField, tidied, alone, keepingBit, droppingBit, flippingBit}
-use Rattle.bitmap.specs.Promises.{WithBit, WithListed, WithoutBit, Fewest, WithRegion, WithField, Tidied, Tidies, FlippedBit, Sets, SetsMany}
-use Rattle.bitmap.specs.Promises.{Unsets, Trims, Regions, SetsNoRegion, FieldsSet, FieldUnchanged, KeepsBit, DropsBit, FlipsBit}
-use Rattle.bitmap.proofs.Many.{reach-in, reach-who, reach-under, listed-at, listed-who}
-use Rattle.bitmap.proofs.Contained.{contained-setting, contained-setting-many, contained-unsetting, contained-trimming, contained-setting-region, contained-setting-field, contained-keeping, contained-dropping, contained-flipping}
-use Rattle.bitmap.proofs.Regions.{region-none, region-over, region-put}
-use Rattle.bitmap.proofs.Fields.{zero-digit, no-digits, some-at, field-wide, field-over, field-put}
+use Rattle.bitmaps.specs.Bitmaps.{trimming, setting, without, unsetting, isListed, reachOf, settingMany, settingRegion, settingField, tidied, alone, keepingBit, droppingBit, flippingBit}
+use Rattle.bitmaps.specs.Promises.{WithBit, WithListed, WithoutBit, Fewest, WithRegion, WithField, Tidied, Tidies, FlippedBit, Sets, SetsMany}
+use Rattle.bitmaps.specs.Promises.{Unsets, Trims, Regions, SetsNoRegion, FieldsSet, FieldUnchanged, KeepsBit, DropsBit, FlipsBit}
+use Rattle.bitmaps.proofs.Cases.{reach-in, reach-who, reach-under, listed-at, listed-who}
+use Rattle.bitmaps.proofs.Contained.{contained-setting, contained-setting-many, contained-unsetting, contained-trimming, contained-setting-region, contained-setting-field, contained-keeping, contained-dropping, contained-flipping}
+use Rattle.bitmaps.proofs.Cases.{region-none, region-over, region-put}
+use Rattle.bitmaps.proofs.Cases.{zero-digit, no-digits, some-at, field-wide, field-over, field-put}
 
 pub sets : Sets
 unfolding setting

@@ -17,13 +17,13 @@ use Rattle.storage.proofs.Checks.{within-done}
 use Rattle.storage.proofs.Outcomes.{same, never, which, lacks, bounded-flipped, contained-within, contained-done, meets-nothing}
 use Rattle.storage.proofs.Trims.{bounded-trimmed}
 use Rattle.storage.proofs.Promises.{least-count}
-use Rattle.shift.specs.Shifts.{movedDown}
-use Rattle.shift.proofs.Moves.{moved-up, moved-in}
-use Rattle.shape.specs.Shapes.{topOf, cutAt, toggling, togglingRegion, raising, lowered, lowering, truncated, truncating, resizing, joined, appending}
-use Rattle.shape.specs.Promises.{FlippedFrom, Toggles, TogglesRegion, TogglesNoRegion, IsTop, RaisedBy, TopPasses, Raises, LoweredBy, Lowers}
-use Rattle.shape.specs.Promises.{CutBelow, TruncatedTo, Truncates, ResizedTo, Resizes, JoinedWith, Joins}
-use Rattle.shape.proofs.Toggles.{flippedRegion, region-none, region-over, region-put}
-use Rattle.shape.proofs.Moves.{raised, raise-none, raise-over, raise-put}
+use Rattle.shifts.specs.Shifts.{movedDown}
+use Rattle.shifts.proofs.Cases.{moved-up, moved-in}
+use Rattle.shapes.specs.Shapes.{topOf, cutAt, toggling, togglingRegion, raising, lowered, lowering, truncated, truncating, resizing, joined, appending}
+use Rattle.shapes.specs.Promises.{FlippedFrom, Toggles, TogglesRegion, TogglesNoRegion, IsTop, RaisedBy, TopPasses, Raises, LoweredBy, Lowers}
+use Rattle.shapes.specs.Promises.{CutBelow, TruncatedTo, Truncates, ResizedTo, Resizes, JoinedWith, Joins}
+use Rattle.shapes.proofs.Cases.{flippedRegion, region-none, region-over, region-put}
+use Rattle.shapes.proofs.Cases.{raised, raise-none, raise-over, raise-put}
 
 -- ---- flipped
 

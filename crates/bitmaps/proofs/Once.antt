@@ -13,10 +13,10 @@ use Rattle.storage.specs.Stores.{Bits}
 use Rattle.storage.specs.Promises.{OneEnd}
 use Rattle.storage.proofs.Once.{same-bits, same-set, by-region, one-bit, fewest-of, once-never, once-lacks, once-lacks-result}
 use Rattle.storage.proofs.Promises.{once-exact}
-use Rattle.bitmap.specs.Bitmaps.{setting, unsetting, trimming, settingMany, settingRegion, settingField, keepingBit, droppingBit, flippingBit}
-use Rattle.bitmap.specs.Promises.{WithBit, WithListed, LacksListed, WithoutBit, Fewest, WithRegion, NoRegion, WithField, NoField, Tidied, OnlyBit, FlippedBit, ThenTidied, CallsExact}
-use Rattle.bitmap.proofs.Fields.{zero-digit, some-at}
-use Rattle.bitmap.proofs.Promises.{sets, sets-many, unsets, trims, regions, fields, keeps-bit, drops-bit, flips-bit}
+use Rattle.bitmaps.specs.Bitmaps.{setting, unsetting, trimming, settingMany, settingRegion, settingField, keepingBit, droppingBit, flippingBit}
+use Rattle.bitmaps.specs.Promises.{WithBit, WithListed, LacksListed, WithoutBit, Fewest, WithRegion, NoRegion, WithField, NoField, Tidied, OnlyBit, FlippedBit, ThenTidied, CallsExact}
+use Rattle.bitmaps.proofs.Cases.{zero-digit, some-at}
+use Rattle.bitmaps.proofs.Promises.{sets, sets-many, unsets, trims, regions, fields, keeps-bit, drops-bit, flips-bit}
 
 module _ (b s t : Bits) where
   pub one-region : (i : ℕ) (v : Bool) (k : ℕ) → (k ≡ 0 → ⊥) → WithRegion i v k b s → WithRegion i v k b t → s ≡ t

@@ -16,10 +16,10 @@ use Rattle.storage.specs.declared.Refusal.the-variants.{WidthOver, IndexOver}
 use Rattle.storage.proofs.Outcomes.{never, bounded-flipped, contained-within, contained-done}
 use Rattle.storage.proofs.Trims.{bounded-trimmed}
 use Rattle.storage.proofs.Promises.{least-count}
-use Rattle.bitmap.specs.Bitmaps.{trimming, setting, without, unsetting, isListed, reachOf, settingMany, settingRegion, settingField, tidied, alone, keepingBit, droppingBit, flippingBit}
-use Rattle.bitmap.proofs.Many.{reach-in, listed-who}
-use Rattle.bitmap.proofs.Regions.{region-none, region-over, region-put}
-use Rattle.bitmap.proofs.Fields.{field-wide, field-over, field-some, field-cleared}
+use Rattle.bitmaps.specs.Bitmaps.{trimming, setting, without, unsetting, isListed, reachOf, settingMany, settingRegion, settingField, tidied, alone, keepingBit, droppingBit, flippingBit}
+use Rattle.bitmaps.proofs.Cases.{reach-in, listed-who}
+use Rattle.bitmaps.proofs.Cases.{region-none, region-over, region-put}
+use Rattle.bitmaps.proofs.Cases.{field-wide, field-over, field-some, field-cleared}
 
 pub contained-setting : (i : ℕ) → Contained (setting i)
 unfolding setting

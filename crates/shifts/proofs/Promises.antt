@@ -14,11 +14,11 @@ use Rattle.word.proofs.Lists.{member-past, member-words, length-words}
 use Rattle.word.specs.Promises.{MovesWords}
 use Rattle.storage.specs.Stores.{Bits, Bounded, done, Op}
 use Rattle.storage.proofs.Outcomes.{same, never, contained-done}
-use Rattle.shift.specs.Shifts.{movedUp, movedDown, turnedUp, turnedDown, kept, shiftingLeft, shiftingRight, rotatingLeft, rotatingRight}
-use Rattle.shift.specs.Promises.{Moves, ShiftedLeft, ShiftsLeft, LeftWordsMeans, ShiftedRight, ShiftsRight, RightWordsMeans}
-use Rattle.shift.specs.Promises.{RotatedLeft, RotatesLeft, TurnLeftMeans, RotatedRight, RotatesRight, TurnRightMeans, Rotations}
-use Rattle.shift.proofs.Rings.{there, back, turned-from}
-use Rattle.shift.proofs.Moves.{moved-up, moved-in}
+use Rattle.shifts.specs.Shifts.{movedUp, movedDown, turnedUp, turnedDown, kept, shiftingLeft, shiftingRight, rotatingLeft, rotatingRight}
+use Rattle.shifts.specs.Promises.{Moves, ShiftedLeft, ShiftsLeft, LeftWordsMeans, ShiftedRight, ShiftsRight, RightWordsMeans}
+use Rattle.shifts.specs.Promises.{RotatedLeft, RotatesLeft, TurnLeftMeans, RotatedRight, RotatesRight, TurnRightMeans, Rotations}
+use Rattle.shifts.proofs.Rings.{there, back, turned-from}
+use Rattle.shifts.proofs.Cases.{moved-up, moved-in}
 
 -- ---- below the length and past it
 

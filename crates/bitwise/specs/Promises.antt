@@ -8,7 +8,7 @@ use Rattle.storage.specs.Stores.{Bits}
 use Rattle.storage.specs.Promises.{Hands, Finds, AmountCall, FoundCall, Meets, Never, MeetsExactly}
 use Rattle.storage.specs.declared.Amount.{Amount}
 use Rattle.storage.specs.declared.Amount.the-variants.{Is}
-use Rattle.bits.specs.Bitwise.{togglingInside, inverting, reversing, clearSize, countRegion, rankOf, selected}
+use Rattle.bitwise.specs.Bitwise.{togglingInside, inverting, reversing, clearSize, countRegion, rankOf, selected}
 
 pub record Toggled (i : ℕ) (b s : Bits) : Type 0 where
   pub count : s .count ≡ b .count

@@ -1,0 +1,4 @@
+pub mod Cases
+pub mod Contained
+pub mod Promises
+pub mod Once

@@ -1,0 +1,4 @@
+pub mod Cases
+pub mod Promises
+pub mod Halves
+pub mod Once

@@ -1,0 +1,4 @@
+pub mod Rings
+pub mod Cases
+pub mod Promises
+pub mod Once
