@@ -1,5 +1,5 @@
 #!/bin/sh
-# Prints a list of calls with the Rust's answers: list.sh SRC CASES SEED [rustc flags, default -O]
+# Prints a list of calls with the Rust's answers, and the rules of document 01 at its end: list.sh SRC CASES SEED [rustc flags, default -O]
 # SRC as for build.sh. CASES is the least number of lines a call.
 set -e
 if [ $# -lt 3 ]; then
@@ -15,3 +15,4 @@ trap 'rm -r "$out"' EXIT
 "$here/build.sh" "$src" "$out" "$@"
 rustc --edition 2024 --crate-name gen "$@" "$here/gen/main.rs" --extern vbitmap="$out/libvbitmap.rlib" -o "$out/gen"
 "$out/gen" "$cases" "$seed"
+sed '/^#/d; /^$/d' "$here/rules"

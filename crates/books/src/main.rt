@@ -1,13 +1,7 @@
-// Small books to try: calls at their edges, each answer on a line of its own.
-mod kernels;
+// The mistakes that invite themselves, each answer on a line of its own.
 mod mistakes;
-mod rules;
 mod show;
-mod small;
 
 fn main() {
-    small::books();
     mistakes::books();
-    rules::books();
-    kernels::books();
 }

@@ -1,10 +1,7 @@
 // How an answer is printed: the number of document 01, then what the answer carries, then every word of the store.
 use libc::STDOUT_FILENO;
-use storage::Amount;
 use storage::Bitmap;
 use storage::Change;
-use storage::Field;
-use storage::Found;
 
 pub(crate) fn put(text: &[u8]) {
     io::write_all(STDOUT_FILENO, text);
@@ -15,7 +12,7 @@ pub(crate) fn number(n: usize) {
     io::print_decimal(STDOUT_FILENO, n as u64);
 }
 
-pub(crate) fn word_of(x: u64) {
+fn word_of(x: u64) {
     put(b" ");
     io::print_hex(STDOUT_FILENO, x, 1);
 }
@@ -45,55 +42,6 @@ pub(crate) fn change(c: Change, words: &[u64]) {
         }
     }
     words_of(words);
-    end();
-}
-
-// Number and value.
-pub(crate) fn counted(n: Amount) {
-    match n {
-        Amount::Is(v) => {
-            number(0);
-            number(v);
-        }
-        Amount::Refused(e) => {
-            number(e.number() as usize);
-            number(0);
-        }
-    }
-    end();
-}
-
-// Number and value.
-pub(crate) fn field(f: Field) {
-    match f {
-        Field::Is(v) => {
-            number(0);
-            word_of(v);
-        }
-        Field::Refused(e) => {
-            number(e.number() as usize);
-            number(0);
-        }
-    }
-    end();
-}
-
-// Number and place, or none.
-pub(crate) fn found(f: Found) {
-    match f {
-        Found::At(i) => {
-            number(0);
-            number(i);
-        }
-        Found::Nothing => {
-            number(0);
-            put(b" none");
-        }
-        Found::Refused(e) => {
-            number(e.number() as usize);
-            number(0);
-        }
-    }
     end();
 }
 
