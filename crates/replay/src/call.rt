@@ -43,39 +43,28 @@ fn read(h: Head, words: &[u64], other: &[u64]) -> Told {
     }
 }
 
+// The calls on three stores: kinds 13 and 14.
 fn combined(line: &[u64; 1024], h: Head, words: &mut [u64], other: &[u64]) -> Change {
     let c = store::loaded(line, 2);
     let n = store::room(line, 13);
-    changing::combine(
-        h.op,
-        words,
-        h.b,
-        other,
-        h.o,
-        &c[0..n],
-        store::bitmap_at(line, 14),
-    )
-}
-
-// The calls that change store 0: kinds 8 to 14.
-fn changed(line: &[u64; 1024], h: Head, words: &mut [u64], other: &[u64]) -> Change {
-    let op = h.op;
-    match op >> 4 {
-        8 => changing::within(op, words, h.b, h.x),
-        9 => changing::bit(op, words, h.b, h.x),
-        10 => changing::reshape(op, words, h.b, h.x),
-        11 => changing::range(op, words, h.b, h.x, h.y, h.z),
-        12 => changing::pair(op, words, h.b, other, h.o),
-        _ => combined(line, h, words, other),
+    let r = store::bitmap_at(line, 14);
+    if h.op < 0xe0 {
+        return changing::combine(h.op, words, h.b, other, h.o, &c[0..n], r);
     }
+    changing::dup(h.op, words, other, h.o, &c[0..n], r)
 }
 
-// The calls that differ by their kind alone.
+// The calls that differ by their kind alone: kinds 2 and 8 to 14 change store 0.
 pub(crate) fn on_words(line: &[u64; 1024], words: &mut [u64], other: &[u64]) -> Told {
     let h = head_of(line);
     match h.op >> 4 {
         2 => kernels::kernel(h.op, words, h.x, h.y, h.z),
-        8..=14 => told::change(changed(line, h, words, other)),
+        8 => told::change(changing::within(h.op, words, h.b, h.x)),
+        9 => told::change(changing::bit(h.op, words, h.b, h.x)),
+        10 => told::change(changing::reshape(h.op, words, h.b, h.x)),
+        11 => told::change(changing::range(h.op, words, h.b, h.x, h.y, h.z)),
+        12 => told::change(changing::pair(h.op, words, h.b, other, h.o)),
+        13 | 14 => told::change(combined(line, h, words, other)),
         _ => read(h, words, other),
     }
 }

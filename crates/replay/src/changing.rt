@@ -70,7 +70,20 @@ pub(crate) fn combine(
         0xd0 => combine::and_from(words, b, left, l, right, r),
         0xd1 => combine::andnot_from(words, b, left, l, right, r),
         0xd2 => combine::or_from(words, b, left, l, right, r),
-        0xd3 => combine::xor_from(words, b, left, l, right, r),
+        _ => combine::xor_from(words, b, left, l, right, r),
+    }
+}
+
+// In a store with no earlier count.
+pub(crate) fn dup(
+    op: u64,
+    words: &mut [u64],
+    left: &[u64],
+    l: Bitmap,
+    right: &[u64],
+    r: Bitmap,
+) -> Change {
+    match op {
         0xe0 => combine::dup_and(words, left, l, right, r),
         0xe1 => combine::dup_andnot(words, left, l, right, r),
         0xe2 => combine::dup_or(words, left, l, right, r),
