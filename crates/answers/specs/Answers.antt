@@ -8,7 +8,7 @@ use Rattle.storage.specs.declared.Field.{Field}
 use Rattle.storage.specs.declared.Truth.{Truth}
 use Rattle.shapes.specs.declared.Split.{Split}
 use Rattle.sheet.specs.Reads.{readingNumber, readingRecord, readingCount}
-use Rattle.sheet.specs.Writer.{addedNumber}
+use Rattle.plain.specs.Writer.{addedNumber}
 use Rattle.sheet.specs.declared.Reading.{Reading}
 use Rattle.sheet.specs.declared.Added.{Added}
 use Rattle.sheet.specs.declared.Added.the-variants.{Done, Refused}

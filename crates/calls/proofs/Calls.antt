@@ -12,7 +12,7 @@ use Rattle.shapes.specs.Shapes.{Splits}
 use Rattle.shapes.specs.declared.Split.{Split}
 use Rattle.print.specs.Texts.{Prints}
 use Rattle.sheet.specs.Reads.{Reads}
-use Rattle.sheet.specs.Writer.{Left, Writes}
+use Rattle.plain.specs.Writer.{Left, Writes}
 use Rattle.sheet.specs.declared.Reading.{Reading}
 use Rattle.sheet.specs.declared.Added.{Added}
 use Rattle.answers.specs.Answers.{ChangeOut, SplitOut, FoundOut, AmountOut, FieldOut, TruthOut, ReadingOut, AddedOut}

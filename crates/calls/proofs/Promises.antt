@@ -27,13 +27,13 @@ use Rattle.shapes.proofs.Halves as halves
 use Rattle.print.specs.Promises.{NotPrinted, TextPut, PrintsText}
 use Rattle.storage.specs.declared.Bitmap.{Bitmap}
 use Rattle.print.proofs.Promises.{prints-text}
-use Rattle.sheet.specs.Writer.{started, added, requested}
-use Rattle.sheet.specs.Promises.{LeavesRest}
+use Rattle.plain.specs.Writer.{started, added, requested}
+use Rattle.plain.specs.Promises.{LeavesRest}
 use Rattle.sheet.specs.declared.Fields.{Fields}
 use Rattle.sheet.specs.declared.Added.{Added}
 use Rattle.sheet.specs.declared.Added.the-variants.{Done, Refused}
 use Rattle.sheet.proofs.Readings.{reading-means}
-use Rattle.sheet.proofs.Writings.{starting-means, adding-means}
+use Rattle.plain.proofs.Writings.{starting-means, adding-means}
 use Rattle.answers.specs.Answers.{AddedOut}
 use Rattle.calls.specs.Calls.{Changed, SplitOff, Printed, Written}
 use Rattle.calls.specs.Promises.{ChangesMean, ReadingsOut, OthersMean, TruthIn, RefusedChangesNothing}

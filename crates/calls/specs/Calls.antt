@@ -11,7 +11,7 @@ use Rattle.storage.specs.declared.Amount.the-variants.{Refused}
 use Rattle.shapes.specs.Shapes.{headOutcome, tailOutcome, splitAnswer}
 use Rattle.print.specs.Texts.{textOf, fitted, replaced}
 use Rattle.sheet.specs.Reads.{course, readAnswer, readStore}
-use Rattle.sheet.specs.Writer.{Left}
+use Rattle.plain.specs.Writer.{Left}
 use Rattle.answers.specs.Answers.{ChangeOut, SplitOut, AmountOut, ReadingOut, AddedOut}
 
 -- a truth value that comes in as a number: 0 is false

@@ -17,8 +17,9 @@ use Rattle.storage.specs.declared.Truth.the-variants.{Refused}
 use Rattle.combine.specs.Combine.{besideBoth}
 use Rattle.shapes.specs.Promises.{SplitMeans}
 use Rattle.print.specs.Promises.{PrintsText}
-use Rattle.sheet.specs.Writer.{duty, remark, started, added, requested}
-use Rattle.sheet.specs.Promises.{ReadingMeans, StartMeans, AddMeans}
+use Rattle.plain.specs.Writer.{duty, remark, started, added, requested}
+use Rattle.sheet.specs.Promises.{ReadingMeans}
+use Rattle.plain.specs.Promises.{StartMeans, AddMeans}
 use Rattle.sheet.specs.declared.Fields.{Fields}
 use Rattle.sheet.specs.declared.Reading.{Reading}
 use Rattle.sheet.specs.declared.Added.{Added}

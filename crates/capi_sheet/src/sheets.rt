@@ -2,7 +2,7 @@
 use sheet::Fields;
 use storage::Bitmap;
 use storage::EMPTY;
-ghost use Rattle.sheet.specs.Writer.{started, added, requested};
+ghost use Rattle.plain.specs.Writer.{started, added, requested};
 ghost use Rattle.calls.specs.Calls.{Read, Written, truth};
 
 // Reads a sheet in an edition: the old bitmap, changed by it, into the result's store. The record and the result's count go out.

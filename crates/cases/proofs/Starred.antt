@@ -21,7 +21,7 @@ use Rattle.text.specs.Readings as read
 use Rattle.print.specs.Texts.{runsFrom, decimalFrom, printed, others, text}
 use Rattle.sheet.specs.Bytes.{number}
 use Rattle.sheet.specs.Kinds.{rowOf, sizeIn, ruleOf}
-use Rattle.sheet.specs.Reader as sheets
+use Rattle.editions.specs.Reader as sheets
 use Rattle.sheet.specs.Reads.{step, editionOf, course}
 use Rattle.storage.specs.declared.Bitmap.{Bitmap}
 use Rattle.storage.specs.declared.Amount.{Amount}

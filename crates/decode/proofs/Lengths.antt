@@ -12,7 +12,7 @@ use Rattle.word.specs.Sets.{choose}
 use Rattle.word.proofs.Cases.{by-lt, zero-one}
 use Rattle.storage.specs.declared.Refusal.the-variants.{BadPayload, NewerKind}
 use Rattle.sheet.specs.Kinds.{Row, table, rowOf, bytesIn, sizeBy, sizeIn, bytesBy, ruleOf, known}
-use Rattle.sheet.specs.Reader.{askingBy}
+use Rattle.editions.specs.Reader.{askingBy}
 use Rattle.sheet.specs.declared.Known.the-variants.{Bytes, Newer}
 use Rattle.sheet.proofs.Tables.{past-kinds}
 use Rattle.decode.specs.declared.Asked.{Asked}

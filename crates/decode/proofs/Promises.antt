@@ -12,8 +12,8 @@ use Rattle.word.specs.Sets.{choose}
 use Rattle.word.proofs.Cases.{by-eq, zero-one}
 use Rattle.storage.specs.declared.Refusal.the-variants.{BadPayload, NewerKind}
 use Rattle.sheet.specs.Kinds.{sizeIn, ruleOf}
-use Rattle.sheet.specs.Frames.{Item}
-use Rattle.sheet.specs.Reader.{askingBy}
+use Rattle.editions.specs.Frames.{Item}
+use Rattle.editions.specs.Reader.{askingBy}
 use Rattle.sheet.specs.Reads.{editionOf}
 use Rattle.sheet.specs.Promises.{HasKind, Laid}
 use Rattle.sheet.specs.declared.Edit.{Edit}

@@ -3,7 +3,7 @@ use Prim.Native.Nat.{ℕ}
 use mathlib.Core.List.{List}
 use Rattle.storage.specs.Refusals.{numberOf}
 use Rattle.sheet.specs.Kinds.{sizeIn, ruleOf}
-use Rattle.sheet.specs.Reader.{Turn, stop, next, asking}
+use Rattle.editions.specs.Reader.{Turn, stop, next, asking}
 use Rattle.sheet.specs.declared.Edit.{Edit}
 use Rattle.decode.specs.declared.Asked.{Asked}
 use Rattle.decode.specs.declared.Asked.the-variants.{For, Refused}

@@ -2,7 +2,7 @@
 use Prim.Native.Nat.{ℕ}
 use mathlib.Core.Option.{Option}
 use Rattle.sheet.specs.Kinds.{rowOf, bytesIn, bytesBy}
-use Rattle.sheet.specs.Reader.{ruled}
+use Rattle.editions.specs.Reader.{ruled}
 use Rattle.sheet.specs.declared.Edit.{Edit}
 use Rattle.decode.specs.Asks.{askedBy}
 use Rattle.decode.specs.declared.Asked.{Asked}

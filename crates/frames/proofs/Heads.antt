@@ -7,7 +7,7 @@ use lib.ListN.{length, getD}
 use Rattle.word.proofs.Cases.{by-lt}
 use lib.Dec.{eqb}
 use borrow.Author.Tests.{le-leb, lt-leb, eq-eqb, ne-eqb}
-use Rattle.sheet.specs.Frames.{headed}
+use Rattle.editions.specs.Frames.{headed}
 
 module _ (s : List ℕ) where
   pub head-short : length s < 4 → false ≡ headed s

@@ -7,11 +7,11 @@ use mathlib.Core.Logic.{_↔_}
 use mathlib.Core.Option.{Option, none, some}
 use Rattle.storage.specs.Refusals.{guardNumber}
 use Rattle.storage.specs.declared.Refusal.{Refusal}
-use Rattle.sheet.specs.Frames.{headed, sheetFault}
-use Rattle.sheet.specs.Meaning.{Header}
-use Rattle.sheet.specs.Promises.{SheetGets}
-use Rattle.sheet.proofs.Turns.{header?, headed-true, headed-false}
-use Rattle.sheet.proofs.Faults.{faultNumber, sheet-gets, fault-is}
+use Rattle.editions.specs.Frames.{headed, sheetFault}
+use Rattle.editions.specs.Meaning.{Header}
+use Rattle.editions.specs.Promises.{SheetGets}
+use Rattle.editions.proofs.Turns.{header?, headed-true, headed-false}
+use Rattle.editions.proofs.Faults.{faultNumber, sheet-gets, fault-is}
 use Rattle.frames.specs.Frames.{endIn, guardBy}
 use Rattle.frames.specs.Promises.{HeadIn, EndsAt, FramesMean}
 use Rattle.frames.proofs.Walks.{torn, whole, told-cut}

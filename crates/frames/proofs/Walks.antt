@@ -13,8 +13,8 @@ use Rattle.word.proofs.Cases.{by-lt}
 use Rattle.storage.specs.declared.Refusal.the-variants.{NotSheet, CutRecord, BytesRemain}
 use Rattle.storage.specs.declared.Guard.{Guard}
 use Rattle.storage.specs.declared.Guard.the-variants.{Pass, Stop}
-use Rattle.sheet.specs.Frames.{headed, countIn, endAt, framesFault, sheetFault}
-use Rattle.sheet.proofs.Turns.{take-true, take-false}
+use Rattle.editions.specs.Frames.{headed, countIn, endAt, framesFault, sheetFault}
+use Rattle.editions.proofs.Turns.{take-true, take-false}
 use Rattle.frames.specs.Frames.{endIn, guardBy}
 
 module _ (s : List ℕ) (at : ℕ) where

@@ -8,7 +8,7 @@ use Rattle.word.specs.Sets.{choose}
 use Rattle.storage.specs.declared.Refusal.{Refusal}
 use Rattle.storage.specs.declared.Guard.{Guard}
 use Rattle.storage.specs.declared.Guard.the-variants.{Pass, Stop}
-use Rattle.sheet.specs.Frames.{endAt}
+use Rattle.editions.specs.Frames.{endAt}
 
 -- where the record at a position ends, 0 where it is cut
 unfoldable pub endIn : List ℕ → ℕ → ℕ

@@ -6,9 +6,9 @@ use mathlib.Core.List.{List}
 use mathlib.Core.Logic.{_↔_}
 use lib.ListN.{length}
 use Rattle.storage.specs.Refusals.{guardNumber}
-use Rattle.sheet.specs.Frames.{headed, countIn, sheetFault}
-use Rattle.sheet.specs.Meaning.{Header, total, past}
-use Rattle.sheet.specs.Promises.{SheetGets}
+use Rattle.editions.specs.Frames.{headed, countIn, sheetFault}
+use Rattle.editions.specs.Meaning.{Header, total, past}
+use Rattle.editions.specs.Promises.{SheetGets}
 use Rattle.frames.specs.Frames.{endIn, guardBy}
 
 -- `has_head` and `record_count`

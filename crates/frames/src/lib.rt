@@ -4,7 +4,7 @@ use storage::Refusal;
 ghost use mathlib.Core.Path.{_≡_};
 ghost use Prim.Native.Nat.{_≤_, _<_};
 ghost use lib.ListN.{getD};
-ghost use Rattle.sheet.specs.Frames.{headed, countIn, framesFault, sheetFault};
+ghost use Rattle.editions.specs.Frames.{headed, countIn, framesFault, sheetFault};
 ghost use Rattle.frames.specs.Frames.{endIn, guardBy};
 
 // The byte at a place, 0 past the end.

@@ -15,7 +15,7 @@ use Rattle.storage.specs.declared.Refusal.{Refusal}
 use Rattle.storage.specs.declared.Refusal.the-variants.{NoEdition}
 use Rattle.storage.specs.declared.Guard.the-variants.{Pass, Stop}
 use Rattle.storage.proofs.Checks.{checked-ok, stopped-two}
-use Rattle.sheet.specs.Reader.{Answer, refused, done, read}
+use Rattle.editions.specs.Reader.{Answer, refused, done, read}
 use Rattle.sheet.specs.Reads.{editionOf, latest, fitting, Course, stopped, went, isEdition, course, readAnswer, readStore, Reads}
 use Rattle.sheet.specs.declared.Reading.{Reading}
 use Rattle.sheet.specs.declared.Reading.the-variants.{Done, Refused}

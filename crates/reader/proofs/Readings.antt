@@ -16,8 +16,8 @@ use Rattle.storage.specs.Guards.{Passed}
 use Rattle.storage.specs.declared.Refusal.the-variants.{NoSpace, NotSheet}
 use Rattle.storage.proofs.Views.{view-count, view-in, bounded-view}
 use Rattle.storage.proofs.Stores.{stored-written, view-written, length-written, length-zeroed, zeroed-in, zeroed-out}
-use Rattle.sheet.specs.Frames.{headed, countIn}
-use Rattle.sheet.specs.Reader.{Edition, stop, next, Answer, refused, records, copied, read}
+use Rattle.editions.specs.Frames.{headed, countIn}
+use Rattle.editions.specs.Reader.{Edition, stop, next, Answer, refused, records, copied, read}
 use Rattle.sheet.specs.Reads.{editionOf, fitting, went, readAnswer}
 use Rattle.sheet.specs.declared.Edit.{Edit}
 use Rattle.sheet.specs.declared.Reading.{Reading}

@@ -21,13 +21,13 @@ use Rattle.storage.proofs.Checks.{passed-as}
 use Rattle.storage.proofs.Views.{view-count, bounded-view}
 use Rattle.storage.proofs.Stores.{view-written, length-written}
 use Rattle.sheet.specs.Kinds.{sizeIn, ruleOf}
-use Rattle.sheet.specs.Frames.{Item, endAt, itemAt}
-use Rattle.sheet.specs.Reader.{Edition, Turn, stop, next, Answer, refused, done, asking, taken, act, then, records}
+use Rattle.editions.specs.Frames.{Item, endAt, itemAt}
+use Rattle.editions.specs.Reader.{Edition, Turn, stop, next, Answer, refused, done, asking, taken, act, then, records}
 use Rattle.sheet.specs.Reads.{editionOf, went, readAnswer}
 use Rattle.sheet.specs.declared.Edit.{Edit}
 use Rattle.sheet.specs.declared.Reading.the-variants as reading
 use Rattle.reader.specs.Kernels.{Padded, outcomeOf, turned, Came}
-use Rattle.sheet.proofs.Turns.{stop-next, next-inj}
+use Rattle.editions.proofs.Turns.{stop-next, next-inj}
 use Rattle.sheet.proofs.Effects.{KeptIn, step-kept}
 use Rattle.reader.proofs.Padding.{padded-written, written-fit, written-padded}
 

@@ -15,8 +15,8 @@ use Rattle.storage.specs.declared.Change.{Change}
 use Rattle.storage.specs.declared.Change.the-variants.{Done, Refused}
 use Rattle.storage.proofs.Stores.{leaves-refused, outcome-ok, written-view}
 use Rattle.sheet.specs.Kinds.{sizeIn, ruleOf}
-use Rattle.sheet.specs.Frames.{Item, sizeAt, endAt, itemAt}
-use Rattle.sheet.specs.Reader.{Turn, stop, next, asking, taken}
+use Rattle.editions.specs.Frames.{Item, sizeAt, endAt, itemAt}
+use Rattle.editions.specs.Reader.{Turn, stop, next, asking, taken}
 use Rattle.sheet.specs.Reads.{step, turnOf, editionOf}
 use Rattle.sheet.specs.declared.Edit.{Edit}
 use Rattle.decode.specs.declared.Asked.{Asked}

@@ -7,8 +7,8 @@ use lib.ListN.{length, getD}
 use Rattle.storage.specs.Stores.{Bits, Outcome, refused, done, Space, written}
 use Rattle.storage.specs.Guards.{Passed}
 use Rattle.storage.specs.declared.Bitmap.{Bitmap}
-use Rattle.sheet.specs.Frames.{Item}
-use Rattle.sheet.specs.Reader.{Turn, stop, next, Answer, done, act}
+use Rattle.editions.specs.Frames.{Item}
+use Rattle.editions.specs.Reader.{Turn, stop, next, Answer, done, act}
 use Rattle.sheet.specs.Reads.{editionOf, went, readAnswer}
 use Rattle.sheet.specs.declared.Reading.{Reading}
 

@@ -13,8 +13,8 @@ ghost use Prim.Native.Nat.{_≤_};
 ghost use lib.ListN.{length};
 ghost use Rattle.storage.specs.Stores.{noWords, spaceOf, view, held, written, Leaves, Changes, bitmapOf};
 ghost use Rattle.storage.specs.Guards.{Passed};
-ghost use Rattle.sheet.specs.Frames.{endAt, itemAt};
-ghost use Rattle.sheet.specs.Reader.{records, read};
+ghost use Rattle.editions.specs.Frames.{endAt, itemAt};
+ghost use Rattle.editions.specs.Reader.{records, read};
 ghost use Rattle.sheet.specs.Reads.{step, editionOf, fitting, Reads};
 ghost use Rattle.reader.specs.Kernels.{Padded, dutyItem, turned, Came};
 

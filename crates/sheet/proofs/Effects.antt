@@ -6,11 +6,11 @@ use Rattle.storage.specs.Refusals.{numberOf}
 use Rattle.storage.specs.Stores.{Bits, Bounded, storeLimit}
 use Rattle.storage.specs.declared.Refusal.{Refusal}
 use Rattle.sheet.specs.Kinds.{Ranged}
-use Rattle.sheet.specs.Reader.{Turn, stop, next}
-use Rattle.sheet.specs.Meaning.{onward, effect}
+use Rattle.editions.specs.Reader.{Turn, stop, next}
+use Rattle.editions.specs.Meaning.{onward, effect}
 use Rattle.sheet.specs.Reads.{step, editionOf}
 use Rattle.sheet.specs.declared.Edit.{Edit}
-use Rattle.sheet.proofs.Turns.{stop-next, next-inj}
+use Rattle.editions.proofs.Turns.{stop-next, next-inj}
 use Rattle.sheet.proofs.Steps.{contained-step, made-next, steps-exact}
 
 pub record KeptIn (c : ℕ) (b : Bits) : Type 0 where

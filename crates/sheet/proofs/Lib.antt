@@ -1,10 +1,5 @@
 pub mod Meant
 pub mod Tables
-pub mod Turns
-pub mod Stands
-pub mod Faults
-pub mod Exact
-pub mod Editions
 pub mod Steps
 pub mod Effects
 pub mod Readings
@@ -12,10 +7,3 @@ pub mod Rules
 pub mod Layouts
 pub mod Payloads
 pub mod Papers
-pub mod Laid
-pub mod Sheets
-pub mod Requests
-pub mod Grown
-pub mod Written
-pub mod Begun
-pub mod Writings

@@ -21,7 +21,7 @@ use Rattle.sheet.specs.Paper.{Cell, paperLine, Allowed, digits, cellDigi
 use Rattle.sheet.specs.Promises.{AsPrinted, TableAgrees, HasKind, KnownExact, Laid, PayloadsExact}
 use Rattle.sheet.specs.declared.Edit.{Edit}
 use Rattle.sheet.specs.declared.Edit.the-variants.{Set, Unset, SetRegion, SetField, Shift, Rotate, Resize, Reverse, ToggleRegion, Open, Close}
-use Rattle.sheet.proofs.Turns.{none-some}
+use Rattle.editions.proofs.Turns.{none-some}
 use Rattle.sheet.proofs.Layouts.{Sized, range-sized, packed-small}
 use Rattle.sheet.proofs.Payloads.{octets, fits, good-row, row-for, good, numbered-is, payload-length, ranged, held, Lays, asks-lays}
 use Rattle.sheet.proofs.Rules.{AllBytes, byte-bits, bytes-small}

@@ -18,13 +18,13 @@ use Rattle.sheet.specs.Bytes.{number, bytes}
 use Rattle.sheet.specs.Layout.{Field, widths, packed, unpacked, inRange, InRange}
 use Rattle.sheet.specs.Kinds.{Row, place, flag, width, word, sizeField, valueAt, table, bytesIn, valuesIn, numberIn, parsePayload, rowOf, sizeBy, sizeIn, parseBy, ruleOf}
 use Rattle.sheet.specs.Kinds.{kindOf, fieldsOf, numberBy, numbered, bytesBy, fieldsBy, payloadOf, Ranged}
-use Rattle.sheet.specs.Meaning.{Asks}
+use Rattle.editions.specs.Meaning.{Asks}
 use Rattle.sheet.specs.Reads.{latest, editionOf}
-use Rattle.sheet.specs.Frames.{Item}
+use Rattle.editions.specs.Frames.{Item}
 use Rattle.sheet.specs.declared.Edit.{Edit}
 use Rattle.sheet.specs.declared.Edit.the-variants.{Set, Unset, SetRegion, SetField, Shift, Rotate, Resize, Reverse, ToggleRegion, Open, Close}
 use Rattle.sheet.proofs.Tables.{past-end}
-use Rattle.sheet.proofs.Turns.{none-some, some-inj, take-true, take-false}
+use Rattle.editions.proofs.Turns.{none-some, some-inj, take-true, take-false}
 use Rattle.sheet.proofs.Rules.{length-bytes, number-mod, AllBytes, number-fits, bytes-number, byte-bits}
 use Rattle.sheet.proofs.Layouts.{Sized, Fits, fittingIn, fitting-fits, range-sized, in-range, range-in, packed-small, unpacked-packed, packed-unpacked}
 

@@ -27,15 +27,15 @@ use Rattle.storage.proofs.Stores.{length-zeroed, zeroed-in}
 use Rattle.storage.proofs.Views.{bounded-view, view-count}
 use Rattle.storage.proofs.Promises.{each-number-once, space-rules}
 use Rattle.sheet.specs.Kinds.{Row, rowOf, sizeBy, sizeIn}
-use Rattle.sheet.specs.Reader.{Turn, stop, next, Answer, refused, done, read}
-use Rattle.sheet.specs.Meaning.{AtRecord, Newer, Fails, Applies, not-sheet, unfit, cut, newer, bad, fails, remain, Accepted, Due, Holds}
+use Rattle.editions.specs.Reader.{Turn, stop, next, Answer, refused, done, read}
+use Rattle.editions.specs.Meaning.{AtRecord, Newer, Fails, Applies, not-sheet, unfit, cut, newer, bad, fails, remain, Accepted, Due, Holds}
 use Rattle.sheet.specs.Paper.{IsEdition}
 use Rattle.sheet.specs.Reads.{editionOf, latest, isEdition, fitting, Course, stopped, went, course, readAnswer, readStore, Reads, readingNumber, readingRecord, readingCount}
 use Rattle.sheet.specs.Promises.{Passes, Stops, no-edition, old-stopped, result-stopped, Gets, stops, applies, accepted, NamesNewer, MadeResult, ReadingMeans, ReadsMean, SameAnswer, KeepsMeaning}
 use Rattle.sheet.specs.declared.Reading.{Reading}
-use Rattle.sheet.proofs.Turns.{none-some, stop-next, stop-inj, next-inj, take-true, take-false}
-use Rattle.sheet.proofs.Exact.{refusal-of, exact}
-use Rattle.sheet.proofs.Editions.{any-two}
+use Rattle.editions.proofs.Turns.{none-some, stop-next, stop-inj, next-inj, take-true, take-false}
+use Rattle.editions.proofs.Exact.{refusal-of, exact}
+use Rattle.editions.proofs.Editions.{any-two}
 use Rattle.sheet.proofs.Payloads.{asks-ranged}
 use Rattle.sheet.proofs.Effects.{KeptIn, effect-kept, step-stops}
 

@@ -20,12 +20,12 @@ use Rattle.shapes.specs.Shapes.{togglingRegion}
 use Rattle.shapes.proofs.Promises.{toggles-region, region-nothing as toggles-nothing, raises, lowers, resizes}
 use Rattle.gap.proofs.Promises.{opens, closes}
 use Rattle.sheet.specs.Kinds.{Ranged}
-use Rattle.sheet.specs.Reader.{stop, next}
+use Rattle.editions.specs.Reader.{stop, next}
 use Rattle.sheet.specs.Reads.{step, turnOf, editionOf}
 use Rattle.sheet.specs.Promises.{Does, StepsExact}
 use Rattle.sheet.specs.declared.Edit.{Edit}
 use Rattle.sheet.specs.declared.Edit.the-variants.{Set, Unset, SetRegion, SetField, Shift, Rotate, Resize, Reverse, ToggleRegion, Open, Close}
-use Rattle.sheet.proofs.Turns.{stop-next, stop-inj, next-inj}
+use Rattle.editions.proofs.Turns.{stop-next, stop-inj, next-inj}
 use Rattle.sheet.proofs.Meant.{means-one}
 
 -- ---- one law over edits: each is as the promise of its operation says

@@ -1,11 +1,6 @@
 pub mod Bytes
 pub mod Layout
 pub mod Kinds
-pub mod Frames
 pub mod Paper
-pub mod Reader
 pub mod Reads
-pub mod Meaning
-pub mod Writer
-pub mod Plain
 pub mod Promises

@@ -17,7 +17,7 @@ use Rattle.bitmaps.specs.Bitmaps.{setting, unsetting, settingRegion, settingFie
 use Rattle.shapes.specs.Shapes.{togglingRegion, raising, lowering, resizing}
 use Rattle.gap.specs.Gaps.{opening, closing}
 use Rattle.sheet.specs.Kinds.{sizeIn, ruleOf}
-use Rattle.sheet.specs.Reader.{Edition, Turn, stop, next, Answer, refused, done, read}
+use Rattle.editions.specs.Reader.{Edition, Turn, stop, next, Answer, refused, done, read}
 use Rattle.sheet.specs.declared.Edit.{Edit}
 use Rattle.sheet.specs.declared.Edit.the-variants.{Set, Unset, SetRegion, SetField, Shift, Rotate, Resize, Reverse, ToggleRegion, Open, Close}
 use Rattle.sheet.specs.declared.Reading.{Reading}

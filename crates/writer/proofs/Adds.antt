@@ -14,11 +14,11 @@ use Rattle.storage.specs.declared.Guard.{Guard}
 use Rattle.storage.specs.declared.Guard.the-variants.{Pass, Stop}
 use Rattle.sheet.specs.declared.Added.{Added}
 use Rattle.sheet.specs.declared.Added.the-variants.{Refused}
-use Rattle.sheet.specs.Frames.{countIn, framesFault, sheetFault}
+use Rattle.editions.specs.Frames.{countIn, framesFault, sheetFault}
 use Rattle.sheet.specs.declared.Fields.{Fields}
-use Rattle.sheet.specs.Writer.{most, Request, duty, remark, requested, Checked, bad, good, Entry, note, checkedOf, bytesOf, Left, refuse, placed, placedBy, judged, added, Writes, Adds}
-use Rattle.sheet.specs.Meaning.{Header}
-use Rattle.sheet.proofs.Turns.{none-some, take-true, take-false, header?, headed-false}
+use Rattle.plain.specs.Writer.{most, Request, duty, remark, requested, Checked, bad, good, Entry, note, checkedOf, bytesOf, Left, refuse, placed, placedBy, judged, added, Writes, Adds}
+use Rattle.editions.specs.Meaning.{Header}
+use Rattle.editions.proofs.Turns.{none-some, take-true, take-false, header?, headed-false}
 use Rattle.frames.specs.Frames.{guardBy}
 use Rattle.writer.specs.Kernels.{Given}
 use Rattle.writer.proofs.Answers.{writes}

@@ -7,8 +7,8 @@ use lib.Seq.{sets}
 use borrow.Author.Tests.{lt-ltb, le-ltb}
 use Rattle.storage.specs.declared.Refusal.the-variants.{NoSpace}
 use Rattle.sheet.specs.declared.Added.the-variants.{Done, Refused}
-use Rattle.sheet.specs.Writer.{Left, Writes, Starts, started, refuse}
-use Rattle.sheet.proofs.Turns.{take-true, take-false}
+use Rattle.plain.specs.Writer.{Left, Writes, Starts, started, refuse}
+use Rattle.editions.proofs.Turns.{take-true, take-false}
 
 pub writes : (l m : Left) → l ≡ m → Writes l (m .answer) (m .buffer)
 writes l m e = record { answers = ap (λ (x : Left). x .answer) (sym e); leaves = ap (λ (x : Left). x .buffer) (sym e) }

@@ -5,7 +5,7 @@ use mathlib.Core.Bool.{true}
 use mathlib.Core.List.{List, [], _∷_}
 use Rattle.sheet.specs.declared.Fields.{Fields}
 use Rattle.sheet.specs.declared.Added.the-variants.{Done}
-use Rattle.sheet.specs.Writer.{duty, remark, Left, started, added}
+use Rattle.plain.specs.Writer.{duty, remark, Left, started, added}
 
 abbrev nines : List ℕ
 nines =

@@ -11,11 +11,11 @@ use Rattle.sheet.specs.declared.Edit.{Edit}
 use Rattle.sheet.specs.Bytes.{bytes}
 use Rattle.sheet.specs.Kinds.{table, rowOf, sizeIn, kindOf, numbered, bytesBy, payloadOf}
 use Rattle.sheet.specs.Reads.{latest}
-use Rattle.sheet.specs.Writer.{most, Checked, bad, good, Entry, edit, checkedOf, duty, laid, bytesOf}
-use Rattle.sheet.specs.Plain.{editFor, entryOf}
+use Rattle.plain.specs.Writer.{most, Checked, bad, good, Entry, edit, checkedOf, duty, laid, bytesOf}
+use Rattle.plain.specs.Plain.{editFor, entryOf}
 use Rattle.sheet.proofs.Payloads.{kind-small, payload-length, payload-short, size-latest}
 use Rattle.sheet.proofs.Rules.{length-bytes}
-use Rattle.sheet.proofs.Requests.{Says, checks-say, kind-kept}
+use Rattle.plain.proofs.Requests.{Says, checks-say, kind-kept}
 use Rattle.writer.specs.Kernels.{orZero, partsOf}
 use Rattle.writer.specs.declared.Parts.{Parts}
 use Rattle.writer.specs.declared.Parts.the-variants.{Are, Refused}

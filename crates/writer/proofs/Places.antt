@@ -14,10 +14,10 @@ use Rattle.word.proofs.Cases.{zero-one}
 use Rattle.storage.specs.declared.Refusal.the-variants.{NoSpace}
 use Rattle.sheet.specs.declared.Added.the-variants.{Done, Refused}
 use Rattle.sheet.specs.Bytes.{bytes}
-use Rattle.sheet.specs.Frames.{countIn}
-use Rattle.sheet.specs.Writer.{most, Entry, bytesOf, laid, Left, refuse, placed, Writes}
+use Rattle.editions.specs.Frames.{countIn}
+use Rattle.plain.specs.Writer.{most, Entry, bytesOf, laid, Left, refuse, placed, Writes}
 use Rattle.sheet.proofs.Rules.{length-bytes}
-use Rattle.sheet.proofs.Turns.{take-true, take-false}
+use Rattle.editions.proofs.Turns.{take-true, take-false}
 use Rattle.writer.specs.Kernels.{roomlessIn}
 use Rattle.writer.proofs.Answers.{writes}
 use Rattle.writer.proofs.Puts.{sets-append}

@@ -12,9 +12,9 @@ use Rattle.sheet.specs.declared.Fields.{Fields}
 use Rattle.sheet.specs.declared.Edit.{Edit}
 use Rattle.sheet.specs.declared.Edit.the-variants.{Set, Unset, SetRegion, SetField, Shift, Rotate, Resize, Reverse, ToggleRegion, Open, Close}
 use Rattle.sheet.specs.Kinds.{numbered}
-use Rattle.sheet.specs.Writer.{Checked, bad, good, edit, checkedOf, duty, makers, madeBy}
+use Rattle.plain.specs.Writer.{Checked, bad, good, edit, checkedOf, duty, makers, madeBy}
 use Rattle.sheet.proofs.Tables.{past-end}
-use Rattle.sheet.proofs.Turns.{take-true, take-false}
+use Rattle.editions.proofs.Turns.{take-true, take-false}
 use Rattle.writer.specs.Kernels.{partsOf}
 use Rattle.writer.specs.declared.Parts.{Parts}
 use Rattle.writer.specs.declared.Parts.the-variants.{Are, Refused}

@@ -6,8 +6,8 @@ use mathlib.Core.Option.{Option, none, some}
 use lib.ListN.{length}
 use lib.Dec.{leb, ltb}
 use Rattle.sheet.specs.Kinds.{numbered}
-use Rattle.sheet.specs.Frames.{countIn}
-use Rattle.sheet.specs.Writer.{most, Checked, bad, good, edit, note}
+use Rattle.editions.specs.Frames.{countIn}
+use Rattle.plain.specs.Writer.{most, Checked, bad, good, edit, note}
 use Rattle.writer.specs.declared.Parts.{Parts}
 use Rattle.writer.specs.declared.Parts.the-variants.{Are, Refused}
 

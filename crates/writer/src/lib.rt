@@ -19,10 +19,10 @@ ghost use lib.Seq.{sets};
 ghost use Rattle.word.specs.Sets.{val};
 ghost use Rattle.sheet.specs.Bytes.{bytes};
 ghost use Rattle.sheet.specs.Kinds.{sizeIn};
-ghost use Rattle.sheet.specs.Frames.{countIn};
+ghost use Rattle.editions.specs.Frames.{countIn};
 ghost use Rattle.sheet.specs.Reads.{latest};
-ghost use Rattle.sheet.specs.Plain.{Typed};
-ghost use Rattle.sheet.specs.Writer.{most, checkedOf, placedBy, duty, remark, Writes, Starts, Adds};
+ghost use Rattle.plain.specs.Plain.{Typed};
+ghost use Rattle.plain.specs.Writer.{most, checkedOf, placedBy, duty, remark, Writes, Starts, Adds};
 ghost use Rattle.writer.specs.Kernels.{Given, orZero, partsOf, roomlessIn};
 
 // A duty record's payload as one number, what is over 64 bits apart; or its refusal.

@@ -7,7 +7,7 @@ use lib.Dec.{leb, ltb, eqb}
 use Rattle.word.specs.Sets.{choose}
 use Rattle.storage.specs.declared.Refusal.{Refusal}
 use Rattle.storage.specs.declared.Refusal.the-variants.{NotSheet, CutRecord, BytesRemain, BadPayload, NewerKind}
-use Rattle.sheet.specs.Frames.{Item, headed, countIn, endAt, itemAt}
+use Rattle.editions.specs.Frames.{Item, headed, countIn, endAt, itemAt}
 
 -- a refusal, or what comes next
 pub data Turn (S : Type 0) : Type 0 where

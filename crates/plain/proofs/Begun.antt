@@ -9,10 +9,10 @@ use native.Mathlib.Omega.{arith}
 use lib.ListN.{length}
 use lib.Dec.{ltb}
 use Rattle.word.specs.Sets.{choose}
-use Rattle.sheet.specs.Writer.{Entry, addedNumber}
-use Rattle.sheet.specs.Plain.{asked, Plain, noRoom, refusalOf, entryOf, Answered, refusing, accepting, holding, Ask, start, addition, answered, Call, answers, plainAnswers, lastPlain}
-use Rattle.sheet.specs.Promises.{Begun, here, later}
-use Rattle.sheet.proofs.Turns.{none-some}
+use Rattle.plain.specs.Writer.{Entry, addedNumber}
+use Rattle.plain.specs.Plain.{asked, Plain, noRoom, refusalOf, entryOf, Answered, refusing, accepting, holding, Ask, start, addition, answered, Call, answers, plainAnswers, lastPlain}
+use Rattle.plain.specs.Promises.{Begun, here, later}
+use Rattle.editions.proofs.Turns.{none-some}
 
 abbrev Held : Plain → Type 0
 Held p = (es : List Entry) × (p ≡ some es)

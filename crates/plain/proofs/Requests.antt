@@ -16,17 +16,17 @@ use Rattle.storage.specs.Refusals.{numberOf}
 use Rattle.storage.proofs.Promises.{each-number-once}
 use Rattle.storage.specs.declared.Refusal.{Refusal}
 use Rattle.storage.specs.declared.Refusal.the-variants.{WidthOver, IndexOver, BadPayload, NewerKind}
 use Rattle.sheet.specs.Paper.{paperLine, values, given}
 use Rattle.sheet.specs.Layout.{InRange}
 use Rattle.sheet.specs.Kinds.{place, kindOf, Ranged}
-use Rattle.sheet.specs.Writer.{most, Request, duty, remark, note, Checked, bad, good, makers, makerOf, madeBy, checkedOf}
-use Rattle.sheet.specs.Plain.{wrongKind, wrongWidth, wrongSize, wrongPayload, refusalOf, editFor, entryOf, Typed}
-use Rattle.sheet.specs.Promises.{FieldsAgree, DutyGets, no-kind, wide, large, good-duty, RemarkGets, high, over-long, good-remark, RequestGets}
+use Rattle.plain.specs.Writer.{most, Request, duty, remark, note, Checked, bad, good, makers, makerOf, madeBy, checkedOf}
+use Rattle.plain.specs.Plain.{wrongKind, wrongWidth, wrongSize, wrongPayload, refusalOf, editFor, entryOf, Typed}
+use Rattle.plain.specs.Promises.{FieldsAgree, DutyGets, no-kind, wide, large, good-duty, RemarkGets, high, over-long, good-remark, RequestGets}
 use Rattle.sheet.specs.declared.Fields.{Fields}
 use Rattle.sheet.proofs.Tables.{past-end}
-use Rattle.sheet.proofs.Turns.{take-true, take-false}
+use Rattle.editions.proofs.Turns.{take-true, take-false}
 use Rattle.sheet.proofs.Papers.{each-line}
-use Rattle.sheet.proofs.Laid.{Proper}
+use Rattle.plain.proofs.Laid.{Proper}
 
 -- ---- the writer's checks
 

@@ -15,13 +15,13 @@ use Rattle.word.proofs.Cases.{zero-one}
 use Rattle.storage.specs.Refusals.{numberOf}
 use Rattle.storage.specs.declared.Refusal.{Refusal}
 use Rattle.storage.specs.declared.Refusal.the-variants.{NewerKind}
-use Rattle.sheet.specs.Frames.{Item, endAt}
-use Rattle.sheet.specs.Reader.{Edition, Answer, refused, done, Turn, stop, next, act, then, records, copied, read}
-use Rattle.sheet.specs.Meaning.{Header, total, start, Whole, effect, begin, AtRecord, Newer, newer, Holds}
-use Rattle.sheet.specs.Promises.{AnyTwo}
-use Rattle.sheet.proofs.Turns.{take-true, take-false, header?, headed-true, headed-false, record-whole, record-cut, edit, edited, takenOf}
-use Rattle.sheet.proofs.Stands.{stands, item}
-use Rattle.sheet.proofs.Exact.{Reaches, reaches-next, exact}
+use Rattle.editions.specs.Frames.{Item, endAt}
+use Rattle.editions.specs.Reader.{Edition, Answer, refused, done, Turn, stop, next, act, then, records, copied, read}
+use Rattle.editions.specs.Meaning.{Header, total, start, Whole, effect, begin, AtRecord, Newer, newer, Holds}
+use Rattle.editions.specs.Promises.{AnyTwo}
+use Rattle.editions.proofs.Turns.{take-true, take-false, header?, headed-true, headed-false, record-whole, record-cut, edit, edited, takenOf}
+use Rattle.editions.proofs.Stands.{stands, item}
+use Rattle.editions.proofs.Exact.{Reaches, reaches-next, exact}
 
 module _ {A S : Type 0} (E F : Edition A S) (h : Holds E F) where
   edited-kept : (k : ℕ) (r : Item) (n : ℕ) (s : S) → E .size (r .kind) ≡ some n → edited E k (edit E r n) s ≡ edited F k (edit F r n) s

@@ -7,12 +7,12 @@ use mathlib.Core.Option.{Option, none, some}
 use lib.ListN.{length, take}
 use lib.Dec.{leb, ltb, eqb}
 use Rattle.word.specs.Sets.{choose}
 use Rattle.sheet.specs.Bytes.{bytes}
-use Rattle.sheet.specs.Writer.{Request, duty, remark, Entry, edit, note, bytesOf, Starts, Adds, addedNumber, addedLength}
+use Rattle.plain.specs.Writer.{Request, duty, remark, Entry, edit, note, bytesOf, Starts, Adds, addedNumber, addedLength}
 use Rattle.sheet.specs.declared.Edit.{Edit}
 use Rattle.sheet.specs.declared.Edit.the-variants.{Set, Unset, SetRegion, SetField, Shift, Rotate, Resize, Reverse, ToggleRegion, Open, Close}
 use Rattle.sheet.specs.declared.Fields.{Fields}
 use Rattle.sheet.specs.declared.Added.{Added}
 
 -- an addition as the plain sheet reads it: duty or a remark; fields that a record does not have are ignored
 abbrev pub asked : Bool → ℕ → Fields → List ℕ → Request

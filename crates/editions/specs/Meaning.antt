@@ -8,8 +8,8 @@ use lib.ListN.{length, getD}
 use lib.Dec.{leb}
 use Rattle.storage.specs.Refusals.{numberOf}
 use Rattle.storage.specs.declared.Refusal.{Refusal}
-use Rattle.sheet.specs.Frames.{Item}
-use Rattle.sheet.specs.Reader.{Edition, Turn, stop, next, Answer, refused, done}
+use Rattle.editions.specs.Frames.{Item}
+use Rattle.editions.specs.Reader.{Edition, Turn, stop, next, Answer, refused, done}
 
 -- the record r stands at a position of the sheet: its first byte is 128 * bit + kind with kind below 128, the bit is 1 for duty, the next two bytes are
 -- the length of its payload, most significant first, and then come exactly so many bytes

@@ -10,18 +10,18 @@ use lib.ListN.{length, getD, take, drop, length-append}
 use lib.Seq.{take-append-seam, drop-append-add, getD-append-seam, getD-append-add}
 use lib.Dec.{leb}
 use borrow.Author.Tests.{le-leb, lt-leb, le-ltb, eq-eqb}
 use Rattle.sheet.specs.Bytes.{bytes}
 use Rattle.sheet.specs.Kinds.{sizeIn, kindOf, payloadOf, Ranged}
-use Rattle.sheet.specs.Frames.{Item, countIn, sizeAt, endAt, itemAt, framesFault, sheetFault}
-use Rattle.sheet.specs.Reader.{Turn, stop, next, done, act, then, records, read}
-use Rattle.sheet.specs.Meaning.{Header, onward, effect}
+use Rattle.editions.specs.Frames.{Item, countIn, sizeAt, endAt, itemAt, framesFault, sheetFault}
+use Rattle.editions.specs.Reader.{Turn, stop, next, done, act, then, records, read}
+use Rattle.editions.specs.Meaning.{Header, onward, effect}
 use Rattle.sheet.specs.Reads.{editionOf, latest}
-use Rattle.sheet.specs.Writer.{Entry, edit, note, laid, bytesOf}
-use Rattle.sheet.specs.Plain.{body, sheetOf, editsAfter, editsIn}
+use Rattle.plain.specs.Writer.{Entry, edit, note, laid, bytesOf}
+use Rattle.plain.specs.Plain.{body, sheetOf, editsAfter, editsIn}
 use Rattle.sheet.specs.declared.Edit.{Edit}
 use Rattle.storage.specs.Stores.{Bits}
-use Rattle.sheet.proofs.Turns.{stop-next, next-inj, take-true, take-false, headed-true, act-remark, record-whole, all-read, edited, takenOf}
+use Rattle.editions.proofs.Turns.{stop-next, next-inj, take-true, take-false, headed-true, act-remark, record-whole, all-read, edited, takenOf}
 use Rattle.sheet.proofs.Payloads.{read-back, kind-small, payload-short, size-latest}
 
 -- a record that fits its frame
 abbrev pub Proper : Entry → Type 0

@@ -11,14 +11,14 @@ use Rattle.word.specs.Sets.{choose}
 use Rattle.storage.specs.Refusals.{numberOf}
 use Rattle.storage.specs.declared.Refusal.{Refusal}
 use Rattle.storage.specs.declared.Refusal.the-variants.{CountOverStore, WidthOver, IndexOver, NoSpace, BadPayload, NewerKind}
 use Rattle.sheet.specs.Bytes.{bytes}
 use Rattle.sheet.specs.Kinds.{mostBits, kindOf, payloadOf}
-use Rattle.sheet.specs.Frames.{countIn, sheetFault}
+use Rattle.editions.specs.Frames.{countIn, sheetFault}
 use Rattle.sheet.specs.declared.Fields.{Fields}
 use Rattle.sheet.specs.declared.Edit.{Edit}
 use Rattle.sheet.specs.declared.Edit.the-variants.{Set, Unset, SetRegion, SetField, Shift, Rotate, Resize, Reverse, ToggleRegion, Open, Close}
 use Rattle.sheet.specs.declared.Added.{Added}
 use Rattle.sheet.specs.declared.Added.the-variants.{Done, Refused}
 
 -- the most records of a sheet, and the most bytes of a payload
 abbrev pub most : ℕ

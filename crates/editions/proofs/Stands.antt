@@ -11,10 +11,10 @@ use lib.Dec.{leb, eqb}
 use borrow.Author.Tests.{le-leb, lt-leb, eq-eqb, eqb-true}
 use Rattle.word.specs.Sets.{choose}
 use Rattle.word.proofs.Cases.{by-lt}
-use Rattle.sheet.specs.Frames.{Item, sizeAt, endAt, itemAt}
-use Rattle.sheet.specs.Reader.{Edition}
-use Rattle.sheet.specs.Meaning.{Stands, start, Whole, Asks, Sound, remark, duty}
-use Rattle.sheet.proofs.Turns.{none-some, take-true, take-false, listed, sized, editOf}
+use Rattle.editions.specs.Frames.{Item, sizeAt, endAt, itemAt}
+use Rattle.editions.specs.Reader.{Edition}
+use Rattle.editions.specs.Meaning.{Stands, start, Whole, Asks, Sound, remark, duty}
+use Rattle.editions.proofs.Turns.{none-some, take-true, take-false, listed, sized, editOf}
 
 module _ (sheet : List ℕ) (at : ℕ) where
   -- the payload's bytes, where the frame is whole

@@ -7,17 +7,18 @@ use native.Mathlib.Omega.{arith}
 use native.Mathlib.Numerals.{add-one}
 use lib.ListN.{set as put, length, getD, take, drop, length-append, length-take, length-set, List·getD-append}
 use lib.Seq.{sets, sets-eq, take-at, getD-take, length-take-le, getD-set-same, getD-set-other, drop-set-lt}
 use Rattle.sheet.specs.Bytes.{bytes}
 use Rattle.sheet.specs.Kinds.{payloadOf}
-use Rattle.sheet.specs.Frames.{Item, countIn}
-use Rattle.sheet.specs.Meaning.{Stands, Header, total, past, start, Whole, Is}
-use Rattle.sheet.specs.Writer.{most, Request, duty, remark, Entry, edit, note, bytesOf, countRaised}
-use Rattle.sheet.specs.Plain.{refusalOf, editFor, entryOf}
-use Rattle.sheet.specs.Promises.{Laid, Wanted, Grows}
-use Rattle.sheet.proofs.Laid.{itemOf, two-bytes}
+use Rattle.editions.specs.Frames.{Item, countIn}
+use Rattle.editions.specs.Meaning.{Stands, Header, total, past, start, Whole, Is}
+use Rattle.plain.specs.Writer.{most, Request, duty, remark, Entry, edit, note, bytesOf, countRaised}
+use Rattle.plain.specs.Plain.{refusalOf, editFor, entryOf}
+use Rattle.sheet.specs.Promises.{Laid}
+use Rattle.plain.specs.Promises.{Wanted, Grows}
+use Rattle.plain.proofs.Laid.{itemOf, two-bytes}
 use Rattle.sheet.proofs.Rules.{length-bytes}
-use Rattle.sheet.proofs.Requests.{proper-entry, kind-kept}
-use Rattle.sheet.proofs.Sheets.{Framed, stands-there, laid-edit}
+use Rattle.plain.proofs.Requests.{proper-entry, kind-kept}
+use Rattle.plain.proofs.Sheets.{Framed, stands-there, laid-edit}
 
 -- the front of a list after bytes are put in
 pub put-last : (vs l : List ℕ) (n : ℕ) → n + length vs ≤ length l → take (n + length vs) (sets l n vs) ≡ take n l ++ vs

@@ -17,28 +17,29 @@ use Rattle.storage.specs.Refusals.{numberOf}
 use Rattle.storage.proofs.Promises.{each-number-once}
 use Rattle.storage.specs.declared.Refusal.{Refusal}
 use Rattle.storage.specs.declared.Refusal.the-variants.{CountOverStore, NoSpace}
-use Rattle.sheet.specs.Frames.{countIn, sheetFault}
-use Rattle.sheet.specs.Reader.{Turn, done, read}
+use Rattle.editions.specs.Frames.{countIn, sheetFault}
+use Rattle.editions.specs.Reader.{Turn, done, read}
 use Rattle.sheet.specs.Bytes.{bytes}
-use Rattle.sheet.specs.Meaning.{total}
+use Rattle.editions.specs.Meaning.{total}
 use Rattle.sheet.specs.Reads.{editionOf, latest, fitting, Course, went, course, readAnswer, readStore, readingNumber, readingRecord, readingCount}
-use Rattle.sheet.specs.Writer.{most, Request, duty, remark, Entry, edit, note, Checked, bad, good, checkedOf, bytesOf, addedNumber, addedLength}
-use Rattle.sheet.specs.Writer.{Left, refuse, started, countRaised, placed, placedBy, judged, added, Writes}
-use Rattle.sheet.specs.Plain.{sheetOf, refusalOf, editFor, entryOf, answers, lastLength, lastBuffer, plainAnswers, lastPlain}
-use Rattle.sheet.specs.Promises.{SheetGets, RequestGets, bytesAsked, AddGets, over, fault, wrong, full, fine, LeavesRest, Grows, AddMeans, AddsMean}
-use Rattle.sheet.specs.Promises.{Holding, StartGets, short, fresh, StartMeans, StartsMean, WholeLists}
+use Rattle.plain.specs.Writer.{most, Request, duty, remark, Entry, edit, note, Checked, bad, good, checkedOf, bytesOf, addedNumber, addedLength}
+use Rattle.plain.specs.Writer.{Left, refuse, started, countRaised, placed, placedBy, judged, added, Writes}
+use Rattle.plain.specs.Plain.{sheetOf, refusalOf, editFor, entryOf, answers, lastLength, lastBuffer, plainAnswers, lastPlain}
+use Rattle.editions.specs.Promises.{SheetGets}
+use Rattle.plain.specs.Promises.{RequestGets, bytesAsked, AddGets, over, fault, wrong, full, fine, LeavesRest, Grows, AddMeans, AddsMean}
+use Rattle.plain.specs.Promises.{Holding, StartGets, short, fresh, StartMeans, StartsMean, WholeLists}
 use Rattle.sheet.specs.declared.Added.{Added}
 use Rattle.sheet.specs.declared.Added.the-variants.{Done, Refused}
-use Rattle.sheet.proofs.Turns.{take-true, take-false}
-use Rattle.sheet.proofs.Faults.{faultNumber, sheet-gets, fault-is, fault-none, good-sheet}
-use Rattle.sheet.proofs.Laid.{read-sheet, in-latest}
+use Rattle.editions.proofs.Turns.{take-true, take-false}
+use Rattle.editions.proofs.Faults.{faultNumber, sheet-gets, fault-is, fault-none, good-sheet}
+use Rattle.plain.proofs.Laid.{read-sheet, in-latest}
 use Rattle.sheet.proofs.Readings.{course-passes, fits-old}
 use Rattle.sheet.proofs.Papers.{table-agrees}
-use Rattle.sheet.proofs.Requests.{Says, checks-say, checks-good, request-gets, request-is}
-use Rattle.sheet.proofs.Grown.{put-last, drop-sets, length-raised, past-raised, count-front, bytes-long, grown, framed-entry, wanted}
-use Rattle.sheet.proofs.Written.{begun, Fronts, along}
-use Rattle.sheet.proofs.Begun.{begun-held}
-use Rattle.sheet.proofs.Sheets.{sheet-is}
+use Rattle.plain.proofs.Requests.{Says, checks-say, checks-good, request-gets, request-is}
+use Rattle.plain.proofs.Grown.{put-last, drop-sets, length-raised, past-raised, count-front, bytes-long, grown, framed-entry, wanted}
+use Rattle.plain.proofs.Written.{begun, Fronts, along}
+use Rattle.plain.proofs.Begun.{begun-held}
+use Rattle.plain.proofs.Sheets.{sheet-is}
 
 -- ---- one addition
 

@@ -14,18 +14,18 @@ use Rattle.storage.specs.Refusals.{numberOf}
 use Rattle.storage.proofs.Promises.{each-number-once}
 use Rattle.storage.specs.declared.Refusal.{Refusal}
 use Rattle.storage.specs.declared.Refusal.the-variants.{NoSpace, NotSheet}
-use Rattle.sheet.specs.Frames.{countIn, sheetFault}
-use Rattle.sheet.specs.Writer.{most, Request, requested, Entry, Checked, bad, good, checkedOf, bytesOf, addedNumber, addedLength}
-use Rattle.sheet.specs.Writer.{Left, refuse, started, countRaised, placed, placedBy, judged, added, Writes}
-use Rattle.sheet.specs.Plain.{asked, Plain, body, sheetOf, noRoom, refusalOf, entryOf, Answered, refusing, accepting, holding, Ask, start, addition, answered, Typed}
-use Rattle.sheet.specs.Plain.{Call, Went, lengthAfter, InRow, answers, lastLength, lastBuffer, plainAnswers, lastPlain}
+use Rattle.editions.specs.Frames.{countIn, sheetFault}
+use Rattle.plain.specs.Writer.{most, Request, requested, Entry, Checked, bad, good, checkedOf, bytesOf, addedNumber, addedLength}
+use Rattle.plain.specs.Writer.{Left, refuse, started, countRaised, placed, placedBy, judged, added, Writes}
+use Rattle.plain.specs.Plain.{asked, Plain, body, sheetOf, noRoom, refusalOf, entryOf, Answered, refusing, accepting, holding, Ask, start, addition, answered, Typed}
+use Rattle.plain.specs.Plain.{Call, Went, lengthAfter, InRow, answers, lastLength, lastBuffer, plainAnswers, lastPlain}
 use Rattle.sheet.specs.declared.Fields.{Fields}
 use Rattle.sheet.specs.declared.Added.{Added}
 use Rattle.sheet.specs.declared.Added.the-variants.{Done}
-use Rattle.sheet.proofs.Turns.{take-false}
-use Rattle.sheet.proofs.Laid.{Proper, AllProper, two-bytes, no-fault}
-use Rattle.sheet.proofs.Grown.{put-last, length-raised}
-use Rattle.sheet.proofs.Requests.{Says, PassesCheck, checks-say, TypedQ, checks-pass, neither}
+use Rattle.editions.proofs.Turns.{take-false}
+use Rattle.plain.proofs.Laid.{Proper, AllProper, two-bytes, no-fault}
+use Rattle.plain.proofs.Grown.{put-last, length-raised}
+use Rattle.plain.proofs.Requests.{Says, PassesCheck, checks-say, TypedQ, checks-pass, neither}
 
 -- the buffer's front is the plain sheet
 abbrev pub Fronts : List ℕ → ℕ → Plain → Type 0

@@ -12,14 +12,14 @@ use Rattle.storage.specs.Refusals.{numberOf}
 use Rattle.storage.specs.declared.Refusal.{Refusal}
 use Rattle.storage.specs.declared.Refusal.the-variants.{NotSheet, CutRecord, BytesRemain, BadPayload, NewerKind}
 use Rattle.storage.proofs.Promises.{each-number-once}
-use Rattle.sheet.specs.Frames.{Item, endAt}
-use Rattle.sheet.specs.Reader.{Edition, Answer, refused, done, Turn, stop, next, act, then, records, copied, read}
-use Rattle.sheet.specs.Meaning.{Header, total, start, Whole, onward, Asks, effect, Sound, begin, Reached, AtRecord}
-use Rattle.sheet.specs.Meaning.{Newer, Bad, Fails, Applies, not-sheet, unfit, cut, newer, bad, fails, remain, Due}
-use Rattle.sheet.specs.Promises.{ReadExact}
-use Rattle.sheet.proofs.Stands.{stands, stands-whole, stands-is, asks, asked, item, Fine, sound-more, Less, sound-less}
-use Rattle.sheet.proofs.Turns.{none-some, stop-next, next-inj, take-true, take-false, header?, headed-true, headed-false, listed, edit, editOf, edit-known}
-use Rattle.sheet.proofs.Turns.{does, effect-append, Did, went, lacked, spoilt, failed, did, act-did, record-whole, record-cut, all-read, bytes-left}
+use Rattle.editions.specs.Frames.{Item, endAt}
+use Rattle.editions.specs.Reader.{Edition, Answer, refused, done, Turn, stop, next, act, then, records, copied, read}
+use Rattle.editions.specs.Meaning.{Header, total, start, Whole, onward, Asks, effect, Sound, begin, Reached, AtRecord}
+use Rattle.editions.specs.Meaning.{Newer, Bad, Fails, Applies, not-sheet, unfit, cut, newer, bad, fails, remain, Due}
+use Rattle.editions.specs.Promises.{ReadExact}
+use Rattle.editions.proofs.Stands.{stands, stands-whole, stands-is, asks, asked, item, Fine, sound-more, Less, sound-less}
+use Rattle.editions.proofs.Turns.{none-some, stop-next, next-inj, take-true, take-false, header?, headed-true, headed-false, listed, edit, editOf, edit-known}
+use Rattle.editions.proofs.Turns.{does, effect-append, Did, went, lacked, spoilt, failed, did, act-did, record-whole, record-cut, all-read, bytes-left}
 
 module _ {A S : Type 0} (E : Edition A S) (sheet : List ℕ) where
   -- the first i records are sound and applied, and make s of s₀

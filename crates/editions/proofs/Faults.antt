@@ -12,10 +12,10 @@ use Rattle.word.proofs.Cases.{by-lt}
 use Rattle.storage.specs.Refusals.{numberOf}
 use Rattle.storage.proofs.Promises.{each-number-once}
 use Rattle.storage.specs.declared.Refusal.{Refusal}
-use Rattle.sheet.specs.Frames.{countIn, endAt, framesFault, sheetFault}
-use Rattle.sheet.specs.Meaning.{Header, total, start, Whole}
-use Rattle.sheet.specs.Promises.{SheetGets, no-header, cut, remain, nothing}
-use Rattle.sheet.proofs.Turns.{take-true, take-false, header?, headed-true, headed-false}
+use Rattle.editions.specs.Frames.{countIn, endAt, framesFault, sheetFault}
+use Rattle.editions.specs.Meaning.{Header, total, start, Whole}
+use Rattle.editions.specs.Promises.{SheetGets, no-header, cut, remain, nothing}
+use Rattle.editions.proofs.Turns.{take-true, take-false, header?, headed-true, headed-false}
 
 -- the number of a fault, 0 for none
 abbrev pub faultNumber : Option Refusal → ℕ

@@ -13,9 +13,9 @@ use Rattle.word.specs.Sets.{choose}
 use Rattle.word.proofs.Cases.{zero-one}
 use Rattle.storage.specs.declared.Refusal.{Refusal}
 use Rattle.storage.specs.declared.Refusal.the-variants.{CutRecord, BytesRemain, BadPayload, NewerKind}
-use Rattle.sheet.specs.Frames.{Item, headed, endAt, itemAt}
-use Rattle.sheet.specs.Reader.{Edition, refused, done, Turn, stop, next, ruled, askingBy, taken, act, then, records}
-use Rattle.sheet.specs.Meaning.{Header, onward, effect}
+use Rattle.editions.specs.Frames.{Item, headed, endAt, itemAt}
+use Rattle.editions.specs.Reader.{Edition, refused, done, Turn, stop, next, ruled, askingBy, taken, act, then, records}
+use Rattle.editions.specs.Meaning.{Header, onward, effect}
 
 pub none-some : {X : Type 0} {x : X} → _≡_ {A = Option X} none (some x) → ⊥
 none-some e = zero-one cc

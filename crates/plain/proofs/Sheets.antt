@@ -8,18 +8,19 @@ use native.Mathlib.Nat.{add-zero, add-suc, suc-add, zero-add}
 use lib.ListN.{length, getD, getElem?, length-append, List·getD-append}
 use lib.Seq.{getD-append-seam, getD-append-add}
 use lib.Dec.{leb}
 use Rattle.sheet.specs.Bytes.{bytes}
-use Rattle.sheet.specs.Frames.{endAt}
-use Rattle.sheet.specs.Meaning.{Stands, start, Is}
-use Rattle.sheet.specs.Writer.{most, Entry, edit, note, laid, bytesOf}
-use Rattle.sheet.specs.Plain.{body, sheetOf}
+use Rattle.editions.specs.Frames.{endAt}
+use Rattle.editions.specs.Meaning.{Stands, start, Is}
+use Rattle.plain.specs.Writer.{most, Entry, edit, note, laid, bytesOf}
+use Rattle.plain.specs.Plain.{body, sheetOf}
 use Rattle.sheet.specs.Kinds.{kindOf, payloadOf, Ranged}
-use Rattle.sheet.specs.Promises.{Laid, Shows, Holding}
+use Rattle.sheet.specs.Promises.{Laid}
+use Rattle.plain.specs.Promises.{Shows, Holding}
 use Rattle.sheet.specs.declared.Edit.{Edit}
-use Rattle.sheet.proofs.Turns.{none-some, some-inj}
+use Rattle.editions.proofs.Turns.{none-some, some-inj}
 use Rattle.sheet.proofs.Payloads.{kind-small, payload-short}
 use Rattle.sheet.proofs.Papers.{table-agrees}
-use Rattle.sheet.proofs.Laid.{Proper, AllProper, itemOf, two-bytes, end-of, head, sheet-head, sheet-headed, sheet-count}
+use Rattle.plain.proofs.Laid.{Proper, AllProper, itemOf, two-bytes, end-of, head, sheet-head, sheet-headed, sheet-count}
 
 -- ---- a record in its place
 

@@ -1,0 +1,4 @@
+pub mod Frames
+pub mod Reader
+pub mod Meaning
+pub mod Promises

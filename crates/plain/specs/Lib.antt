@@ -1,0 +1,3 @@
+pub mod Writer
+pub mod Plain
+pub mod Promises
