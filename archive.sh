@@ -1,13 +1,17 @@
 #!/bin/sh
-# Writes target/staticlib/libcapi.a, the library for programs in C and Rust: each exporting crate's own archive, put into one. A crate's archive
-# exports its own calls alone, and inner names are local to it.
+# Writes target/staticlib/libtaxolbin.a, the library for programs in other languages: each exporting crate's own archive, put into one. A crate's
+# archive exports its own calls alone, and inner names are local to it. An archive that is newer than every crate stays.
 set -e
 cd "$(dirname "$0")"
 out=target/staticlib
+all=$out/libtaxolbin.a
+if [ -f "$all" ] && [ -z "$(find crates crates.txt archive.sh -newer "$all" -print -quit)" ]; then
+    exit
+fi
 mkdir -p "$out"
-rm -f "$out/libcapi.a"
+rm -f "$all"
 {
-    echo "create $out/libcapi.a"
+    echo "create $all"
     for crate in capi_slice capi_bitmap capi_sheet; do
         rt staticlib "$crate" > "$out/log" 2>&1 || {
             cat "$out/log" >&2
@@ -17,5 +21,5 @@ rm -f "$out/libcapi.a"
     done
     echo save
     echo end
-} > "$out/libcapi.mri"
-ar -M < "$out/libcapi.mri"
+} > "$out/libtaxolbin.mri"
+ar -M < "$out/libtaxolbin.mri"

@@ -15,7 +15,7 @@ mkdir -p "$out"
 for flags in "-O" "-O -C target-cpu=native"; do
     "$root/oracle/build.sh" "$src" "$out" $flags
     rustc --edition 2024 $flags -C codegen-units=1 "$root/bench/main.rs" --extern vbitmap="$out/libvbitmap.rlib" \
-        -L native="$root/target/staticlib" -l static=capi -o "$out/bench"
+        -L native="$root/target/staticlib" -l static=taxolbin -o "$out/bench"
     "$out/bench" "rustc $flags"
     echo
 done

@@ -10,7 +10,7 @@ type N = usize;
 
 macro_rules! calls {
     ($($kind:ident $sig:tt: $($name:ident)*;)*) => {
-        #[link(name = "capi", kind = "static")]
+        #[link(name = "taxolbin", kind = "static")]
         extern "C" {
             $($(fn $name $sig -> u32;)*)*
         }
