@@ -110,7 +110,7 @@ def page():
     kinds = ["source", "definitions", "promises", "kernels", "laws", "proofs", "functions", "edits"]
     sums = {kind: sum(c[kind] for c in each.values()) for kind in kinds}
 
-    calls = re.findall(r"^uint32_t taxolbin_", (ROOT / "include/taxolbin.h").read_text(), re.M)
+    calls = re.findall(r"^TAXOLBIN_MUST_USE uint32_t taxolbin_", (ROOT / "include/taxolbin.h").read_text(), re.M)
     replayed = (CRATES / "replay/stdout").read_text().splitlines()
     sheets = (CRATES / "sheets/stdout").read_text().splitlines()
     starred = re.findall(r"^\s*(?:∷ )?sample \(", (CRATES / "cases/specs/Cases.antt").read_text(), re.M)

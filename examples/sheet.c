@@ -1,8 +1,7 @@
-/* Makes a change sheet, reads it in both editions and in one that there is not, and prints what each made of it. */
+/* Makes a change sheet, reads it in both editions and in one that there is not, and prints what each made of it; then saves and loads an empty book. */
 #include <stdio.h>
 #include <stdlib.h>
-
-#include "../include/taxolbin.h"
+#include <taxolbin.h>
 
 enum { OLD = 4, WORDS = 128, BYTES = 256, TEXT = 65536 };
 
@@ -12,44 +11,32 @@ struct sheet {
     size_t length;
 };
 
-static void must(uint32_t number, const char *what)
-{
-    if (number != TAXOLBIN_DONE) {
-        fprintf(stderr, "%s: %u\n", what, (unsigned)number);
-        exit(1);
-    }
-}
-
 /* A bitmap in its store. */
 struct bitmap {
     uint64_t words[OLD];
     size_t count;
 };
 
-/* A kind with a position and an amount; the flag is a value or a direction. */
-static void edit(struct sheet *s, size_t kind, uint32_t p, uint32_t k, uint32_t flag)
+static void must(uint32_t number, const char *what)
 {
-    static const uint8_t none[1];
-    must(taxolbin_add(s->bytes, BYTES, &s->length, 1, kind, p, k, flag, 0, 0, 0, none, 0), "edit");
-}
-
-static void remark(struct sheet *s, size_t kind, const uint8_t *payload, size_t length)
-{
-    must(taxolbin_add(s->bytes, BYTES, &s->length, 0, kind, 0, 0, 0, 0, 0, 0, payload, length), "remark");
+    if (number != TAXOLBIN_DONE) {
+        fprintf(stderr, "%s: %s (%u)\n", what, taxolbin_why(number), (unsigned)number);
+        exit(1);
+    }
 }
 
 static void make(struct sheet *s)
 {
     static const uint8_t hello[] = {'h', 'i'};
     must(taxolbin_start(s->bytes, BYTES, &s->length), "start");
-    edit(s, TAXOLBIN_SET_REGION, 2, 4, 1);
-    edit(s, TAXOLBIN_UNSET, 3, 0, 0);
-    remark(s, 1, hello, sizeof hello);
-    edit(s, TAXOLBIN_SHIFT, 0, 64, 0);
-    edit(s, TAXOLBIN_OPEN, 68, 10, 0);
+    must(taxolbin_add_set_region(s->bytes, BYTES, &s->length, 2, 4), "set_region");
+    must(taxolbin_add_unset(s->bytes, BYTES, &s->length, 3), "unset");
+    must(taxolbin_add_remark(s->bytes, BYTES, &s->length, 1, hello, sizeof hello), "remark");
+    must(taxolbin_add_shift_left(s->bytes, BYTES, &s->length, 64), "shift_left");
+    must(taxolbin_add_open(s->bytes, BYTES, &s->length, 68, 10), "open");
 }
 
-/* Edition, number, record, count, and the list unless it is empty. */
+/* Edition, number, record and count; then the list, or why there is none. */
 static void line(const struct bitmap *old, const struct sheet *s, size_t edition)
 {
     static uint64_t result[WORDS];
@@ -57,11 +44,24 @@ static void line(const struct bitmap *old, const struct sheet *s, size_t edition
     size_t record, count, length;
     uint32_t number = taxolbin_read(edition, s->bytes, s->length, old->words, OLD, old->count, result, WORDS, &record, &count);
     printf("%zu %u %zu %zu", edition, (unsigned)number, record, count);
-    must(taxolbin_write_list(result, WORDS, count, text, TEXT, &length), "write_list");
-    if (length > 0) {
-        printf(" %.*s", (int)length, (const char *)text);
+    if (number != TAXOLBIN_DONE) {
+        printf(" %s\n", taxolbin_why(number));
+        return;
     }
-    printf("\n");
+    must(taxolbin_write_list(result, WORDS, count, text, TEXT, &length), "write_list");
+    printf(" %.*s\n", (int)length, (const char *)text);
+}
+
+/* A book without notes is kept as a text of no bytes. */
+static void save_and_load(struct bitmap *book)
+{
+    uint8_t text[TEXT];
+    size_t length, notes;
+    must(taxolbin_resize_bits(book->words, OLD, &book->count, 0), "resize_bits");
+    must(taxolbin_write_list(book->words, OLD, book->count, text, TEXT, &length), "write_list");
+    must(taxolbin_load_list(book->words, OLD, &book->count, text, length), "load_list");
+    must(taxolbin_count_set_bits(book->words, OLD, book->count, &notes), "count_set_bits");
+    printf("an empty book: %zu bytes, %zu notes\n", length, notes);
 }
 
 int main(void)
@@ -74,9 +74,10 @@ int main(void)
     for (i = 0; i < s.length; i++) {
         printf("%02X%s", (unsigned)s.bytes[i], i + 1 < s.length ? " " : "\n");
     }
-    must(taxolbin_from_list(old.words, OLD, &old.count, list, sizeof list), "from_list");
+    must(taxolbin_load_list(old.words, OLD, &old.count, list, sizeof list), "load_list");
     line(&old, &s, 1);
     line(&old, &s, 2);
     line(&old, &s, 3);
+    save_and_load(&old);
     return 0;
 }
