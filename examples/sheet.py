@@ -1,0 +1,107 @@
+"""Makes a change sheet, reads it in both editions and in one that there is not, and prints what each made of it; then saves and loads an empty book.
+The library is the one that pkg-config finds."""
+import ctypes
+import subprocess
+
+SIZE, WORD, NUMBER = ctypes.c_size_t, ctypes.c_uint64, ctypes.c_uint32
+OLD, WORDS, BYTES, TEXT = 4, 128, 256, 65536
+KINDS = ["set", "unset", "set_region", "set_field", "shift", "rotate", "resize_bits", "reverse", "toggle_region", "open", "close"]  # from 1 on
+
+
+def variable(name):
+    return subprocess.check_output(["pkg-config", f"--variable={name}", "taxolbin"], text=True).strip()
+
+
+def declared(name, *types):
+    call = getattr(library, "taxolbin_" + name)
+    call.restype, call.argtypes = NUMBER, types
+    return call
+
+
+library = ctypes.CDLL(variable("libdir") + "/libtaxolbin.so")
+words, count, data, out = ctypes.POINTER(WORD), ctypes.POINTER(SIZE), ctypes.c_char_p, ctypes.POINTER(SIZE)
+from_list = declared("from_list", words, SIZE, count, data, SIZE)
+write_list = declared("write_list", words, SIZE, SIZE, data, SIZE, out)
+resize_bits = declared("resize_bits", words, SIZE, count, SIZE)
+count_set_bits = declared("count_set_bits", words, SIZE, SIZE, out)
+read = declared("read", SIZE, data, SIZE, words, SIZE, SIZE, words, SIZE, out, out)
+start = declared("start", data, SIZE, out)
+add = declared("add", data, SIZE, out, NUMBER, SIZE, NUMBER, NUMBER, NUMBER, SIZE, WORD, SIZE, data, SIZE)
+with open(variable("numbers"), encoding="ascii") as lines:
+    WHY = {int(row[0]): row[3].strip() for row in (line.split("\t") for line in lines) if len(row) == 4}
+
+
+def must(number):
+    if number:
+        raise ValueError(f"{WHY[number]} ({number})")
+
+
+class Sheet:
+    """A sheet at the front of its buffer. An edit's fields have names, so that none can stand in another's place."""
+
+    def __init__(self):
+        self.buffer, self.length = ctypes.create_string_buffer(BYTES), SIZE()
+        must(start(self.buffer, BYTES, self.length))
+
+    def edit(self, kind, *, p=0, k=0, flag=False, width=0, value=0, bits=0):
+        if not (0 <= p < 1 << 32 and 0 <= k < 1 << 32):
+            raise ValueError("p and k have 32 bits")  # ctypes would cut them
+        must(add(self.buffer, BYTES, self.length, 1, KINDS.index(kind) + 1, p, k, flag, width, value, bits, b"", 0))
+
+    def remark(self, kind, payload):
+        must(add(self.buffer, BYTES, self.length, 0, kind, 0, 0, 0, 0, 0, 0, payload, len(payload)))
+
+    def bytes(self):
+        return self.buffer.raw[: self.length.value]
+
+
+class Bitmap:
+    """A bitmap in its store."""
+
+    def __init__(self, capacity):
+        self.words, self.capacity, self.count = (WORD * capacity)(), capacity, SIZE()
+
+    def load_list(self, text):
+        """An empty book prints no text, and no text is no list."""
+        if text:
+            must(from_list(self.words, self.capacity, self.count, text, len(text)))
+        else:
+            must(resize_bits(self.words, self.capacity, self.count, 0))
+
+    def write_list(self):
+        text, length = ctypes.create_string_buffer(TEXT), SIZE()
+        must(write_list(self.words, self.capacity, self.count, text, TEXT, length))
+        return text.raw[: length.value]
+
+    def notes(self):
+        value = SIZE()
+        must(count_set_bits(self.words, self.capacity, self.count, value))
+        return value.value
+
+
+def line(old, sheet, edition):
+    """Edition, number, record and count; then the list, or why there is none."""
+    result, record = Bitmap(WORDS), SIZE()
+    data = sheet.bytes()
+    number = read(edition, data, len(data), old.words, OLD, old.count, result.words, WORDS, record, result.count)
+    print(edition, number, record.value, result.count.value, WHY[number] if number else result.write_list().decode())
+
+
+def main():
+    sheet, old = Sheet(), Bitmap(OLD)
+    sheet.edit("set_region", flag=True, p=2, k=4)
+    sheet.edit("unset", p=3)
+    sheet.remark(1, b"hi")
+    sheet.edit("shift", k=64)
+    sheet.edit("open", p=68, k=10)
+    print(sheet.bytes().hex(" ").upper())
+    old.load_list(b"0, 4-5")
+    for edition in 1, 2, 3:
+        line(old, sheet, edition)
+    old.load_list(b"")
+    text = old.write_list()
+    old.load_list(text)
+    print(f"an empty book: {len(text)} bytes, {old.notes()} notes")
+
+
+main()
