@@ -1,0 +1,764 @@
+// Each method beside a plain model of bits, on small bitmaps and on arguments near the edges and far out. A fixed seed: each run is the same.
+#![allow(clippy::unit_arg)] // `Ok(change)` stands for the change and `Ok(())`
+
+use std::collections::BTreeSet;
+
+use taxolbin::{BitSlice, Bitmap, Error, CAPACITY_MAX};
+
+const CASES: usize = 2000;
+
+type Made = Result<(), Error>;
+
+// xorshift64*
+struct Random(u64);
+
+impl Random {
+    fn word(&mut self) -> u64 {
+        self.0 ^= self.0 >> 12;
+        self.0 ^= self.0 << 25;
+        self.0 ^= self.0 >> 27;
+        self.0.wrapping_mul(0x2545_F491_4F6C_DD1D)
+    }
+
+    fn below(&mut self, n: usize) -> usize {
+        ((self.word() >> 11) % n as u64) as usize
+    }
+
+    // Empty, full, sparse and dense words, so that trims, runs and ends come often.
+    fn words(&mut self, n: usize) -> Vec<u64> {
+        let some = |r: &mut Random| match r.below(6) {
+            0 | 1 => 0,
+            2 => u64::MAX,
+            3 => 1 << r.below(64),
+            4 => r.word() & r.word() & r.word(),
+            _ => r.word() | r.word(),
+        };
+        (0..n).map(|_| some(self)).collect()
+    }
+
+    // Within the length and just past it, at the ends, and far out.
+    fn index(&mut self, length: usize) -> usize {
+        match self.below(8) {
+            0 => length,
+            1 => length.wrapping_sub(1),
+            2 => usize::MAX - self.below(70),
+            3 => 64 * self.below(6),
+            _ => self.below(length + 80),
+        }
+    }
+
+    fn case(&mut self) -> Case {
+        let capacity = self.below(5);
+        let count = self.below(capacity + 1);
+        Case { store: self.words(capacity), count }
+    }
+}
+
+fn bits_of(words: &[u64]) -> Vec<bool> {
+    (0..64 * words.len()).map(|i| words[i / 64] & (1 << (i % 64)) != 0).collect()
+}
+
+fn words_of(bits: &[bool]) -> Vec<u64> {
+    bits.chunks(64).map(|chunk| chunk.iter().rev().fold(0, |word, &bit| 2 * word + u64::from(bit))).collect()
+}
+
+fn members(bits: &[bool]) -> BTreeSet<usize> {
+    (0..bits.len()).filter(|&i| bits[i]).collect()
+}
+
+// The least words that hold these members.
+fn trimmed(set: &BTreeSet<usize>) -> Vec<bool> {
+    let length = set.last().map_or(0, |last| 64 * (last / 64 + 1));
+    (0..length).map(|i| set.contains(&i)).collect()
+}
+
+fn trim(bits: &mut Vec<bool>) {
+    *bits = trimmed(&members(bits));
+}
+
+// Makes sure of a word for this bit.
+fn grow(bits: &mut Vec<bool>, last: usize, capacity: usize) -> Made {
+    if last / 64 >= capacity {
+        return Err(Error::NoSpace);
+    }
+    bits.resize(bits.len().max(64 * (last / 64 + 1)), false);
+    Ok(())
+}
+
+// ---- Reading ----
+
+#[test]
+fn one_bitmap_is_read() {
+    let mut r = Random(1);
+    for _ in 0..CASES {
+        let n = r.below(5);
+        let words = r.words(n);
+        let (bits, b) = (BitSlice::new(&words).unwrap(), bits_of(&words));
+        let set = members(&b);
+        let clear = |from: usize| if from < b.len() { (from..b.len()).find(|&j| !b[j]).unwrap_or(b.len()) } else { from };
+        let (i, k) = (r.index(b.len()), r.index(b.len()));
+        assert_eq!((bits.words(), bits.len_words(), bits.len_bits()), (&words[..], n, b.len()));
+        assert_eq!(bits.get(i), set.contains(&i), "get {i}");
+        assert_eq!((bits.first_set(), bits.last_set()), (set.first().copied(), set.last().copied()));
+        assert_eq!(bits.next_set(i), set.range(i..).next().copied(), "next_set {i}");
+        assert_eq!(bits.select(k), set.iter().nth(k).copied(), "select {k}");
+        assert_eq!((bits.first_clear(), bits.next_clear(i)), (clear(0), clear(i)), "clear {i}");
+        assert_eq!((bits.count_set_bits(), bits.count_clear_bits()), (set.len(), b.len() - set.len()));
+        assert_eq!(bits.count_region(i, k), set.range(i..i.saturating_add(k)).count(), "count_region {i} {k}");
+        assert_eq!(bits.rank(i), set.range(..i).count(), "rank {i}");
+        assert_eq!(bits.is_zero(), set.is_empty());
+        assert_eq!(bits.iter().collect::<Vec<_>>(), set.iter().copied().collect::<Vec<_>>());
+        assert_eq!(bits.into_iter().collect::<BTreeSet<_>>(), set);
+        assert_eq!(format!("{bits:?}"), format!("{set:?}"));
+    }
+}
+
+#[test]
+fn fields_are_read() {
+    let mut r = Random(2);
+    let mut refused = 0;
+    for _ in 0..CASES {
+        let n = r.below(5);
+        let words = r.words(n);
+        let set = members(&bits_of(&words));
+        let (i, width) = (r.index(64 * n), r.below(68));
+        let bit = |j: usize| i.checked_add(j).is_some_and(|place| set.contains(&place));
+        let model = if width > 64 { Err(Error::WidthOver) } else { Ok((0..width).map(|j| u64::from(bit(j)) << j).sum()) };
+        refused += usize::from(model.is_err());
+        assert_eq!(BitSlice::new(&words).unwrap().get_field(i, width), model, "{i} {width}");
+    }
+    assert!(refused > 0 && refused < CASES);
+}
+
+#[test]
+fn two_bitmaps_are_read() {
+    let mut r = Random(3);
+    let mut equal = 0;
+    for case in 0..CASES {
+        let (n, m) = (r.below(5), r.below(5));
+        let left = r.words(n);
+        let mut right = if case % 4 == 0 { left.clone() } else { r.words(m) };
+        right.extend(vec![0; r.below(3)]);
+        let (a, b) = (members(&bits_of(&left)), members(&bits_of(&right)));
+        let (left, right) = (BitSlice::new(&left).unwrap(), BitSlice::new(&right).unwrap());
+        equal += usize::from(a == b);
+        assert_eq!(left == right, a == b);
+        assert_eq!((left.is_subset(right), left.is_disjoint(right)), (a.is_subset(&b), a.is_disjoint(&b)));
+        let (and, or, xor, andnot): (BTreeSet<_>, BTreeSet<_>, BTreeSet<_>, BTreeSet<_>) = (&a & &b, &a | &b, &a ^ &b, &a - &b);
+        assert_eq!((left.and_count(right), left.or_count(right)), (and.len(), or.len()));
+        assert_eq!((left.xor_count(right), left.andnot_count(right)), (xor.len(), andnot.len()));
+        for (walk, set) in [(left.iter_and(right), and), (left.iter_or(right), or), (left.iter_xor(right), xor), (left.iter_andnot(right), andnot)] {
+            assert_eq!(format!("{walk:?}"), format!("{set:?}"));
+            assert_eq!(walk.collect::<Vec<_>>(), set.into_iter().collect::<Vec<_>>());
+        }
+    }
+    assert!(equal > CASES / 8 && equal < CASES / 2);
+}
+
+#[test]
+fn walks_end_once_and_for_all() {
+    let words = [u64::MAX, 1 << 63];
+    let bits = BitSlice::new(&words).unwrap();
+    let (mut members, mut both) = (bits.iter(), bits.iter_and(bits));
+    assert_eq!((members.by_ref().count(), both.by_ref().count()), (65, 65));
+    assert_eq!((members.next(), members.next(), both.next(), both.next()), (None, None, None, None));
+    assert_eq!(BitSlice::new(&[]).unwrap().iter().next(), None);
+    let mut rest = bits.iter();
+    rest.nth(63);
+    assert_eq!(format!("{:?} {:?}", rest.clone(), rest), "{127} {127}");
+}
+
+#[test]
+fn lists_are_printed_and_loaded() {
+    let mut r = Random(4);
+    for _ in 0..CASES {
+        let n = r.below(5);
+        let words = r.words(n);
+        let (bits, list) = (BitSlice::new(&words).unwrap(), list_of(&members(&bits_of(&words))));
+        let mut out = vec![b'#'; list.len() + 3];
+        assert_eq!(bits.write_list(&mut out), Ok(&list[..]));
+        assert_eq!(&out[list.len()..], b"###");
+        let mut exact = vec![b'#'; list.len()];
+        assert_eq!(bits.write_list(&mut exact), Ok(&list[..]));
+        if let Some((_, short)) = exact.split_first_mut() {
+            short.fill(b'#');
+            assert_eq!(bits.write_list(short), Err(Error::NoSpace));
+            assert!(short.iter().all(|&byte| byte == b'#'));
+        }
+        let mut store = vec![u64::MAX; n];
+        let mut loaded = Bitmap::with_count(&mut store, n).unwrap();
+        loaded.load_list(&list).unwrap();
+        assert_eq!(loaded, *bits);
+        assert_eq!(*bits, loaded);
+        let mut second = words.clone();
+        let mut whole = Bitmap::with_count(&mut second, n).unwrap();
+        assert_eq!(loaded, whole);
+        whole.invert();
+        assert_eq!(loaded == whole, n == 0);
+    }
+}
+
+// Maximal runs, upward.
+fn list_of(set: &BTreeSet<usize>) -> String {
+    let starts = set.iter().filter(|&&i| i == 0 || !set.contains(&(i - 1)));
+    let run = |&start: &usize| match (start..).find(|&i| !set.contains(&(i + 1))).unwrap() {
+        end if end == start => format!("{start}"),
+        end => format!("{start}-{end}"),
+    };
+    starts.map(run).collect::<Vec<_>>().join(", ")
+}
+
+// ---- Changes within the length ----
+
+// Runs a change and its model on many slices.
+fn within(seed: u64, one: impl Fn(&mut Random, &mut BitSlice, &mut Vec<bool>)) {
+    let mut r = Random(seed);
+    let mut changed = 0;
+    for _ in 0..CASES {
+        let n = r.below(5);
+        let old = r.words(n);
+        let (mut words, mut bits) = (old.clone(), bits_of(&old));
+        one(&mut r, BitSlice::new_mut(&mut words).unwrap(), &mut bits);
+        assert_eq!(words, words_of(&bits), "of {old:x?}");
+        changed += usize::from(words != old);
+    }
+    assert!(changed > CASES / 10);
+}
+
+// Every bit comes from the place that is told; nothing comes from nowhere.
+fn moved(bits: &mut Vec<bool>, from: impl Fn(usize) -> Option<usize>) {
+    *bits = (0..bits.len()).map(|i| from(i).and_then(|j| bits.get(j).copied()).unwrap_or(false)).collect();
+}
+
+#[test]
+fn bits_move_within_the_length() {
+    within(10, |_, bits, model| {
+        bits.invert();
+        model.iter_mut().for_each(|bit| *bit = !*bit);
+    });
+    within(11, |_, bits, model| {
+        bits.reverse();
+        model.reverse();
+    });
+    within(12, |r, bits, model| {
+        let k = r.index(model.len());
+        bits.shift_left(k);
+        moved(model, |i| i.checked_sub(k));
+    });
+    within(13, |r, bits, model| {
+        let k = r.index(model.len());
+        bits.shift_right(k);
+        moved(model, |i| i.checked_add(k));
+    });
+    within(14, |r, bits, model| {
+        let k = r.index(model.len());
+        bits.rotate_left(k);
+        let odd = k.checked_rem(model.len()).unwrap_or(0);
+        model.rotate_right(odd); // a slice's right is up
+    });
+    within(15, |r, bits, model| {
+        let k = r.index(model.len());
+        bits.rotate_right(k);
+        let odd = k.checked_rem(model.len()).unwrap_or(0);
+        model.rotate_left(odd);
+    });
+}
+
+#[test]
+fn bits_are_written_within_the_length() {
+    within(16, |r, bits, model| {
+        let i = r.index(model.len());
+        let expected = if i < model.len() { Ok(model[i] = !model[i]) } else { Err(Error::PastLength) };
+        assert_eq!(bits.toggle(i), expected, "{i}");
+    });
+    within(17, |r, bits, model| {
+        let (i, value, width) = (r.index(model.len()), r.word(), r.below(68));
+        let expected = match i.checked_add(width) {
+            _ if width > 64 => Err(Error::WidthOver),
+            _ if width == 0 => Ok(()),
+            Some(end) if end <= model.len() => Ok((0..width).for_each(|j| model[i + j] = value >> j & 1 == 1)),
+            _ => Err(Error::PastLength),
+        };
+        assert_eq!(bits.set_field_strict(i, value, width), expected, "{i} {width}");
+    });
+}
+
+// ---- Changes that grow and trim ----
+
+struct Case {
+    store: Vec<u64>,
+    count: usize,
+}
+
+impl Case {
+    fn length(&self) -> usize {
+        64 * self.count
+    }
+
+    // What the store must hold after its bits became these: words that fell out of use are zero, words never in use as they were.
+    fn after(&self, bits: &[bool]) -> Vec<u64> {
+        let mut words = words_of(bits);
+        words.extend((words.len()..self.count).map(|_| 0));
+        words.extend(&self.store[words.len()..]);
+        words
+    }
+
+    // Runs the call and the model, which gets the bits and the capacity, and compares all that is left.
+    fn run(&self, call: impl FnOnce(&mut Bitmap) -> Made, model: impl FnOnce(&mut Vec<bool>, usize) -> Made) -> Made {
+        let old = bits_of(&self.store[..self.count]);
+        let mut bits = old.clone();
+        let expected =
+            model(&mut bits, self.store.len()).and_then(|()| if bits.len() > 64 * self.store.len() { Err(Error::NoSpace) } else { Ok(()) });
+        if expected.is_err() {
+            bits = old;
+        }
+        let mut store = self.store.clone();
+        let mut bitmap = Bitmap::with_count(&mut store, self.count).unwrap();
+        assert_eq!(call(&mut bitmap), expected);
+        assert_eq!(bitmap.count(), bits.len() / 64);
+        assert_eq!(bitmap.words(), words_of(&bits));
+        assert_eq!(bitmap.store(), self.after(&bits));
+        expected
+    }
+}
+
+// Runs many cases, and sees to it that exactly these errors come up among them, besides done.
+fn changes(seed: u64, errors: &[Error], one: impl Fn(&mut Random, &Case) -> Made) {
+    let mut r = Random(seed);
+    let mut seen = BTreeSet::new();
+    for _ in 0..CASES {
+        let case = r.case();
+        seen.insert(one(&mut r, &case).err());
+    }
+    let expected = errors.iter().map(|&error| Some(error)).chain([None]).collect();
+    assert_eq!(seen, expected);
+}
+
+// A call that nothing refuses.
+fn free(seed: u64, call: impl Fn(&mut Bitmap, usize, usize), model: impl Fn(&mut Vec<bool>, usize, usize)) {
+    changes(seed, &[], |r, case| {
+        let (i, k) = (r.index(case.length()), r.index(case.length()));
+        case.run(|b| Ok(call(b, i, k)), |bits, _| Ok(model(bits, i, k)))
+    });
+}
+
+// The word of bit i, if it is in use, and whether it is the last: what the three calls on one word look at.
+fn on_word(bits: &mut Vec<bool>, i: usize, change: impl Fn(&mut [bool])) {
+    let first = i - i % 64;
+    if i < bits.len() {
+        change(&mut bits[first..first + 64]);
+        if first + 64 == bits.len() && !bits[first..].contains(&true) {
+            trim(bits);
+        }
+    }
+}
+
+#[test]
+fn what_nothing_refuses() {
+    free(20, |b, _, _| b.trim(), |bits, _, _| trim(bits));
+    free(21, |b, i, _| b.unset(i), |bits, i, _| bits.iter_mut().skip(i).take(1).for_each(|bit| *bit = false));
+    free(22, |b, i, _| b.andi(i), |bits, i, _| on_word(bits, i, |word| (0..64).for_each(|j| word[j] &= j == i % 64)));
+    free(23, |b, i, _| b.andnoti(i), |bits, i, _| on_word(bits, i, |word| word[i % 64] = false));
+    free(
+        24,
+        |b, k, _| b.shift_right(k),
+        |bits, k, _| {
+            moved(bits, |i| i.checked_add(k));
+            trim(bits);
+        },
+    );
+    free(25, |b, k, _| b.truncate_bits(k), |bits, k, _| *bits = trimmed(&members(bits).range(..k).copied().collect()));
+    free(
+        26,
+        |b, p, k| b.close_gap(p, k),
+        |bits, p, k| {
+            let kept = members(bits).into_iter().filter_map(|i| match i {
+                i if i < p => Some(i),
+                i => (i - p >= k).then(|| i - k),
+            });
+            *bits = trimmed(&kept.collect());
+        },
+    );
+}
+
+#[test]
+fn single_bits_are_set_and_flipped() {
+    changes(30, &[Error::NoSpace], |r, case| {
+        let i = r.index(case.length());
+        case.run(|b| b.set(i), |bits, capacity| grow(bits, i, capacity).map(|()| bits[i] = true))
+    });
+    changes(31, &[Error::NoSpace], |r, case| {
+        let i = r.index(case.length());
+        case.run(|b| b.toggle(i), |bits, capacity| grow(bits, i, capacity).map(|()| bits[i] = !bits[i]))
+    });
+    changes(32, &[Error::NoSpace], |r, case| {
+        let i = r.index(case.length());
+        let flip = |bits: &mut Vec<bool>| on_word(bits, i, |word| word[i % 64] = !word[i % 64]);
+        case.run(|b| b.xori(i), |bits, capacity| grow(bits, i, capacity).map(|()| flip(bits)))
+    });
+    changes(33, &[Error::NoSpace], |r, case| {
+        let length = r.below(4);
+        let many: Vec<usize> = (0..length).map(|_| r.below(64 * case.store.len() + 10)).collect();
+        let model = |bits: &mut Vec<bool>, capacity| {
+            many.iter().try_for_each(|&i| grow(bits, i, capacity))?;
+            many.iter().for_each(|&i| bits[i] = true);
+            Ok(())
+        };
+        case.run(|b| b.set_many(&many), model)
+    });
+}
+
+// The last index of k bits from i on.
+fn last_of(i: usize, k: usize) -> Result<usize, Error> {
+    i.checked_add(k - 1).ok_or(Error::IndexOver)
+}
+
+#[test]
+fn regions_and_fields_are_written() {
+    let (over, full) = (Error::IndexOver, Error::NoSpace);
+    changes(40, &[over, full], |r, case| {
+        let (i, value, k) = (r.index(case.length()), r.below(2) == 1, r.index(case.length()));
+        let model = |bits: &mut Vec<bool>, capacity| {
+            let last = if k == 0 { return Ok(()) } else { last_of(i, k)? };
+            if value {
+                grow(bits, last, capacity)?;
+            }
+            bits.iter_mut().skip(i).take(k).for_each(|bit| *bit = value);
+            Ok(())
+        };
+        case.run(|b| b.set_region(i, value, k), model)
+    });
+    changes(41, &[over, full], |r, case| {
+        let (i, k) = (r.index(case.length()), r.index(case.length()));
+        let model = |bits: &mut Vec<bool>, capacity| {
+            let last = if k == 0 { return Ok(()) } else { last_of(i, k)? };
+            grow(bits, last, capacity)?;
+            bits[i..=last].iter_mut().for_each(|bit| *bit = !*bit);
+            Ok(())
+        };
+        case.run(|b| b.toggle_region(i, k), model)
+    });
+    changes(42, &[Error::WidthOver, over, full], |r, case| {
+        let (i, width) = (r.index(case.length()), r.below(68));
+        let value = [0, u64::MAX, r.word(), 1 << r.below(64)][r.below(4)];
+        case.run(|b| b.set_field(i, value, width), |bits, capacity| put_field(bits, capacity, i, value, width))
+    });
+}
+
+fn put_field(bits: &mut Vec<bool>, capacity: usize, i: usize, value: u64, width: usize) -> Made {
+    if width > 64 {
+        return Err(Error::WidthOver);
+    }
+    let last = if width == 0 { return Ok(()) } else { last_of(i, width)? };
+    if (0..width).any(|j| value >> j & 1 == 1) {
+        grow(bits, last, capacity)?;
+    }
+    (0..width).for_each(|j| bits.iter_mut().skip(i + j).take(1).for_each(|bit| *bit = value >> j & 1 == 1));
+    Ok(())
+}
+
+#[test]
+fn bits_move_up() {
+    let (over, full) = (Error::IndexOver, Error::NoSpace);
+    changes(50, &[over, full], |r, case| {
+        let k = r.index(case.length());
+        let model = |bits: &mut Vec<bool>, capacity| {
+            let Some(&last) = members(bits).last() else { return Ok(()) };
+            grow(bits, last.checked_add(k).ok_or(over)?, capacity)?;
+            moved(bits, |i| i.checked_sub(k));
+            Ok(())
+        };
+        case.run(|b| b.shift_left(k), model)
+    });
+    changes(52, &[over, full], |r, case| {
+        let (p, k) = (r.index(case.length()), r.index(case.length()));
+        let model = |bits: &mut Vec<bool>, capacity| {
+            let set = members(bits);
+            if let Some(last) = set.range(p..).last() {
+                grow(bits, last.checked_add(k).ok_or(over)?, capacity)?;
+            }
+            *bits = trimmed(&set.into_iter().map(|i| if i < p { i } else { i + k }).collect());
+            Ok(())
+        };
+        case.run(|b| b.open_gap(p, k), model)
+    });
+}
+
+#[test]
+fn lengths_change() {
+    let full = Error::NoSpace;
+    changes(51, &[full], |r, case| {
+        let k = r.index(case.length());
+        let model = |bits: &mut Vec<bool>, capacity| {
+            let words = k.div_ceil(64);
+            if words > capacity {
+                return Err(full);
+            }
+            bits.iter_mut().skip(k).for_each(|bit| *bit = false);
+            bits.resize(64 * words, false);
+            Ok(())
+        };
+        case.run(|b| b.resize_bits(k), model)
+    });
+    changes(53, &[full], |r, case| {
+        let n = r.below(4);
+        let other = r.words(n);
+        let model = |bits: &mut Vec<bool>, _| Ok(bits.extend(bits_of(&other)));
+        case.run(|b| b.append(BitSlice::new(&other).unwrap()), model)
+    });
+}
+
+#[test]
+fn a_bitmap_is_split() {
+    let mut r = Random(54);
+    let mut seen = BTreeSet::new();
+    for _ in 0..CASES {
+        let (case, tail, at) = (r.case(), r.case(), r.below(200));
+        let at = if at > 190 { usize::MAX } else { at };
+        let set = members(&bits_of(&case.store[..case.count]));
+        let back = trimmed(&set.range(at..).map(|i| i - at).collect());
+        let fits = back.len() <= 64 * tail.store.len();
+        let mut second = tail.store.clone();
+        let split = |b: &mut Bitmap| {
+            let made = b.split_off(at, &mut second)?;
+            assert_eq!(made.words(), words_of(&back));
+            Ok(())
+        };
+        let model = |bits: &mut Vec<bool>, _| {
+            *bits = trimmed(&set.range(..at).copied().collect());
+            if fits {
+                Ok(())
+            } else {
+                Err(Error::NoSpace)
+            }
+        };
+        seen.insert(case.run(split, model).is_ok());
+        let untouched = Case { store: tail.store, count: 0 };
+        assert_eq!(second, untouched.after(if fits { &back } else { &[] }));
+    }
+    assert_eq!(seen.len(), 2);
+}
+
+// ---- Set operations ----
+
+type Op = fn(bool, bool) -> bool;
+
+const OPS: [(&str, Op); 4] = [("and", |a, b| a & b), ("andnot", |a, b| a & !b), ("or", |a, b| a | b), ("xor", |a, b| a ^ b)];
+
+// What an operation makes of two: as long as the longer for `or`, trimmed for the others.
+fn combined((name, op): (&str, Op), a: &[bool], b: &[bool]) -> Vec<bool> {
+    let at = |bits: &[bool], i: usize| bits.get(i).copied().unwrap_or(false);
+    let mut bits: Vec<bool> = (0..a.len().max(b.len())).map(|i| op(at(a, i), at(b, i))).collect();
+    if name != "or" {
+        trim(&mut bits);
+    }
+    bits
+}
+
+fn in_place(b: &mut Bitmap, name: &str, other: &BitSlice) -> Made {
+    match name {
+        "and" => Ok(b.and(other)),
+        "andnot" => Ok(b.andnot(other)),
+        "or" => b.or(other),
+        _ => b.xor(other),
+    }
+}
+
+fn from(b: &mut Bitmap, name: &str, left: &BitSlice, right: &BitSlice) -> Made {
+    match name {
+        "and" => b.and_from(left, right),
+        "andnot" => b.andnot_from(left, right),
+        "or" => b.or_from(left, right),
+        _ => b.xor_from(left, right),
+    }
+}
+
+fn dup<'a>(store: &'a mut [u64], name: &str, left: &BitSlice, right: &BitSlice) -> Result<Bitmap<'a>, Error> {
+    match name {
+        "and" => Bitmap::dup_and(store, left, right),
+        "andnot" => Bitmap::dup_andnot(store, left, right),
+        "or" => Bitmap::dup_or(store, left, right),
+        _ => Bitmap::dup_xor(store, left, right),
+    }
+}
+
+#[test]
+fn sets_are_combined_in_place() {
+    for op in OPS {
+        let errors: &[Error] = if op.0.starts_with("and") { &[] } else { &[Error::NoSpace] };
+        changes(60, errors, |r, case| {
+            let n = r.below(5);
+            let other = r.words(n);
+            let model = |bits: &mut Vec<bool>, _| Ok(*bits = combined(op, bits, &bits_of(&other)));
+            case.run(|b| in_place(b, op.0, BitSlice::new(&other).unwrap()), model)
+        });
+    }
+}
+
+#[test]
+fn sets_are_combined_into_another_store() {
+    for op in OPS {
+        changes(61, &[Error::NoSpace], |r, case| {
+            let (n, m) = (r.below(5), r.below(5));
+            let (left, right) = (r.words(n), r.words(m));
+            let made = combined(op, &bits_of(&left), &bits_of(&right));
+            let (left, right) = (BitSlice::new(&left).unwrap(), BitSlice::new(&right).unwrap());
+            let done = case.run(|b| from(b, op.0, left, right), |bits, _| Ok(*bits = made.clone()));
+
+            let mut store = case.store.clone();
+            let words = dup(&mut store, op.0, left, right).map(|b| b.words().to_vec());
+            assert_eq!(words, done.map(|()| words_of(&made)));
+            let unused = Case { store: case.store.clone(), count: 0 };
+            assert_eq!(store, unused.after(if done.is_ok() { &made } else { &[] }));
+            done
+        });
+    }
+}
+
+// ---- Lists ----
+
+const PIECES: [&[u8]; 18] = [
+    b"0",
+    b"7",
+    b"63",
+    b"64",
+    b"100",
+    b"300",
+    b"007",
+    b"4294967295",
+    b"4294967296",
+    b"-",
+    b"-",
+    b",",
+    b", ",
+    b",",
+    b" ",
+    b"\t\x0b",
+    b"x",
+    b"\xC2\xA0",
+];
+
+// The ranges of a list, each token by itself.
+fn ranges(text: &[u8]) -> Result<Vec<(usize, usize)>, Error> {
+    if !text.is_ascii() {
+        return Err(Error::NotAscii);
+    }
+    let text = std::str::from_utf8(text).unwrap();
+    let mut tokens: Vec<&str> = text.split(',').map(|token| token.trim_matches(blank)).collect();
+    if tokens.len() > 1 && tokens.last() == Some(&"") {
+        tokens.pop();
+    }
+    tokens.into_iter().map(|token| range(token).ok_or(Error::NotList)).collect()
+}
+
+fn blank(c: char) -> bool {
+    matches!(c, '\t'..='\r' | ' ')
+}
+
+fn range(token: &str) -> Option<(usize, usize)> {
+    let number = |text: &str| {
+        let text = text.trim_matches(blank);
+        let value: u128 = text.bytes().all(|byte| byte.is_ascii_digit()).then(|| text.parse().ok())??;
+        (value <= 4_294_967_295).then_some(value as usize)
+    };
+    let (first, last) = token.split_once('-').unwrap_or((token, token));
+    let (first, last) = (number(first)?, number(last)?);
+    (first <= last).then_some((first, last))
+}
+
+#[test]
+fn lists_are_read() {
+    changes(70, &[Error::NoSpace, Error::NotList, Error::NotAscii], |r, case| {
+        let n = r.below(7);
+        let text: Vec<u8> = (0..n).flat_map(|_| PIECES[r.below(PIECES.len())]).copied().collect();
+        let model = |bits: &mut Vec<bool>, capacity| {
+            let ranges = ranges(&text)?;
+            bits.clear();
+            ranges.iter().try_for_each(|&(_, last)| grow(bits, last, capacity))?;
+            ranges.iter().for_each(|&(first, last)| bits[first..=last].fill(true));
+            Ok(())
+        };
+        let done = case.run(|b| b.from_list(&text), model);
+        if text.is_empty() {
+            assert_eq!(done, Err(Error::NotList));
+            case.run(|b| b.load_list(&text), |bits, _| Ok(bits.clear())).unwrap();
+        } else {
+            assert_eq!(case.run(|b| b.load_list(&text), model), done);
+        }
+        done
+    });
+}
+
+#[test]
+fn lists_of_the_paper() {
+    let mut store = [0; 2];
+    let mut b = Bitmap::empty(&mut store).unwrap();
+    for text in ["", ",", "1,,", "5-3", "4294967296"] {
+        assert_eq!(b.from_list(text), Err(Error::NotList), "{text:?}");
+    }
+    assert_eq!(b.from_list("4294967295"), Err(Error::NoSpace));
+    assert_eq!(b.from_list([0x31, 0xC2, 0xA0]), Err(Error::NotAscii));
+    for (text, set) in [("1,", vec![1]), (" 1 - 3 , 2", vec![1, 2, 3]), ("120-127", (120..128).collect())] {
+        b.from_list(text).unwrap();
+        assert_eq!(b.iter().collect::<Vec<_>>(), set, "{text:?}");
+    }
+}
+
+// ---- Stores ----
+
+#[test]
+fn stores_are_looked_at() {
+    let mut store = [3, 5, 7];
+    assert_eq!(Bitmap::with_count(&mut store, 4).unwrap_err(), Error::CountOverStore);
+    assert_eq!(Bitmap::with_count(&mut store, usize::MAX).unwrap_err(), Error::CountOverStore);
+    let mut b = Bitmap::with_count(&mut store, 3).unwrap();
+    assert_eq!((b.count(), b.capacity(), b.words()), (3, 3, &[3, 5, 7][..]));
+    b.as_bits_mut().shift_right(128);
+    assert_eq!((b.count(), b.store()), (3, &[7, 0, 0][..]));
+    assert_eq!(b.as_bits(), BitSlice::new(&[7]).unwrap());
+    assert_eq!((&b).into_iter().collect::<Vec<_>>(), [0, 1, 2]);
+    assert_eq!(format!("{b:?}"), "{0, 1, 2}");
+    assert_eq!(b.into_store(), [7, 0, 0]);
+    assert_eq!(Bitmap::empty(&mut store).unwrap().count(), 0);
+}
+
+// What a bitmap has twice: its own grow or trim, the slice's keep the length.
+#[test]
+fn the_bitmap_s_own_come_first() {
+    let mut store = [1 << 63, 0];
+    let mut b = Bitmap::with_count(&mut store, 1).unwrap();
+    assert_eq!(b.as_bits_mut().toggle(64), Err(Error::PastLength));
+    b.as_bits_mut().shift_left(1);
+    assert_eq!(b.words(), [0]);
+    b.as_bits_mut().shift_right(1);
+    assert_eq!(b.words(), [0]);
+    b.toggle(64).unwrap();
+    assert_eq!(b.words(), [0, 1]);
+    b.shift_right(1);
+    assert_eq!(b.words(), [1 << 63]);
+    b.shift_left(1).unwrap();
+    assert_eq!(b.words(), [0, 1]);
+}
+
+// The memory is asked for and never touched.
+#[test]
+fn a_store_may_be_too_long() {
+    let mut long = vec![0; CAPACITY_MAX + 1];
+    let small = BitSlice::new(&[1]).unwrap();
+    assert_eq!(BitSlice::new(&long).unwrap_err(), Error::StoreTooLong);
+    assert_eq!(BitSlice::new_mut(&mut long).unwrap_err(), Error::StoreTooLong);
+    assert_eq!(Bitmap::empty(&mut long).unwrap_err(), Error::StoreTooLong);
+    assert_eq!(Bitmap::with_count(&mut long, usize::MAX).unwrap_err(), Error::StoreTooLong);
+    for (name, _) in OPS {
+        assert_eq!(dup(&mut long, name, small, small).unwrap_err(), Error::StoreTooLong);
+    }
+    let mut store = [2];
+    let mut b = Bitmap::with_count(&mut store, 1).unwrap();
+    assert_eq!(b.split_off(0, &mut long).unwrap_err(), Error::StoreTooLong);
+    assert_eq!(b.words(), [2]);
+    assert!(!BitSlice::new(&long[..CAPACITY_MAX]).unwrap().get(usize::MAX));
+    let mut most = Bitmap::empty(&mut long[..CAPACITY_MAX]).unwrap();
+    assert_eq!(most.set(64 * CAPACITY_MAX), Err(Error::NoSpace));
+    most.set(3).unwrap();
+    assert_eq!(most.count(), 1);
+}
