@@ -1,0 +1,105 @@
+"""What docs/FORMAT.md says, asked of the library: the sheet byte by byte, each kind's fields, the lists, and that the definitions it names are there:
+format.py SHARED"""
+import ctypes
+import re
+import sys
+
+from library import ROOT, load
+
+PAGE = (ROOT / "docs" / "FORMAT.md").read_text()
+WIDTHS = {"value": 1, "p": 32, "k": 32, "right": 1, "width": 7, "bits": 33, "word": 64}
+# a value for each field, with ones at both of its ends
+VALUES = {"value": 1, "p": 0x80000001, "k": 0xC0000003, "right": 1, "width": 33, "bits": 0x80000005, "word": 0x8000000000000007}
+wrong = []
+
+
+def same(what, got, expected):
+    if got != expected:
+        wrong.append(f"{what}: {got}, not {expected}")
+
+
+def table(title):
+    rows = PAGE[PAGE.index(title) :].split("\n\n")[0].splitlines()[2:]
+    return [[cell.strip(" ") for cell in row.strip("|").split("|")] for row in rows]
+
+
+def size(n=0):
+    return ctypes.c_size_t(n)
+
+
+def read(lib, edition, sheet):
+    """The line that the page shows: edition, number, record, count and list."""
+    old, result, record, count = (ctypes.c_uint64 * 1)(), (ctypes.c_uint64 * 128)(), size(), size()
+    number = lib.read(edition, sheet, len(sheet), old, 1, 0, result, 128, record, count)
+    text, length = ctypes.create_string_buffer(65536), size()
+    lib.write_list(result, 128, count, text, 65536, length)
+    return f"{edition} {number} {record.value} {count.value} {text.raw[: length.value].decode()}".strip()
+
+
+def add(lib, buffer, length, duty, kind, fields, payload=b""):
+    f = {**dict.fromkeys(WIDTHS, 0), **fields}
+    flag = f["value"] | f["right"]
+    return lib.add(buffer, 256, length, duty, kind, f["p"], f["k"], flag, f["width"], f["word"], f["bits"], payload, len(payload))
+
+
+def worked_sheet(lib):
+    rows, sheet = table("| at | bytes"), b""
+    for at, data, *_ in rows:
+        same("at", int(at), len(sheet))
+        sheet += bytes.fromhex(data.strip("`"))
+    same("bytes of the sheet", len(sheet), 32)
+    printed = re.search(r"```\n(1 .*)\n(2 .*)\n```", PAGE).groups()
+    same("editions", (read(lib, 1, sheet), read(lib, 2, sheet)), printed)
+    buffer, length = ctypes.create_string_buffer(256), size()
+    numbers = [
+        lib.start(buffer, 256, length),
+        add(lib, buffer, length, 1, 3, {"value": 1, "p": 4, "k": 3}),
+        add(lib, buffer, length, 0, 1, {}, b"hi"),
+        add(lib, buffer, length, 1, 10, {"p": 5, "k": 2}),
+    ]
+    same("written", (numbers, buffer.raw[: length.value]), ([0] * 4, sheet))
+
+
+def kinds(lib):
+    rows = table("| kind | name")
+    same("kinds", [int(row[0]) for row in rows], list(range(1, 12)))
+    for kind, _, fields, unused, count, since, _ in rows:
+        names = [name for name in fields.split(", ") if name]
+        number, bits = 0, 0
+        for name in names:
+            number, bits = number << WIDTHS[name] | VALUES[name], bits + WIDTHS[name]
+        same(f"bits of kind {kind}", bits + int(unused), 8 * int(count))
+        payload = (number << int(unused)).to_bytes(int(count), "big")
+        buffer, length = ctypes.create_string_buffer(256), size()
+        lib.start(buffer, 256, length)
+        same(f"kind {kind}", add(lib, buffer, length, 1, int(kind), {name: VALUES[name] for name in names}), 0)
+        same(f"payload of kind {kind}", buffer.raw[4 : length.value], bytes([128 + int(kind), 0, int(count)]) + payload)
+        for edition in 1, 2:
+            refused = read(lib, edition, buffer.raw[: length.value]).split()[1] == "13"
+            same(f"kind {kind} in edition {edition}", refused, edition < int(since))
+
+
+def lists(lib):
+    for text, number, notes in table("| text | number"):
+        words, count = (ctypes.c_uint64 * 2)(), size()
+        data = text[1:-1].encode()
+        same(f"{text}", lib.from_list(words, 2, count, data, len(data)), int(number))
+        same(f"notes of {text}", [i for i in range(128) if words[i // 64] >> i % 64 & 1], [int(note) for note in notes.split()])
+
+
+def definitions():
+    cited = re.findall(r"((?:`[\w-]+`(?:, )?)+): (\w+/(?:specs|proofs)/\w+)", PAGE)
+    same("there are citations", len(cited) > 10, True)
+    for names, place in cited:
+        text = (ROOT / "crates" / f"{place}.antt").read_text()
+        for name in re.findall(r"`([\w-]+)`", names):
+            if not re.search(rf"^ *(?:abbrev |unfoldable )?pub (?:data |record )?{name}\b", text, re.M):
+                wrong.append(f"{place} has no {name}")
+
+
+library = load(sys.argv[1])
+worked_sheet(library)
+kinds(library)
+lists(library)
+definitions()
+sys.exit("\n".join(wrong) or 0)

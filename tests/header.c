@@ -1,0 +1,161 @@
+/* The header's own functions, in what C and C++ have in common: the bytes of each kind's record, typed from the table of document 01, refusals, the
+ * numbers in words, an empty book, and equal bitmaps of different counts. With an argument it prints the numbers in words and nothing else. */
+#include <stdio.h>
+#include <stdlib.h>
+#include <string.h>
+#include <taxolbin.h>
+
+enum { SIZE = 64 };
+
+static int wrong = 0;
+
+static void is(const char *what, size_t got, size_t expected)
+{
+    if (got != expected) {
+        wrong = 1;
+        printf("%s: %zu, not %zu\n", what, got, expected);
+    }
+}
+
+static uint8_t buffer[SIZE];
+static size_t length;
+
+static uint8_t *fresh(void)
+{
+    memset(buffer, 0xEE, SIZE);
+    is("start", taxolbin_start(buffer, SIZE, &length), 0);
+    return buffer;
+}
+
+/* The sheet of one record, in hexadecimal. */
+static void record(const char *what, uint32_t number, const char *expected)
+{
+    char hex[2 * SIZE + 1] = "";
+    size_t i;
+    is(what, number, 0);
+    for (i = 0; i < length; i++) {
+        sprintf(hex + 2 * i, "%02X", (unsigned)buffer[i]);
+    }
+    if (strncmp(hex, "4E530001", 8) != 0 || strcmp(hex + 8, expected) != 0) {
+        wrong = 1;
+        printf("%s: %s, not 4E530001%s\n", what, hex, expected);
+    }
+}
+
+static void records(void)
+{
+    static const uint8_t hi[] = {'h', 'i'};
+    record("set", taxolbin_add_set(fresh(), SIZE, &length, 7), "81000400000007");
+    record("unset", taxolbin_add_unset(fresh(), SIZE, &length, 0x01020304), "82000401020304");
+    record("set_region", taxolbin_add_set_region(fresh(), SIZE, &length, 1, 2), "830009800000008000000100");
+    record("unset_region", taxolbin_add_unset_region(fresh(), SIZE, &length, 1, 2), "830009000000008000000100");
+    record("set_field", taxolbin_add_set_field(fresh(), SIZE, &length, 3, 0x8000000000000005, 64), "84000D0000000381000000000000000A");
+    record("set_field", taxolbin_add_set_field(fresh(), SIZE, &length, 3, 6, 2), "84000D0000000304000000000000000C");
+    record("shift_left", taxolbin_add_shift_left(fresh(), SIZE, &length, 3), "8500050000000180");
+    record("shift_right", taxolbin_add_shift_right(fresh(), SIZE, &length, 3), "8500058000000180");
+    record("rotate_left", taxolbin_add_rotate_left(fresh(), SIZE, &length, 3), "8600050000000180");
+    record("rotate_right", taxolbin_add_rotate_right(fresh(), SIZE, &length, 3), "8600058000000180");
+    record("resize_bits", taxolbin_add_resize_bits(fresh(), SIZE, &length, 100), "8700050000003200");
+    record("resize_bits", taxolbin_add_resize_bits(fresh(), SIZE, &length, TAXOLBIN_RESIZE_MAX), "8700058000000000");
+    record("reverse", taxolbin_add_reverse(fresh(), SIZE, &length), "880000");
+    record("toggle_region", taxolbin_add_toggle_region(fresh(), SIZE, &length, 5, 2), "8900080000000500000002");
+    record("open", taxolbin_add_open(fresh(), SIZE, &length, 5, 2), "8A00080000000500000002");
+    record("close", taxolbin_add_close(fresh(), SIZE, &length, 5, 2), "8B00080000000500000002");
+    record("remark", taxolbin_add_remark(fresh(), SIZE, &length, 1, hi, 2), "0100026869");
+    record("remark", taxolbin_add_remark(fresh(), SIZE, &length, 127, hi, 0), "7F0000");
+}
+
+static void refusals(void)
+{
+    static const uint8_t payload[TAXOLBIN_PAYLOAD_MAX + 1] = {0};
+    is("a width of 65", taxolbin_add_set_field(fresh(), SIZE, &length, 3, 1, 65), TAXOLBIN_WIDTH_OVER);
+    is("a long resize", taxolbin_add_resize_bits(fresh(), SIZE, &length, TAXOLBIN_RESIZE_MAX + 1), TAXOLBIN_INDEX_OVER);
+    is("remark 128", taxolbin_add_remark(fresh(), SIZE, &length, 128, payload, 0), TAXOLBIN_NEWER_KIND);
+    is("a long remark", taxolbin_add_remark(fresh(), SIZE, &length, 1, payload, sizeof payload), TAXOLBIN_BAD_PAYLOAD);
+    is("no space", taxolbin_add_set(fresh(), 10, &length, 7), TAXOLBIN_NO_SPACE);
+    is("the length after refusals", length, 4);
+    memset(buffer, 0, SIZE);
+    is("no sheet", taxolbin_add_reverse(buffer, SIZE, &length), TAXOLBIN_NOT_SHEET);
+}
+
+static void empty_book(void)
+{
+    static const uint8_t list[] = {'4', ',', ' ', '7', '-', '8'};
+    uint64_t words[2] = {0, 0};
+    uint8_t text[1] = {'x'};
+    size_t count = 0, n = 9;
+    is("an empty book is printed", taxolbin_write_list(words, 2, count, text, 0, &n), 0);
+    is("its length", n, 0);
+    is("its text read", taxolbin_from_list(words, 2, &count, text, n), TAXOLBIN_NOT_LIST);
+    is("a list loaded", taxolbin_load_list(words, 2, &count, list, sizeof list), 0);
+    is("its words", words[0], 0x190);
+    is("its count", count, 1);
+    is("an empty book loaded", taxolbin_load_list(words, 2, &count, text, n), 0);
+    is("its words", words[0], 0);
+    is("its count", count, 0);
+    is("a text that is no list", taxolbin_load_list(words, 2, &count, text, 1), TAXOLBIN_NOT_LIST);
+    count = 3;
+    is("a count over the store", taxolbin_load_list(words, 2, &count, text, 0), TAXOLBIN_COUNT_OVER_STORE);
+}
+
+/* The least bit of what a sheet makes of the notes {4} in so many words. */
+static size_t read_back(size_t words_in_use)
+{
+    static const uint64_t notes[2] = {16, 0};
+    uint64_t result[2];
+    size_t at, count, found, place;
+    is("read", taxolbin_read(1, buffer, length, notes, 2, words_in_use, result, 2, &at, &count), 0);
+    is("first_set", taxolbin_first_set(result, 2, count, &found, &place), 0);
+    return found ? place : 999;
+}
+
+static void counts(void)
+{
+    is("reverse", taxolbin_add_reverse(fresh(), SIZE, &length), 0);
+    is("{4} reversed, one word", read_back(1), 59);
+    is("{4} reversed, two words", read_back(2), 123);
+    is("rotate", taxolbin_add_rotate_right(fresh(), SIZE, &length, 5), 0);
+    is("{4} turned, one word", read_back(1), 63);
+    is("{4} turned, two words", read_back(2), 127);
+    is("resize", taxolbin_add_resize_bits(fresh(), SIZE, &length, 100), 0);
+    is("reverse", taxolbin_add_reverse(buffer, SIZE, &length), 0);
+    is("{4} resized and reversed, one word", read_back(1), 123);
+    is("{4} resized and reversed, two words", read_back(2), 123);
+}
+
+/* 12 bytes for each set bit are enough for a list, also of the longest numbers. */
+static void list_space(void)
+{
+    static const uint64_t last[3] = {UINT64_C(1) << 63, UINT64_C(3) << 62, UINT64_C(5) << 61};
+    uint64_t *words = (uint64_t *)calloc(TAXOLBIN_CAPACITY_MAX, sizeof(uint64_t));
+    uint8_t text[24];
+    size_t i, n;
+    if (words == NULL) {
+        wrong = 1;
+        printf("no memory for the longest store\n");
+        return;
+    }
+    for (i = 0; i < 3; i++) {
+        words[TAXOLBIN_CAPACITY_MAX - 1] = last[i];
+        is("the longest numbers", taxolbin_write_list(words, TAXOLBIN_CAPACITY_MAX, TAXOLBIN_CAPACITY_MAX, text, i == 0 ? 12 : 24, &n), 0);
+    }
+    free(words);
+}
+
+int main(int argc, char **argv)
+{
+    uint32_t i;
+    (void)argv;
+    if (argc > 1) {
+        for (i = 0; strcmp(taxolbin_why(i), taxolbin_why(UINT32_MAX)) != 0; i++) {
+            printf("%u\t%s\n", (unsigned)i, taxolbin_why(i));
+        }
+        return 0;
+    }
+    records();
+    refusals();
+    empty_book();
+    counts();
+    list_space();
+    return wrong;
+}

@@ -1,0 +1,159 @@
+#!/bin/sh
+# Everything that is tested beside the gate: run.sh [SRC]
+# The archive is made and installed into an empty folder; the header, the examples, the Rust package, Python and the documents are tried with what is
+# there, and the programs of the gate on lists of another seed. With SRC, the published files (src/ of vbitmap), also the archive and the programs
+# beside the Rust. Each test's output is in target/tests.
+cd "$(dirname "$0")/.." || exit 2
+src=
+if [ $# -gt 0 ]; then
+    src=$(cd "$1" && pwd) || exit 2
+fi
+out=$PWD/target/tests
+prefix=$out/prefix
+passed=0
+failed=0
+rm -rf "$out"
+mkdir -p "$out"
+unset TAXOLBIN_LIB_DIR PKG_CONFIG
+export PKG_CONFIG_PATH="$prefix/lib/pkgconfig" CARGO_NET_OFFLINE=true
+
+# try NAME COMMAND..: the command does well
+try() {
+    name=$1
+    shift
+    if "$@" > "$out/$name.log" 2>&1; then
+        passed=$((passed + 1))
+        echo "ok      $name"
+    else
+        failed=$((failed + 1))
+        echo "FAILED  $name: see target/tests/$name.log"
+    fi
+}
+
+# says WORDS COMMAND..: the command fails, and says these words
+says() {
+    words=$1
+    shift
+    if "$@" > "$out/said" 2>&1; then
+        echo "it did not fail: $*"
+        return 1
+    fi
+    cat "$out/said"
+    grep -qF -e "$words" "$out/said"
+}
+
+# prints FILE COMMAND..: the command does well, and prints what is in the file
+prints() {
+    file=$1
+    shift
+    "$@" > "$out/printed" && diff "$file" "$out/printed"
+}
+
+strict="-Wall -Wextra -Wpedantic -Wconversion -Werror -O2"
+
+# header COMPILER LANGUAGE STANDARD: no warning, and the header's own functions do what they say
+header() {
+    "$1" -x "$2" "-std=$3" $strict tests/header.c -x none $(pkg-config --cflags --libs taxolbin) -o "$out/header" && "$out/header"
+}
+
+# ignored COMPILER LANGUAGE STANDARD: a number that is not looked at is a warning, in either kind of call, unless it is on purpose
+ignored() {
+    set -- "$1" -x "$2" "-std=$3" $strict -Iinclude -c tests/ignored.c -o "$out/ignored.o"
+    says taxolbin_unset "$@" && grep -q taxolbin_add_set "$out/said" && "$@" -DON_PURPOSE
+}
+
+in_words() {
+    sed -n 's/^\([0-9]*\)\t.*\t\(.*\)$/\1\t\2/p' include/numbers.txt > "$out/words" && prints "$out/words" "$out/header" why
+}
+
+processors() {
+    for other in "clang --target=aarch64-linux-gnu" "clang --target=riscv64-linux-gnu" "gcc -m32" "gcc -mx32"; do
+        says "the archive is for x86-64" $other -ffreestanding -fsyntax-only -x c include/taxolbin.h || return 1
+    done
+}
+
+c_example() {
+    cc -std=c99 $strict examples/sheet.c $(pkg-config --cflags --libs taxolbin) -o "$out/sheet" && prints examples/expected "$out/sheet"
+}
+
+# the archive in the place of the shared library: nothing is needed where it runs
+c_archive() {
+    cc -std=c99 $strict examples/sheet.c $(pkg-config --cflags taxolbin) "$prefix/lib/libtaxolbin.a" -o "$out/sheet" &&
+        prints examples/expected "$out/sheet" && ! readelf -d "$out/sheet" | grep taxolbin
+}
+
+python_example() {
+    prints examples/expected python3 examples/sheet.py
+}
+
+soname() {
+    readelf -d "$prefix/lib/libtaxolbin.so" | grep "soname: \[libtaxolbin.so.$(pkg-config --modversion taxolbin | sed 's/\.[^.]*$//')\]"
+}
+
+package=rust/Cargo.toml
+
+package() {
+    cargo test --manifest-path "$package"
+}
+
+package_by_folder() {
+    env PKG_CONFIG_PATH= TAXOLBIN_LIB_DIR="$PWD/target/staticlib" cargo test --manifest-path "$package"
+}
+
+rust_example() {
+    prints examples/expected cargo run -q --manifest-path "$package" --example sheet
+}
+
+# without the library the package says what to do, and what it looked for
+package_without() {
+    set -- cargo build --manifest-path "$package" --target-dir "$out/without"
+    says "./install.sh PREFIX" env PKG_CONFIG_PATH= "$@" && says "./install.sh PREFIX" env PKG_CONFIG=no-such-program "$@" &&
+        says "no libtaxolbin.a in $out" env TAXOLBIN_LIB_DIR="$out" "$@"
+}
+
+package_tidy() {
+    cargo fmt --check --manifest-path "$package" && cargo clippy -q --all-targets --manifest-path "$package" -- -D warnings &&
+        env RUSTDOCFLAGS="-D warnings" cargo doc -q --no-deps --manifest-path "$package"
+}
+
+sheets() {
+    rt check sheets && python3 oracle/sheet/make.py 2 3 | target/bin/sheets > "$out/sheets" && tail -1 "$out/sheets" | grep "cases, 0 mismatches"
+}
+
+replay() {
+    rt check replay && oracle/list.sh "$src" 1100 2 | target/bin/replay > "$out/replay" && tail -1 "$out/replay" | grep "^all [0-9]* 0$"
+}
+
+try install ./install.sh "$prefix"
+try soname soname
+try numbers include/numbers.py --check
+try ledger docs/ledger.py --check
+try names python3 tests/names.py "$prefix/lib/libtaxolbin.a" "$prefix/lib/libtaxolbin.so"
+for language in "gcc c c99" "gcc c c2x" "clang c c99" "clang c c2x" "g++ c++ c++17" "g++ c++ c++11" "clang++ c++ c++17" "clang++ c++ c++20"; do
+    by=$(echo "$language" | sed 's/ .* /-/')
+    try "header-$by" header $language
+    try "ignored-$by" ignored $language
+done
+try in-words in_words
+try processors processors
+try c-example c_example
+try c-archive c_archive
+try python-example python_example
+try package package test
+try package-by-folder package_by_folder
+try rust-example rust_example
+try package-without package_without
+try package-tidy package_tidy
+try format python3 tests/format.py "$prefix/lib/libtaxolbin.so"
+reader=$(mktemp -d)
+try readme python3 tests/readme.py "$reader"
+rm -rf "$reader"
+try sheets sheets
+if [ -n "$src" ]; then
+    try replay replay
+    try boundary boundary/run.sh "$src"
+else
+    echo "left out: replay and boundary, which need SRC"
+fi
+echo "$passed passed, $failed failed"
+[ "$failed" -eq 0 ]
