@@ -1,5 +1,6 @@
 // The calls of the archive as include/taxolbin.h has them, in its order; build.rs names the archive to the linker.
 extern "C" {
+    static taxolbin_version_0_1: u8;
     pub fn taxolbin_get(words: *const u64, capacity: usize, count: usize, i: usize, value: *mut usize) -> u32;
     pub fn taxolbin_get_field(words: *const u64, capacity: usize, count: usize, i: usize, width: usize, value: *mut u64) -> u32;
     pub fn taxolbin_first_set(words: *const u64, capacity: usize, count: usize, found: *mut usize, place: *mut usize) -> u32;
@@ -276,4 +277,12 @@ extern "C" {
         payload: *const u8,
         plength: usize,
     ) -> u32;
+}
+
+// Only an archive of this version's first two numbers has this byte, so a program does not link with another one, whose calls may have other
+// parameters. What makes a slice, a bitmap or a sheet asks for it.
+#[inline]
+pub fn linked() {
+    // SAFETY: the byte is there wherever this links, and nothing writes it.
+    unsafe { core::ptr::read_volatile(core::ptr::addr_of!(taxolbin_version_0_1)) };
 }
