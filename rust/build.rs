@@ -10,7 +10,7 @@ To mend it, do one of these:
   - set TAXOLBIN_LIB_DIR to the folder that has libtaxolbin.a";
 
 fn main() {
-    for name in ["TAXOLBIN_LIB_DIR", "PKG_CONFIG", "PKG_CONFIG_PATH"] {
+    for name in ["TAXOLBIN_LIB_DIR", "PKG_CONFIG", "PKG_CONFIG_PATH", "PKG_CONFIG_LIBDIR"] {
         println!("cargo:rerun-if-env-changed={name}");
     }
     let found = check_target().and_then(|()| match variable("TAXOLBIN_LIB_DIR") {
@@ -59,7 +59,8 @@ fn from_pkg_config() -> Result<PathBuf, String> {
     let package = env!("CARGO_PKG_VERSION");
     if series(&version) != series(package) {
         return Err(format!(
-            "the archive that pkg-config finds is Taxolbin {version}, and this package is {package}: the first two numbers must be the same.\n{TO_DO}"
+            "pkg-config finds Taxolbin {version}, and this package is {package}: the first two numbers must be the same.\n\
+             To mend it, run `./install.sh PREFIX` in the repository that this package is of, and set PKG_CONFIG_PATH=PREFIX/lib/pkgconfig"
         ));
     }
     let folder = ask_pkg_config("--variable=libdir")?;

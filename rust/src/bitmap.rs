@@ -34,6 +34,7 @@ use crate::{ffi, Error};
 /// notes.append(&notes)?;
 /// # Ok::<(), taxolbin::Error>(())
 /// ```
+#[must_use = "a bitmap that is dropped loses its count"]
 pub struct Bitmap<'a> {
     // At most CAPACITY_MAX words, and the count is not above their number.
     words: &'a mut [u64],
@@ -133,7 +134,18 @@ impl<'a> Bitmap<'a> {
         self.words
     }
 
-    /// Gives the whole store back.
+    /// Gives back the words in use, without the rest of the store.
+    ///
+    /// ```
+    /// let mut store = [5, 6, 7];
+    /// assert_eq!(taxolbin::Bitmap::with_count(&mut store, 2)?.into_words(), [5, 6]);
+    /// # Ok::<(), taxolbin::Error>(())
+    /// ```
+    pub fn into_words(self) -> &'a mut [u64] {
+        &mut self.words[..self.count]
+    }
+
+    /// Gives back the whole store, also the words that are not in use; how many are is then the caller's to know.
     ///
     /// ```
     /// use taxolbin::{Bitmap, Error};
@@ -693,7 +705,8 @@ impl Bitmap<'_> {
         done(change!(taxolbin_from_list, self, list, length))
     }
 
-    /// As [`from_list`](Bitmap::from_list), but a text of no bytes is the empty bitmap: so it reads back whatever [`BitSlice::write_list`] printed.
+    /// As [`from_list`](Bitmap::from_list), but a text of no bytes, or of blanks alone (bytes 9 to 13 and 32), is the empty bitmap: so it reads back
+    /// whatever [`BitSlice::write_list`] printed, also with a line end behind it.
     ///
     /// The text does not carry the word count, on which reversals and rotations depend: see [there](crate#equal-bitmaps-of-different-lengths).
     ///
@@ -708,7 +721,7 @@ impl Bitmap<'_> {
     /// ```
     pub fn load_list(&mut self, list: impl AsRef<[u8]>) -> Result<(), Error> {
         let list = list.as_ref();
-        if list.is_empty() {
+        if list.iter().all(|byte| matches!(byte, 9..=13 | 32)) {
             return self.resize_bits(0);
         }
         self.from_list(list)
@@ -754,10 +767,17 @@ impl PartialEq<Bitmap<'_>> for BitSlice {
     }
 }
 
+/// The list text, as of [`BitSlice`].
+impl fmt::Display for Bitmap<'_> {
+    fn fmt(&self, f: &mut fmt::Formatter<'_>) -> fmt::Result {
+        fmt::Display::fmt(self.as_bits(), f)
+    }
+}
+
 /// The set bits, as a set: `{1, 4}`.
 impl fmt::Debug for Bitmap<'_> {
     fn fmt(&self, f: &mut fmt::Formatter<'_>) -> fmt::Result {
-        self.as_bits().fmt(f)
+        fmt::Debug::fmt(self.as_bits(), f)
     }
 }
 

@@ -570,6 +570,7 @@ impl BitSlice {
 
 // The one thing that a store is refused for.
 pub(crate) fn check_capacity(words: usize) -> Result<(), Error> {
+    ffi::linked();
     if words > CAPACITY_MAX {
         Err(Error::StoreTooLong)
     } else {
@@ -586,6 +587,27 @@ impl PartialEq for BitSlice {
 }
 
 impl Eq for BitSlice {}
+
+/// The list text that [`BitSlice::write_list`] prints, without a buffer of one's own.
+///
+/// ```
+/// assert_eq!(taxolbin::BitSlice::new(&[0b1000_1110_1111])?.to_string(), "0-3, 5-7, 11");
+/// # Ok::<(), taxolbin::Error>(())
+/// ```
+impl fmt::Display for BitSlice {
+    fn fmt(&self, f: &mut fmt::Formatter<'_>) -> fmt::Result {
+        let (mut between, mut from) = ("", 0);
+        while let Some(first) = self.next_set(from) {
+            from = self.next_clear(first);
+            match from - 1 {
+                last if last == first => write!(f, "{between}{first}")?,
+                last => write!(f, "{between}{first}-{last}")?,
+            }
+            between = ", ";
+        }
+        Ok(())
+    }
+}
 
 /// The set bits, as a set: `{1, 4}`.
 impl fmt::Debug for BitSlice {
@@ -626,7 +648,14 @@ impl Iterator for Members<'_> {
         self.next = after(place);
         place
     }
+
+    fn size_hint(&self) -> (usize, Option<usize>) {
+        let left = self.bits.count_region(self.next, usize::MAX);
+        (left, Some(left))
+    }
 }
+
+impl ExactSizeIterator for Members<'_> {}
 
 impl FusedIterator for Members<'_> {}
 

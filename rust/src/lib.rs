@@ -1,5 +1,5 @@
-//! Which paragraphs of a book have a note: bitmaps in lent memory, list text such as `4, 7-8`, and the change sheet that two readers of different
-//! editions cannot read differently.
+//! Which paragraphs of a book have a note: bitmaps in lent memory, list text such as `4, 7-8`, and the change sheet, of which an older edition gives
+//! the newer one's whole answer or none.
 //!
 //! The calls are those of an archive of formally proved code, `libtaxolbin.a`; this package makes each a method that safe Rust can call with any
 //! arguments. Nothing is allocated. A [`Bitmap`] is a store of words that the caller lends and a count of the words in use; it derefs to a
@@ -33,8 +33,9 @@
 //!
 //! # The archive
 //!
-//! A build finds it in the folder that the variable `TAXOLBIN_LIB_DIR` names or, where that is not set, by `pkg-config`: run `./install.sh PREFIX` in
-//! the Taxolbin repository and set `PKG_CONFIG_PATH=PREFIX/lib/pkgconfig`. It is for x86-64 Linux.
+//! A build finds it in the folder that the variable `TAXOLBIN_LIB_DIR` names in full or, where that is not set, by `pkg-config`: run
+//! `./install.sh PREFIX` in the Taxolbin repository and set `PKG_CONFIG_PATH=PREFIX/lib/pkgconfig`. It is for x86-64 Linux, and an archive of
+//! another version, by the first two numbers, does not link.
 //!
 //! # Errors
 //!

@@ -226,6 +226,7 @@ impl<'a> Sheet<'a> {
     /// # Ok::<(), Error>(())
     /// ```
     pub fn start(buffer: &'a mut [u8]) -> Result<Sheet<'a>, Error> {
+        ffi::linked();
         let (size, mut length) = (buffer.len(), 0);
         // SAFETY: the buffer's pointer goes with its size, and it is lent to this call alone.
         done(unsafe { ffi::taxolbin_start(buffer.as_mut_ptr(), size, &mut length) })?;
@@ -247,6 +248,7 @@ impl<'a> Sheet<'a> {
     /// # Ok::<(), taxolbin::Error>(())
     /// ```
     pub fn resume(buffer: &'a mut [u8], length: usize) -> Result<Sheet<'a>, Error> {
+        ffi::linked();
         if length > buffer.len() {
             return Err(Error::CountOverStore);
         }
@@ -332,6 +334,13 @@ impl fmt::Debug for Sheet<'_> {
     }
 }
 
+/// The sheet's bytes, as to write them to a file.
+impl AsRef<[u8]> for Sheet<'_> {
+    fn as_ref(&self) -> &[u8] {
+        self.bytes()
+    }
+}
+
 /// What an accepted sheet has made of the old bitmap.
 ///
 /// ```
@@ -345,6 +354,7 @@ impl fmt::Debug for Sheet<'_> {
 /// # }
 /// ```
 #[derive(Debug, PartialEq, Eq)]
+#[must_use = "the sheet's effect is in the bitmap"]
 pub struct Reading<'a> {
     /// The bitmap, in the result's store.
     pub bitmap: Bitmap<'a>,

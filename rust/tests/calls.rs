@@ -109,6 +109,9 @@ fn one_bitmap_is_read() {
         assert_eq!(bits.is_zero(), set.is_empty());
         assert_eq!(bits.iter().collect::<Vec<_>>(), set.iter().copied().collect::<Vec<_>>());
         assert_eq!(bits.into_iter().collect::<BTreeSet<_>>(), set);
+        let mut rest = bits.iter();
+        rest.by_ref().take(k % 90).for_each(drop);
+        assert_eq!(rest.len(), set.len().saturating_sub(k % 90));
         assert_eq!(format!("{bits:?}"), format!("{set:?}"));
     }
 }
@@ -177,6 +180,7 @@ fn lists_are_printed_and_loaded() {
         let (bits, list) = (BitSlice::new(&words).unwrap(), list_of(&members(&bits_of(&words))));
         let mut out = vec![b'#'; list.len() + 3];
         assert_eq!(bits.write_list(&mut out), Ok(&list[..]));
+        assert_eq!(bits.to_string(), list);
         assert_eq!(&out[list.len()..], b"###");
         let mut exact = vec![b'#'; list.len()];
         assert_eq!(bits.write_list(&mut exact), Ok(&list[..]));
@@ -189,6 +193,7 @@ fn lists_are_printed_and_loaded() {
         let mut loaded = Bitmap::with_count(&mut store, n).unwrap();
         loaded.load_list(&list).unwrap();
         assert_eq!(loaded, *bits);
+        assert_eq!(loaded.to_string(), list);
         assert_eq!(*bits, loaded);
         let mut second = words.clone();
         let mut whole = Bitmap::with_count(&mut second, n).unwrap();
@@ -679,7 +684,7 @@ fn lists_are_read() {
             Ok(())
         };
         let done = case.run(|b| b.from_list(&text), model);
-        if text.is_empty() {
+        if text.iter().all(|&byte| blank(byte.into())) {
             assert_eq!(done, Err(Error::NotList));
             case.run(|b| b.load_list(&text), |bits, _| Ok(bits.clear())).unwrap();
         } else {
@@ -719,6 +724,7 @@ fn stores_are_looked_at() {
     assert_eq!((&b).into_iter().collect::<Vec<_>>(), [0, 1, 2]);
     assert_eq!(format!("{b:?}"), "{0, 1, 2}");
     assert_eq!(b.into_store(), [7, 0, 0]);
+    assert_eq!(Bitmap::with_count(&mut store, 2).unwrap().into_words(), [7, 0]);
     assert_eq!(Bitmap::empty(&mut store).unwrap().count(), 0);
 }
 

@@ -254,6 +254,13 @@ fn an_empty_book_is_saved_and_loaded() {
     assert_eq!(loaded.count(), 2);
     loaded.load_list(saved).unwrap();
     assert_eq!((loaded.count(), loaded.store()), (0, &[0, 0][..]));
+    for (text, notes) in [("4\n", 1), ("\n", 0), ("\t\n\x0b\x0c\r ", 0)] {
+        loaded.load_list(text).unwrap();
+        assert_eq!(loaded.count_set_bits(), notes, "{text:?}");
+    }
+    for text in ["\x08", "\x0e"] {
+        assert_eq!(loaded.load_list(text), Err(Error::NotList), "{text:?}");
+    }
 }
 
 // Two sides with notes at 4 in one word and in two.
@@ -316,6 +323,6 @@ fn constants_are_the_header_s() {
         ("RESIZE_MAX", RESIZE_MAX),
     ];
     for (name, value) in rows {
-        assert!(header.contains(&format!("#define TAXOLBIN_{name} ((size_t){value})\n")), "{name}");
+        assert!(header.contains(&format!("#define TAXOLBIN_{name} UINT64_C({value})\n")), "{name}");
     }
 }
