@@ -62,8 +62,8 @@ class Bitmap:
         self.words, self.capacity, self.count = (WORD * capacity)(), capacity, SIZE()
 
     def load_list(self, text):
-        """An empty book prints no text, and no text is no list."""
-        if text:
+        """An empty book prints no text, and no text, or blanks alone, is no list."""
+        if text.strip():
             must(from_list(self.words, self.capacity, self.count, text, len(text)))
         else:
             must(resize_bits(self.words, self.capacity, self.count, 0))

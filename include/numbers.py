@@ -19,7 +19,10 @@ UNKNOWN = "not a number of this library"
 
 def rows():
     lines = (ROOT / "include" / "numbers.txt").read_text().splitlines()
-    return [line.split("\t") for line in lines if line and not line.startswith("#")]
+    table = [line.split("\t") for line in lines if line and not line.startswith("#")]
+    if any(len(row) != 4 or re.search(r'["\\|`]', row[3]) for row in table):
+        sys.exit("numbers.txt: a line has not four columns, or a sentence has a byte that C, Rust or a table would take otherwise")
+    return table
 
 
 def camel(name):
@@ -77,7 +80,7 @@ def rust(table):
 
 def readme(table):
     out = ["| number | in C, after `TAXOLBIN_` | in words | who can bring it about |", "|---|---|---|---|"]
-    return "\n".join(out + [f"| {n} | `{name}` | {words} | {who.replace('-', '')} |" for n, name, who, words in table])
+    return "\n".join(out + [f"| {n} | `{name}` | {words} | {'' if who == '-' else who} |" for n, name, who, words in table])
 
 
 def between(text, first, last, inner):
@@ -98,7 +101,9 @@ def main():
     proved = re.findall(r"^numberOf (\w+) = (\d+)$", PROVED.read_text(), re.M)
     if [(camel(name), n) for n, name, _, _ in table[1:]] != proved:
         sys.exit("numbers.txt is not numberOf of crates/storage")
-    if sys.argv[1:] == ["--check"]:
+    if sys.argv[1:] not in ([], ["--check"]):
+        sys.exit("usage: numbers.py [--check]")
+    if sys.argv[1:]:
         old = [str(path.relative_to(ROOT)) for path, text in pages(table) if path.read_text() != text]
         if old:
             sys.exit("not as numbers.txt says: " + ", ".join(old))

@@ -4,18 +4,20 @@
  * keeps nothing between calls, so calls on different memory may run at the same time.
  *
  * A bitmap is a store of 64-bit words, its capacity in words, and a count of the words in use. Bit i is bit i % 64 of word i / 64, lowest first;
- * its length is 64 * count bits.
+ * its length is 64 * count bits. A word that comes into use is zeroed first, one that falls out of use becomes zero, and no other word outside the
+ * count is touched.
  *
  * Every call returns a number: 0 for done, or why it is refused; taxolbin_why says it in words. Each comment ends with the numbers that the call can
  * return, in the order in which they are looked for. Every argument may have every value, and is then done or refused: counts above their stores
  * and indexes up to SIZE_MAX too.
  *
  * - A call that changes a bitmap takes its count by a pointer, and leaves the new count there. A refused call changes no word, no byte and no count;
- *   only taxolbin_read differs, as it says, and a count that is handed out alone (a dup form's, a tail's) becomes 0.
+ *   only taxolbin_read differs, as it says, and a count that is handed out alone (a dup form's, a tail's, a reading's) becomes 0.
  * - A call that answers a number hands it out through a pointer: 0 where the call is refused. A search hands out found, 1 or 0, and place, which is 0
  *   where nothing is found.
  * - A truth value comes in as a number: 0 is false, any other is true.
- * - A number that is not looked at is a compiler's warning. To pass one over on purpose: taxolbin_ignore(taxolbin_unset(words, capacity, &count, i));
+ * - A call whose number is dropped is a compiler's warning; one whose number is overwritten before it is looked at is not. To drop one on purpose:
+ *   taxolbin_ignore(taxolbin_unset(words, capacity, &count, i));
  *
  * What the caller must see to, because no call can look: a pointer is aligned and not null, also with a length of 0; the memory of the whole length
  * is there; and what a call writes (a store, a buffer, a count, a value) overlaps nothing else that the call is given. What is only read may overlap.
@@ -50,11 +52,11 @@ extern "C" {
 #define TAXOLBIN_VERSION "0.1.0"
 
 /* The most words of a store, the newest edition, the most records of a sheet and bytes of a payload, and the most bits of a resize in a sheet. */
-#define TAXOLBIN_CAPACITY_MAX ((size_t)67108864)
-#define TAXOLBIN_EDITION_MAX ((size_t)2)
-#define TAXOLBIN_RECORDS_MAX ((size_t)65535)
-#define TAXOLBIN_PAYLOAD_MAX ((size_t)65535)
-#define TAXOLBIN_RESIZE_MAX ((size_t)4294967296)
+#define TAXOLBIN_CAPACITY_MAX UINT64_C(67108864)
+#define TAXOLBIN_EDITION_MAX UINT64_C(2)
+#define TAXOLBIN_RECORDS_MAX UINT64_C(65535)
+#define TAXOLBIN_PAYLOAD_MAX UINT64_C(65535)
+#define TAXOLBIN_RESIZE_MAX UINT64_C(4294967296)
 
 /* The numbers. */
 /* numbers.py: from here */
@@ -116,7 +118,7 @@ static inline const char *taxolbin_why(uint32_t number)
 }
 /* numbers.py: to here */
 
-/* Takes a number and does nothing with it: for a refusal that does not matter. */
+/* Takes a number and does nothing with it, for a refusal that does not matter. */
 static inline void taxolbin_ignore(uint32_t number)
 {
     (void)number;
@@ -126,10 +128,10 @@ static inline void taxolbin_ignore(uint32_t number)
 enum taxolbin_kind {
     TAXOLBIN_SET = 1,           /* p */
     TAXOLBIN_UNSET = 2,         /* p */
-    TAXOLBIN_SET_REGION = 3,    /* flag (the value), p, k */
-    TAXOLBIN_SET_FIELD = 4,     /* p, width, value */
-    TAXOLBIN_SHIFT = 5,         /* flag (0 left, else right), k */
-    TAXOLBIN_ROTATE = 6,        /* flag (0 left, else right), k */
+    TAXOLBIN_SET_REGION = 3,    /* p, k, flag (the value) */
+    TAXOLBIN_SET_FIELD = 4,     /* p, value, width */
+    TAXOLBIN_SHIFT = 5,         /* k, flag (0 left, else right) */
+    TAXOLBIN_ROTATE = 6,        /* k, flag (0 left, else right) */
     TAXOLBIN_RESIZE_BITS = 7,   /* bits */
     TAXOLBIN_REVERSE = 8,       /* none */
     TAXOLBIN_TOGGLE_REGION = 9, /* p, k; edition 2 */
@@ -139,7 +141,7 @@ enum taxolbin_kind {
 
 /* ---- Reading one bitmap ---- */
 
-/* Whether bit i is set, 1 or 0; it is not past the length. [1, 2] */
+/* Whether bit i is set, 1 or 0; past the length it is 0. [1, 2] */
 TAXOLBIN_MUST_USE uint32_t taxolbin_get(const uint64_t *words, size_t capacity, size_t count, size_t i, size_t *value);
 /* The width bits from bit i on, the first one lowest; zeros past the length. [1, 2, 3] */
 TAXOLBIN_MUST_USE uint32_t taxolbin_get_field(const uint64_t *words, size_t capacity, size_t count, size_t i, size_t width, uint64_t *value);
@@ -224,7 +226,7 @@ TAXOLBIN_MUST_USE uint32_t taxolbin_rotate_left(uint64_t *words, size_t capacity
 /* Turns all bits of the length k down. [1, 2] */
 TAXOLBIN_MUST_USE uint32_t taxolbin_rotate_right(uint64_t *words, size_t capacity, size_t *count, size_t k);
 
-/* ---- Changes that grow as needed and trim ---- */
+/* ---- Changes that may grow or trim the bitmap ---- */
 
 /* Drops trailing zero words. [1, 2] */
 TAXOLBIN_MUST_USE uint32_t taxolbin_trim(const uint64_t *words, size_t capacity, size_t *count);
@@ -318,8 +320,8 @@ TAXOLBIN_MUST_USE uint32_t taxolbin_dup_xor(
 
 /* ---- List text, such as 0-3, 5-7, 11 ----
  *
- * An empty bitmap prints no text (length 0), and a text of no bytes is no list (7). A book that is kept as its list is loaded by taxolbin_load_list,
- * which takes that text too. A list does not carry the count: what is read has the words up to its last member, and no more. */
+ * An empty bitmap prints no text (length 0), and a text of no bytes, or of blanks alone, is no list (7). A book that is kept as its list is loaded by
+ * taxolbin_load_list, which takes that too. A list does not carry the count: what is read has the words up to its last member, and no more. */
 
 /* The bitmap becomes the set of the list; the earlier set is discarded. A text of no bytes is 7. [1, 2, 8, 7, 6] */
 TAXOLBIN_MUST_USE uint32_t taxolbin_from_list(uint64_t *words, size_t capacity, size_t *count, const uint8_t *list, size_t length);
@@ -328,10 +330,15 @@ TAXOLBIN_MUST_USE uint32_t taxolbin_from_list(uint64_t *words, size_t capacity, 
 TAXOLBIN_MUST_USE uint32_t taxolbin_write_list(
     const uint64_t *words, size_t capacity, size_t count, uint8_t *out, size_t size, size_t *length);
 
-/* As taxolbin_from_list, but a text of no bytes is the empty bitmap: it takes whatever taxolbin_write_list has printed. [1, 2, 8, 7, 6] */
+/* As taxolbin_from_list, but a text of no bytes, or of blanks alone (bytes 9 to 13 and 32), is the empty bitmap: it takes whatever
+ * taxolbin_write_list has printed, also with a line end behind it. [1, 2, 8, 7, 6] */
 TAXOLBIN_MUST_USE static inline uint32_t taxolbin_load_list(uint64_t *words, size_t capacity, size_t *count, const uint8_t *list, size_t length)
 {
-    return length == 0 ? taxolbin_resize_bits(words, capacity, count, 0) : taxolbin_from_list(words, capacity, count, list, length);
+    size_t i = 0;
+    while (i < length && (list[i] == 32 || (list[i] >= 9 && list[i] <= 13))) {
+        i++;
+    }
+    return i == length ? taxolbin_resize_bits(words, capacity, count, 0) : taxolbin_from_list(words, capacity, count, list, length);
 }
 
 /* ---- The change sheet ----
@@ -340,16 +347,18 @@ TAXOLBIN_MUST_USE static inline uint32_t taxolbin_load_list(uint64_t *words, siz
  * {59} with one word and {123} with two. Before such a record, bring the bitmap to the book's length in bits on both sides, the writer's and the
  * reader's: by taxolbin_resize_bits, or by a record of taxolbin_add_resize_bits in the sheet, which does it wherever the sheet is read. */
 
-/* Reads a sheet in edition 1 or 2: the old bitmap, changed by the sheet, into the result. Hands out the record (the refused one, or how many there
- * are) and the count. A refusal with 14, 1 or 2 leaves the result as it was, any other leaves it all zero. [14, 1, 2, 9, 6, 10, 13, 12, 11] */
+/* Reads a sheet in edition 1 or 2: the old bitmap, changed by the sheet, into the result, which is another store. Hands out the record (the refused
+ * one, 0 where it is none's fault, or how many there are) and the result's count, 0 after every refusal. A refusal with 14, 1 or 2 leaves the
+ * result's words as they were, any other leaves all of them zero. [14, 1, 2, 9, 6, 10, 13, 12, 11] */
 TAXOLBIN_MUST_USE uint32_t taxolbin_read(
     size_t edition, const uint8_t *sheet, size_t length, const uint64_t *words, size_t capacity, size_t count, uint64_t *result, size_t rcapacity,
     size_t *record, size_t *rcount);
-/* Starts a sheet of no records in the buffer. [6] */
+/* Starts a sheet of no records in the buffer; *length becomes 4, and stays where this is refused. [6] */
 TAXOLBIN_MUST_USE uint32_t taxolbin_start(uint8_t *buffer, size_t size, size_t *length);
 /* Adds a record of any kind at the end of the sheet, the first *length bytes of the buffer: a duty record of a kind 1 to 11, or, where duty is 0, a
  * remark of a kind 0 to 127 with this payload. Arguments that the kind lacks are not looked at, so one in the wrong place makes another record: the
- * calls below take what their kind has and nothing else. [2, 9, 10, 11, 13, 3, 4, 12, 6] */
+ * calls below take what their kind has and nothing else. Of the sheet that is there the frames are looked at, not kinds and payloads. [2, 9, 10, 11,
+ * 13, 3, 4, 12, 6] */
 TAXOLBIN_MUST_USE uint32_t taxolbin_add(
     uint8_t *buffer, size_t size, size_t *length, uint32_t duty, size_t kind, uint32_t p, uint32_t k, uint32_t flag, size_t width, uint64_t value,
     size_t bits, const uint8_t *payload, size_t plength);

@@ -81,6 +81,7 @@ static void refusals(void)
 static void empty_book(void)
 {
     static const uint8_t list[] = {'4', ',', ' ', '7', '-', '8'};
+    static const uint8_t line[] = {'4', 10}, blanks[] = {9, 10, 11, 12, 13, 32}, none[] = {8, 14};
     uint64_t words[2] = {0, 0};
     uint8_t text[1] = {'x'};
     size_t count = 0, n = 9;
@@ -93,6 +94,13 @@ static void empty_book(void)
     is("an empty book loaded", taxolbin_load_list(words, 2, &count, text, n), 0);
     is("its words", words[0], 0);
     is("its count", count, 0);
+    is("a list with a line end", taxolbin_load_list(words, 2, &count, line, sizeof line), 0);
+    is("its words", words[0], 0x10);
+    is("an empty book with a line end", taxolbin_load_list(words, 2, &count, line + 1, 1), 0);
+    is("its count", count, 0);
+    is("all blanks", taxolbin_load_list(words, 2, &count, blanks, sizeof blanks), 0);
+    is("no blank", taxolbin_load_list(words, 2, &count, none, 1), TAXOLBIN_NOT_LIST);
+    is("no blank", taxolbin_load_list(words, 2, &count, none + 1, 1), TAXOLBIN_NOT_LIST);
     is("a text that is no list", taxolbin_load_list(words, 2, &count, text, 1), TAXOLBIN_NOT_LIST);
     count = 3;
     is("a count over the store", taxolbin_load_list(words, 2, &count, text, 0), TAXOLBIN_COUNT_OVER_STORE);
