@@ -7,8 +7,15 @@ if [ $# -ne 1 ]; then
     echo "usage: $0 PREFIX" >&2
     exit 2
 fi
+unset CDPATH
 mkdir -p "$1"
 prefix=$(cd "$1" && pwd)
+case $prefix in
+*[[:space:]]*)
+    echo "$0: a blank in the name of $prefix: what pkg-config prints would be split there" >&2
+    exit 2
+    ;;
+esac
 cd "$(dirname "$0")"
 version=$(sed -n 's/^#define TAXOLBIN_VERSION "\(.*\)"$/\1/p' include/taxolbin.h)
 # before 1.0 a call may change with the second number
@@ -17,7 +24,7 @@ soname=libtaxolbin.so.${version%.*}
 mkdir -p "$prefix/include" "$prefix/lib/pkgconfig" "$prefix/share/taxolbin" "$prefix/share/doc/taxolbin"
 cp include/taxolbin.h "$prefix/include/"
 cp target/staticlib/libtaxolbin.a "$prefix/lib/"
-"${CC:-cc}" -shared -Wl,-soname,"$soname" -Wl,-z,defs -Wl,--whole-archive target/staticlib/libtaxolbin.a -Wl,--no-whole-archive \
+${CC:-cc} -shared -Wl,-soname,"$soname" -Wl,-z,defs -Wl,--whole-archive target/staticlib/libtaxolbin.a -Wl,--no-whole-archive \
     -o "$prefix/lib/libtaxolbin.so.$version"
 ln -sf "libtaxolbin.so.$version" "$prefix/lib/$soname"
 ln -sf "$soname" "$prefix/lib/libtaxolbin.so"

@@ -3,11 +3,12 @@
 # The archive is made and installed into an empty folder; the header, the examples, the Rust package, Python and the documents are tried with what is
 # there, and the programs of the gate on lists of another seed. With SRC, the published files (src/ of vbitmap), also the archive and the programs
 # beside the Rust. Each test's output is in target/tests.
-cd "$(dirname "$0")/.." || exit 2
+unset CDPATH
 src=
 if [ $# -gt 0 ]; then
     src=$(cd "$1" && pwd) || exit 2
 fi
+cd "$(dirname "$0")/.." || exit 2
 out=$PWD/target/tests
 prefix=$out/prefix
 passed=0
@@ -15,7 +16,10 @@ failed=0
 rm -rf "$out"
 mkdir -p "$out"
 unset TAXOLBIN_LIB_DIR PKG_CONFIG
-export PKG_CONFIG_PATH="$prefix/lib/pkgconfig" CARGO_NET_OFFLINE=true
+export PKG_CONFIG_PATH="$prefix/lib/pkgconfig" CARGO_NET_OFFLINE=true PYTHONDONTWRITEBYTECODE=1
+reader=$(mktemp -d) || exit 2
+trap 'rm -rf "$reader"' EXIT
+trap 'exit 1' INT TERM
 
 # try NAME COMMAND..: the command does well
 try() {
@@ -49,7 +53,7 @@ prints() {
     "$@" > "$out/printed" && diff "$file" "$out/printed"
 }
 
-strict="-Wall -Wextra -Wpedantic -Wconversion -Werror -O2"
+strict="-Wall -Wextra -Wpedantic -Wconversion -Wsign-conversion -Wshadow -Werror -O2"
 
 # header COMPILER LANGUAGE STANDARD: no warning, and the header's own functions do what they say
 header() {
@@ -58,7 +62,11 @@ header() {
 
 # ignored COMPILER LANGUAGE STANDARD: a number that is not looked at is a warning, in either kind of call, unless it is on purpose
 ignored() {
-    set -- "$1" -x "$2" "-std=$3" $strict -Iinclude -c tests/ignored.c -o "$out/ignored.o"
+    casts=
+    if [ "$2" = c++ ]; then
+        casts=-Wold-style-cast
+    fi
+    set -- "$1" -x "$2" "-std=$3" $strict $casts -Iinclude -c tests/ignored.c -o "$out/ignored.o"
     says taxolbin_unset "$@" && grep -q taxolbin_add_set "$out/said" && "$@" -DON_PURPOSE
 }
 
@@ -79,7 +87,7 @@ c_example() {
 # the archive in the place of the shared library: nothing is needed where it runs
 c_archive() {
     cc -std=c99 $strict examples/sheet.c $(pkg-config --cflags taxolbin) "$prefix/lib/libtaxolbin.a" -o "$out/sheet" &&
-        prints examples/expected "$out/sheet" && ! readelf -d "$out/sheet" | grep taxolbin
+        prints examples/expected "$out/sheet" && readelf -d "$out/sheet" > "$out/needed" && ! grep taxolbin "$out/needed"
 }
 
 python_example() {
@@ -111,17 +119,25 @@ package_without() {
         says "no libtaxolbin.a in $out" env TAXOLBIN_LIB_DIR="$out" "$@"
 }
 
+# an archive of another version is not linked
+package_other() {
+    mkdir -p "$out/other" && cp "$prefix/lib/libtaxolbin.a" "$out/other" && ar d "$out/other/libtaxolbin.a" version.o &&
+        says taxolbin_version_ env TAXOLBIN_LIB_DIR="$out/other" cargo build --manifest-path "$package" --example sheet --target-dir "$out/without"
+}
+
 package_tidy() {
     cargo fmt --check --manifest-path "$package" && cargo clippy -q --all-targets --manifest-path "$package" -- -D warnings &&
         env RUSTDOCFLAGS="-D warnings" cargo doc -q --no-deps --manifest-path "$package"
 }
 
 sheets() {
-    rt check sheets && python3 oracle/sheet/make.py 2 3 | target/bin/sheets > "$out/sheets" && tail -1 "$out/sheets" | grep "cases, 0 mismatches"
+    rt check sheets && python3 oracle/sheet/make.py 2 3 > "$out/sheets.list" && target/bin/sheets < "$out/sheets.list" > "$out/sheets" &&
+        tail -1 "$out/sheets" | grep "^total: [1-9][0-9]* cases, 0 mismatches"
 }
 
 replay() {
-    rt check replay && oracle/list.sh "$src" 1100 2 | target/bin/replay > "$out/replay" && tail -1 "$out/replay" | grep "^all [0-9]* 0$"
+    rt check replay && oracle/list.sh "$src" 1100 2 > "$out/replay.list" && target/bin/replay < "$out/replay.list" > "$out/replay" &&
+        tail -1 "$out/replay" | grep "^all [1-9][0-9]* 0$"
 }
 
 try install ./install.sh "$prefix"
@@ -139,15 +155,14 @@ try processors processors
 try c-example c_example
 try c-archive c_archive
 try python-example python_example
-try package package test
+try package package
 try package-by-folder package_by_folder
 try rust-example rust_example
 try package-without package_without
+try package-other package_other
 try package-tidy package_tidy
 try format python3 tests/format.py "$prefix/lib/libtaxolbin.so"
-reader=$(mktemp -d)
 try readme python3 tests/readme.py "$reader"
-rm -rf "$reader"
 try sheets sheets
 if [ -n "$src" ]; then
     try replay replay
