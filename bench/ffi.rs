@@ -1,19 +1,13 @@
 //! The calls of the archive that are timed, all words of a slice in use; a refusal is a mistake of the benchmark.
 
-type W = *const u64;
-type M = *mut u64;
-type O = *mut usize;
-type N = usize;
+use crate::raw;
 
 /// `name(words)` and further numbers, which answers a value.
 macro_rules! value {
     ($($name:ident $raw:ident ($($arg:ident),*);)*) => {$(
         pub fn $name(w: &[u64] $(, $arg: usize)*) -> usize {
-            unsafe extern "C" {
-                fn $raw(w: W, c: N, n: N $(, $arg: N)*, v: O) -> u32;
-            }
             let mut v = 0;
-            assert_eq!(unsafe { $raw(w.as_ptr(), w.len(), w.len() $(, $arg)*, &mut v) }, 0);
+            assert_eq!(unsafe { raw::$raw(w.as_ptr(), w.len(), w.len() $(, $arg)*, &mut v) }, 0);
             v
         }
     )*};
@@ -23,11 +17,8 @@ macro_rules! value {
 macro_rules! search {
     ($($name:ident $raw:ident ($($arg:ident),*);)*) => {$(
         pub fn $name(w: &[u64] $(, $arg: usize)*) -> Option<usize> {
-            unsafe extern "C" {
-                fn $raw(w: W, c: N, n: N $(, $arg: N)*, f: O, p: O) -> u32;
-            }
             let (mut found, mut place) = (0, 0);
-            assert_eq!(unsafe { $raw(w.as_ptr(), w.len(), w.len() $(, $arg)*, &mut found, &mut place) }, 0);
+            assert_eq!(unsafe { raw::$raw(w.as_ptr(), w.len(), w.len() $(, $arg)*, &mut found, &mut place) }, 0);
             (found != 0).then_some(place)
         }
     )*};
@@ -37,11 +28,8 @@ macro_rules! search {
 macro_rules! pair {
     ($($name:ident $raw:ident;)*) => {$(
         pub fn $name(a: &[u64], b: &[u64]) -> usize {
-            unsafe extern "C" {
-                fn $raw(w: W, c: N, n: N, o: W, oc: N, on: N, v: O) -> u32;
-            }
             let mut v = 0;
-            assert_eq!(unsafe { $raw(a.as_ptr(), a.len(), a.len(), b.as_ptr(), b.len(), b.len(), &mut v) }, 0);
+            assert_eq!(unsafe { raw::$raw(a.as_ptr(), a.len(), a.len(), b.as_ptr(), b.len(), b.len(), &mut v) }, 0);
             v
         }
     )*};
@@ -51,11 +39,8 @@ macro_rules! pair {
 macro_rules! walk {
     ($($name:ident $raw:ident;)*) => {$(
         pub fn $name(a: &[u64], b: &[u64], i: usize) -> Option<usize> {
-            unsafe extern "C" {
-                fn $raw(w: W, c: N, n: N, o: W, oc: N, on: N, i: N, f: O, p: O) -> u32;
-            }
             let (mut found, mut place) = (0, 0);
-            let number = unsafe { $raw(a.as_ptr(), a.len(), a.len(), b.as_ptr(), b.len(), b.len(), i, &mut found, &mut place) };
+            let number = unsafe { raw::$raw(a.as_ptr(), a.len(), a.len(), b.as_ptr(), b.len(), b.len(), i, &mut found, &mut place) };
             assert_eq!(number, 0);
             (found != 0).then_some(place)
         }
@@ -66,10 +51,7 @@ macro_rules! walk {
 macro_rules! change {
     ($($name:ident $raw:ident ($($arg:ident),*);)*) => {$(
         pub fn $name(w: &mut [u64], count: &mut usize $(, $arg: usize)*) {
-            unsafe extern "C" {
-                fn $raw(w: M, c: N, n: O $(, $arg: N)*) -> u32;
-            }
-            assert_eq!(unsafe { $raw(w.as_mut_ptr(), w.len(), count $(, $arg)*) }, 0);
+            assert_eq!(unsafe { raw::$raw(w.as_mut_ptr(), w.len(), count $(, $arg)*) }, 0);
         }
     )*};
 }
@@ -78,10 +60,7 @@ macro_rules! change {
 macro_rules! with {
     ($($name:ident $raw:ident;)*) => {$(
         pub fn $name(w: &mut [u64], count: &mut usize, o: &[u64]) {
-            unsafe extern "C" {
-                fn $raw(w: M, c: N, n: O, o: W, oc: N, on: N) -> u32;
-            }
-            assert_eq!(unsafe { $raw(w.as_mut_ptr(), w.len(), count, o.as_ptr(), o.len(), o.len()) }, 0);
+            assert_eq!(unsafe { raw::$raw(w.as_mut_ptr(), w.len(), count, o.as_ptr(), o.len(), o.len()) }, 0);
         }
     )*};
 }
@@ -90,11 +69,8 @@ macro_rules! with {
 macro_rules! from {
     ($($name:ident $raw:ident;)*) => {$(
         pub fn $name(w: &mut [u64], count: &mut usize, l: &[u64], r: &[u64]) {
-            unsafe extern "C" {
-                fn $raw(w: M, c: N, n: O, l: W, lc: N, ln: N, r: W, rc: N, rn: N) -> u32;
-            }
             let number = unsafe {
-                $raw(w.as_mut_ptr(), w.len(), count, l.as_ptr(), l.len(), l.len(), r.as_ptr(), r.len(), r.len())
+                raw::$raw(w.as_mut_ptr(), w.len(), count, l.as_ptr(), l.len(), l.len(), r.as_ptr(), r.len(), r.len())
             };
             assert_eq!(number, 0);
         }
@@ -166,24 +142,15 @@ from! {
 }
 
 pub fn set_region(w: &mut [u64], count: &mut usize, i: usize, value: bool, k: usize) {
-    unsafe extern "C" {
-        fn taxolbin_set_region(w: M, c: N, n: O, i: N, value: u32, k: N) -> u32;
-    }
-    assert_eq!(unsafe { taxolbin_set_region(w.as_mut_ptr(), w.len(), count, i, value as u32, k) }, 0);
+    assert_eq!(unsafe { raw::taxolbin_set_region(w.as_mut_ptr(), w.len(), count, i, value as u32, k) }, 0);
 }
 
 pub fn write_list(w: &[u64], out: &mut [u8]) -> usize {
-    unsafe extern "C" {
-        fn taxolbin_write_list(w: W, c: N, n: N, out: *mut u8, size: N, length: O) -> u32;
-    }
     let mut length = 0;
-    assert_eq!(unsafe { taxolbin_write_list(w.as_ptr(), w.len(), w.len(), out.as_mut_ptr(), out.len(), &mut length) }, 0);
+    assert_eq!(unsafe { raw::taxolbin_write_list(w.as_ptr(), w.len(), w.len(), out.as_mut_ptr(), out.len(), &mut length) }, 0);
     length
 }
 
 pub fn from_list(w: &mut [u64], count: &mut usize, text: &[u8]) {
-    unsafe extern "C" {
-        fn taxolbin_from_list(w: M, c: N, n: O, text: *const u8, size: N) -> u32;
-    }
-    assert_eq!(unsafe { taxolbin_from_list(w.as_mut_ptr(), w.len(), count, text.as_ptr(), text.len()) }, 0);
+    assert_eq!(unsafe { raw::taxolbin_from_list(w.as_mut_ptr(), w.len(), count, text.as_ptr(), text.len()) }, 0);
 }

@@ -1,6 +1,9 @@
 //! Times of the library beside the Rust it is ported from.
 mod cases;
 mod ffi;
+#[allow(dead_code)]
+#[path = "../rust/src/ffi.rs"]
+mod raw;
 #[path = "../oracle/rng.rs"]
 mod rng;
 mod sheets;

@@ -1,20 +1,7 @@
 //! Sheets, which the Rust does not have: time a record.
+use crate::raw::{taxolbin_add, taxolbin_read, taxolbin_start};
 use crate::timing::alone;
 use std::hint::black_box as bb;
-
-type O = *mut usize;
-type N = usize;
-
-#[rustfmt::skip]
-unsafe extern "C" {
-    fn taxolbin_start(buffer: *mut u8, size: N, length: O) -> u32;
-    fn taxolbin_add(
-        buffer: *mut u8, size: N, length: O, duty: u32, kind: N, p: u32, k: u32, flag: u32, width: N, value: u64, resize: N, payload: *const u8, bytes: N,
-    ) -> u32;
-    fn taxolbin_read(
-        edition: N, sheet: *const u8, bytes: N, words: *const u64, c: N, n: N, result: *mut u64, rc: N, record: O, count: O,
-    ) -> u32;
-}
 
 const RECORDS: usize = 1_000;
 const WORDS: usize = 128;

@@ -1,5 +1,6 @@
 // The archive's calls, each by its own name, and one way to make them all: on copies of what is lent, with guards before and behind each.
 use crate::case::{Case, Out};
+use crate::ffi;
 
 type W = *const u64;
 type M = *mut u64;
@@ -10,17 +11,12 @@ type N = usize;
 
 macro_rules! calls {
     ($($kind:ident $sig:tt: $($name:ident)*;)*) => {
-        #[link(name = "taxolbin", kind = "static")]
-        extern "C" {
-            $($(fn $name $sig -> u32;)*)*
-        }
-
         // A call by the form of its parameters.
         pub enum Call {
             $($kind(unsafe extern "C" fn $sig -> u32),)*
         }
 
-        pub const CALLS: &[(&str, Call)] = &[$($((stringify!($name), Call::$kind($name)),)*)*];
+        pub const CALLS: &[(&str, Call)] = &[$($((stringify!($name), Call::$kind(ffi::$name)),)*)*];
     };
 }
 

@@ -5,6 +5,9 @@
 mod archive;
 mod case;
 mod far;
+#[allow(dead_code)]
+#[path = "../rust/src/ffi.rs"]
+mod ffi;
 mod lists;
 mod model;
 mod original;

@@ -12,5 +12,5 @@ out=target/boundary
 mkdir -p "$out"
 ./archive.sh
 oracle/build.sh "$src" "$out"
-rustc --edition 2021 -O -D warnings -L target/staticlib --extern vbitmap="$out/libvbitmap.rlib" boundary/main.rs -o "$out/boundary"
+rustc --edition 2021 -O -D warnings -L target/staticlib -l static=taxolbin --extern vbitmap="$out/libvbitmap.rlib" boundary/main.rs -o "$out/boundary"
 "$out/boundary" "${2:-2000}" "${3:-1}"

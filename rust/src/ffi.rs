@@ -1,5 +1,5 @@
-// The calls of the archive as include/taxolbin.h has them, in its order; build.rs names the archive to the linker.
-extern "C" {
+// The calls of the archive as include/taxolbin.h has them, in its order; whoever builds this names the archive to the linker.
+unsafe extern "C" {
     static taxolbin_version_0_1: u8;
     pub fn taxolbin_get(words: *const u64, capacity: usize, count: usize, i: usize, value: *mut usize) -> u32;
     pub fn taxolbin_get_field(words: *const u64, capacity: usize, count: usize, i: usize, width: usize, value: *mut u64) -> u32;
@@ -284,5 +284,5 @@ extern "C" {
 #[inline]
 pub fn linked() {
     // SAFETY: the byte is there wherever this links, and nothing writes it.
-    unsafe { core::ptr::read_volatile(core::ptr::addr_of!(taxolbin_version_0_1)) };
+    unsafe { core::ptr::read_volatile(&raw const taxolbin_version_0_1) };
 }

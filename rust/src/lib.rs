@@ -73,9 +73,6 @@
 #![deny(missing_docs)]
 #![deny(unsafe_op_in_unsafe_fn)]
 
-#[cfg(not(target_pointer_width = "64"))]
-compile_error!("the archive is for x86-64: usize must have 64 bits");
-
 mod bitmap;
 mod bits;
 mod error;
