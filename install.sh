@@ -8,14 +8,18 @@ if [ $# -ne 1 ]; then
     exit 2
 fi
 unset CDPATH
-mkdir -p "$1"
-prefix=$(cd "$1" && pwd)
+case $1 in
+/*) prefix=$1 ;;
+*) prefix=$PWD/$1 ;;
+esac
 case $prefix in
 *[[:space:]]*)
     echo "$0: a blank in the name of $prefix: what pkg-config prints would be split there" >&2
     exit 2
     ;;
 esac
+mkdir -p "$prefix"
+prefix=$(cd "$prefix" && pwd)
 cd "$(dirname "$0")"
 version=$(sed -n 's/^#define TAXOLBIN_VERSION "\(.*\)"$/\1/p' include/taxolbin.h)
 # before 1.0 a call may change with the second number

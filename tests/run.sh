@@ -60,7 +60,7 @@ header() {
     "$1" -x "$2" "-std=$3" $strict tests/header.c -x none $(pkg-config --cflags --libs taxolbin) -o "$out/header" && "$out/header"
 }
 
-# ignored COMPILER LANGUAGE STANDARD: a number that is not looked at is a warning, in either kind of call, unless it is on purpose
+# ignored COMPILER LANGUAGE STANDARD: a number that is dropped is a warning, in either kind of call, unless it is on purpose
 ignored() {
     casts=
     if [ "$2" = c++ ]; then
@@ -84,7 +84,7 @@ c_example() {
     cc -std=c99 $strict examples/sheet.c $(pkg-config --cflags --libs taxolbin) -o "$out/sheet" && prints examples/expected "$out/sheet"
 }
 
-# the archive in the place of the shared library: nothing is needed where it runs
+# the archive in the place of the shared library: no file of ours is needed where it runs
 c_archive() {
     cc -std=c99 $strict examples/sheet.c $(pkg-config --cflags taxolbin) "$prefix/lib/libtaxolbin.a" -o "$out/sheet" &&
         prints examples/expected "$out/sheet" && readelf -d "$out/sheet" > "$out/needed" && ! grep taxolbin "$out/needed"
@@ -98,23 +98,23 @@ soname() {
     readelf -d "$prefix/lib/libtaxolbin.so" | grep "soname: \[libtaxolbin.so.$(pkg-config --modversion taxolbin | sed 's/\.[^.]*$//')\]"
 }
 
-package=rust/Cargo.toml
+manifest=rust/Cargo.toml
 
 package() {
-    cargo test --manifest-path "$package"
+    cargo test --manifest-path "$manifest"
 }
 
 package_by_folder() {
-    env PKG_CONFIG_PATH= TAXOLBIN_LIB_DIR="$PWD/target/staticlib" cargo test --manifest-path "$package"
+    env PKG_CONFIG_PATH= TAXOLBIN_LIB_DIR="$PWD/target/staticlib" cargo test --manifest-path "$manifest"
 }
 
 rust_example() {
-    prints examples/expected cargo run -q --manifest-path "$package" --example sheet
+    prints examples/expected cargo run -q --manifest-path "$manifest" --example sheet
 }
 
 # without the library the package says what to do, and what it looked for
 package_without() {
-    set -- cargo build --manifest-path "$package" --target-dir "$out/without"
+    set -- cargo build --manifest-path "$manifest" --target-dir "$out/without"
     says "./install.sh PREFIX" env PKG_CONFIG_PATH= "$@" && says "./install.sh PREFIX" env PKG_CONFIG=no-such-program "$@" &&
         says "no libtaxolbin.a in $out" env TAXOLBIN_LIB_DIR="$out" "$@"
 }
@@ -122,12 +122,12 @@ package_without() {
 # an archive of another version is not linked
 package_other() {
     mkdir -p "$out/other" && cp "$prefix/lib/libtaxolbin.a" "$out/other" && ar d "$out/other/libtaxolbin.a" version.o &&
-        says taxolbin_version_ env TAXOLBIN_LIB_DIR="$out/other" cargo build --manifest-path "$package" --example sheet --target-dir "$out/without"
+        says taxolbin_version_ env TAXOLBIN_LIB_DIR="$out/other" cargo build --manifest-path "$manifest" --example sheet --target-dir "$out/without"
 }
 
 package_tidy() {
-    cargo fmt --check --manifest-path "$package" && cargo clippy -q --all-targets --manifest-path "$package" -- -D warnings &&
-        env RUSTDOCFLAGS="-D warnings" cargo doc -q --no-deps --manifest-path "$package"
+    cargo fmt --check --manifest-path "$manifest" && cargo clippy -q --all-targets --manifest-path "$manifest" -- -D warnings &&
+        env RUSTDOCFLAGS="-D warnings" cargo doc -q --no-deps --manifest-path "$manifest"
 }
 
 sheets() {
