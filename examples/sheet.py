@@ -5,7 +5,20 @@ import subprocess
 
 SIZE, WORD, NUMBER = ctypes.c_size_t, ctypes.c_uint64, ctypes.c_uint32
 OLD, WORDS, BYTES, TEXT = 4, 128, 256, 65536
-KINDS = ["set", "unset", "set_region", "set_field", "shift", "rotate", "resize_bits", "reverse", "toggle_region", "open", "close"]  # from 1 on
+# each kind with its fields, from kind 1 on; a flag is a region's value, or true for right
+KINDS = {
+    "set": {"p"},
+    "unset": {"p"},
+    "set_region": {"p", "k", "flag"},
+    "set_field": {"p", "value", "width"},
+    "shift": {"k", "flag"},
+    "rotate": {"k", "flag"},
+    "resize_bits": {"bits"},
+    "reverse": set(),
+    "toggle_region": {"p", "k"},
+    "open": {"p", "k"},
+    "close": {"p", "k"},
+}
 
 
 def variable(name):
@@ -37,16 +50,20 @@ def must(number):
 
 
 class Sheet:
-    """A sheet at the front of its buffer. An edit's fields have names, so that none can stand in another's place."""
+    """A sheet at the front of its buffer. Fields have names, and an edit takes those of its kind, no more and no fewer."""
 
     def __init__(self):
         self.buffer, self.length = ctypes.create_string_buffer(BYTES), SIZE()
         must(start(self.buffer, BYTES, self.length))
 
-    def edit(self, kind, *, p=0, k=0, flag=False, width=0, value=0, bits=0):
-        if not (0 <= p < 1 << 32 and 0 <= k < 1 << 32):
+    def edit(self, kind, **fields):
+        if fields.keys() != KINDS[kind]:
+            raise TypeError(f"the fields of {kind} are {sorted(KINDS[kind])}")
+        if any(fields.get(name, 0) >> 32 for name in "pk"):
             raise ValueError("p and k have 32 bits")  # ctypes would cut them
-        must(add(self.buffer, BYTES, self.length, 1, KINDS.index(kind) + 1, p, k, flag, width, value, bits, b"", 0))
+        number = list(KINDS).index(kind) + 1
+        p, k, flag, width, value, bits = (fields.get(name, 0) for name in ("p", "k", "flag", "width", "value", "bits"))
+        must(add(self.buffer, BYTES, self.length, 1, number, p, k, flag, width, value, bits, b"", 0))
 
     def remark(self, kind, payload):
         must(add(self.buffer, BYTES, self.length, 0, kind, 0, 0, 0, 0, 0, 0, payload, len(payload)))
@@ -92,7 +109,7 @@ def main():
     sheet.edit("set_region", flag=True, p=2, k=4)
     sheet.edit("unset", p=3)
     sheet.remark(1, b"hi")
-    sheet.edit("shift", k=64)
+    sheet.edit("shift", flag=False, k=64)
     sheet.edit("open", p=68, k=10)
     print(sheet.bytes().hex(" ").upper())
     old.load_list(b"0, 4-5")
