@@ -33,10 +33,11 @@ pub enum Refusal {
     BadPayload,
     NewerKind,
     NoEdition,
+    BadStyle,
 }
 
 impl Refusal {
-    // The number of document 01.
+    // The number of document 01, or of a later request.
     pub fn number(self) -> u32
         ensures { λ r. ⌜ r ≡ numberOf self ⌝ }
     {
@@ -55,6 +56,7 @@ impl Refusal {
             Refusal::BadPayload => 12,
             Refusal::NewerKind => 13,
             Refusal::NoEdition => 14,
+            Refusal::BadStyle => 15,
         }
     }
 }

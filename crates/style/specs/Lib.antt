@@ -1,0 +1,2 @@
+pub mod Styles
+pub mod Promises
