@@ -10,6 +10,7 @@ use Rattle.storage.specs.declared.Field.{Field}
 use Rattle.storage.specs.declared.Truth.{Truth}
 use Rattle.shapes.specs.Shapes.{Splits}
 use Rattle.shapes.specs.declared.Split.{Split}
+use Rattle.style.specs.declared.Style.{Style}
 use Rattle.print.specs.Texts.{Prints}
 use Rattle.sheet.specs.Reads.{Reads}
 use Rattle.plain.specs.Writer.{Left, Writes}
@@ -38,7 +39,7 @@ field h k = rw h at k
 pub truth : {a b : Truth} {r v : ℕ} → a ≡ b → TruthOut a r v → TruthOut b r v
 truth h k = rw h at k
 
-pub printed : {ws bs bs' : List ℕ} {n r v : ℕ} {a : Amount} → Prints ws (bitmapOf n) bs a bs' → AmountOut a r v → Printed ws n bs r bs' v
+pub printed : {y : Style} {ws bs bs' : List ℕ} {n r v : ℕ} {a : Amount} → Prints y ws (bitmapOf n) bs a bs' → AmountOut a r v → Printed y ws n bs r bs' v
 printed h k = record { out = rw (h .answers) at k; leaves = h .leaves }
 
 pub read : {e : ℕ} {sheet ws res res' : List ℕ} {n r i m : ℕ} {a : Reading} → Reads e sheet ws (bitmapOf n) res a res' → ReadingOut a r i m → Read e sheet ws n res r res' i m

@@ -1,12 +1,13 @@
 -- The promises of specs/Promises.
 use Prim.Native.Nat.{ℕ, _≤_, _<_}
 use mathlib.Core.Path.{_≡_, refl, sym, ap, _∙_, subst}
-use mathlib.Core.Bool.{Bool, true, false, not}
+use mathlib.Core.Bool.{Bool, true, false, not, false≢true}
 use mathlib.Core.List.{List}
 use mathlib.Core.Logic.{_⊎_, inl, inr}
 use native.Mathlib.Omega.{arith}
 use lib.ListN.{length}
 use borrow.Author.Tests.{ne-eqb}
+use Rattle.word.proofs.Cases.{by-test}
 use Rattle.storage.specs.Refusals.{foundNumber, foundFlag, foundValue, amountNumber, amountValue, fieldNumber, fieldValue, truthNumber, truthValue}
 use Rattle.storage.specs.Stores.{Bits, Op, view, bitmapOf}
 use Rattle.storage.specs.Guards.{Stopped, Passed}
@@ -24,6 +25,9 @@ use Rattle.storage.proofs.Checks.{which-way}
 use Rattle.combine.proofs.Promises as combine
 use Rattle.shapes.specs.Promises.{SplitMeans}
 use Rattle.shapes.proofs.Halves as halves
+use Rattle.style.specs.Styles.{allowed}
+use Rattle.style.specs.declared.Style.{Style}
+use Rattle.style.proofs.Promises.{styles-mean}
 use Rattle.print.specs.Promises.{NotPrinted, TextPut, PrintsText}
 use Rattle.storage.specs.declared.Bitmap.{Bitmap}
 use Rattle.print.proofs.Promises.{prints-text}
@@ -36,7 +40,7 @@ use Rattle.sheet.proofs.Readings.{reading-means}
 use Rattle.plain.proofs.Writings.{starting-means, adding-means}
 use Rattle.answers.specs.Answers.{AddedOut}
 use Rattle.calls.specs.Calls.{Changed, SplitOff, Printed, Written}
-use Rattle.calls.specs.Promises.{ChangesMean, ReadingsOut, OthersMean, TruthIn, RefusedChangesNothing}
+use Rattle.calls.specs.Promises.{ChangesMean, ReadingsOut, OthersMean, TruthIn, StyleIn, RefusedChangesNothing}
 
 -- ---- what crosses is what the answer is
 
@@ -117,8 +121,8 @@ others-mean = record {
   split = λ at ws ts ws' ts' n r n' t h.
       carry-three (λ x m k. SplitMeans at ws (bitmapOf n) ts x m k ws' ts') (h .out .number) (h .out .count) (h .out .tail)
       (halves.split-means at ws (bitmapOf n) ts _ ws' ts' (record { answers = refl; head = h .head; tail = h .tail }));
-  print = λ ws bs bs' n r v h.
-      carry (λ x y. PrintsText ws (bitmapOf n) bs x y bs') (h .out .number) (h .out .value) (prints-text ws (bitmapOf n) bs _ bs' (record { answers = refl; leaves = h .leaves }));
+  print = λ y ws bs bs' n r v h.
+      carry (λ x z. PrintsText y ws (bitmapOf n) bs x z bs') (h .out .number) (h .out .value) (prints-text y ws (bitmapOf n) bs _ bs' (record { answers = refl; leaves = h .leaves }));
   read = λ e sheet ws res res' n r k m h. (_, h .out, reading-means e sheet ws (bitmapOf n) res _ res' (record { answers = refl; leaves = h .leaves }));
   start = λ bs bs' n r n' h. (_, h .out, starting-means bs _ bs' (record { answers = refl; leaves = h .leaves }));
   add-duty = λ bs bs' payload f n kind r n' h. (_, h .out, adding-means .duties bs n kind f payload _ bs' (record { answers = refl; leaves = h .leaves }));
@@ -127,6 +131,15 @@ others-mean = record {
 
 pub truth-in : TruthIn
 truth-in = record { zero = refl; other = λ v h. ap not (ne-eqb v 0 (omega arith)) }
+
+pub style-in : StyleIn
+style-in = record {
+  first = λ f j b k. refl;
+  joiner = λ f j b k. refl;
+  tight = λ f j k. truth-in .zero;
+  spaced = λ f j b k h. truth-in .other b h;
+  shortest = λ f j b k. refl;
+}
 
 -- ---- a refused call
 
@@ -140,12 +153,12 @@ split at ws ts ws' ts' n r n' t h p =
     let k = halves.split-keeps at ws (bitmapOf n) ts _ ws' ts' (record { answers = refl; head = h .head; tail = h .tail }) (omega (arith, h .out .number)) in
     (h .out .count ∙ ap (λ (b : Bitmap). b .count) (k .0), k .2, k .3)
 
-print : (ws bs bs' : List ℕ) (n r v : ℕ) → Printed ws n bs r bs' v → 0 < r → bs' ≡ bs
-print ws bs bs' n r v h p =
+print : (y : Style) (ws bs bs' : List ℕ) (n r v : ℕ) → Printed y ws n bs r bs' v → 0 < r → bs' ≡ bs
+print y ws bs bs' n r v h p =
     way (which-way ws (bitmapOf n))
   where
-    q : PrintsText ws (bitmapOf n) bs r v bs'
-    q = others-mean .print ws bs bs' n r v h
+    q : PrintsText y ws (bitmapOf n) bs r v bs'
+    q = others-mean .print y ws bs bs' n r v h
 
     ends : {t : List ℕ} → ((length t ≤ length bs) × TextPut t bs r v bs') ⊎ ((length bs < length t) × NotPrinted bs r v bs' 6) → bs' ≡ bs
     ends (inl x) = absurd (omega (arith, x .1 .number))
@@ -153,7 +166,10 @@ print ws bs bs' n r v h p =
 
     way : ((x : ℕ) × Stopped ws (bitmapOf n) x) ⊎ Passed ws (bitmapOf n) → bs' ≡ bs
     way (inl (x, s)) = q .stop x s .bytes
-    way (inr t) = ends (q .rest t .2)
+    way (inr t) =
+        by-test (allowed y)
+        (λ a. ends (q .rest t .rest (styles-mean y .1 a) .2))
+        (λ a. q .rest t .stop (λ ok. false≢true (sym a ∙ styles-mean y .0 ok)) .bytes)
 
 kept : (a : Added) (bs bs' : List ℕ) (n r n' : ℕ) → AddedOut a n r n' → LeavesRest bs a bs' → 0 < r → (n' ≡ n) × (bs' ≡ bs)
 kept (Done m) bs bs' n r n' o k p = absurd (omega (arith, o .number))

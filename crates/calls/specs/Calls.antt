@@ -9,7 +9,8 @@ use Rattle.storage.specs.Stores.{Op, reading, answer, store, outcome, bitmapOf}
 use Rattle.storage.specs.declared.Amount.{Amount}
 use Rattle.storage.specs.declared.Amount.the-variants.{Refused}
 use Rattle.shapes.specs.Shapes.{headOutcome, tailOutcome, splitAnswer}
-use Rattle.print.specs.Texts.{textOf, fitted, replaced}
+use Rattle.style.specs.declared.Style.{Style}
+use Rattle.print.specs.Texts.{listAnswer, listBuffer}
 use Rattle.sheet.specs.Reads.{course, readAnswer, readStore}
 use Rattle.plain.specs.Writer.{Left}
 use Rattle.answers.specs.Answers.{ChangeOut, SplitOut, AmountOut, ReadingOut, AddedOut}
@@ -17,6 +18,10 @@ use Rattle.answers.specs.Answers.{ChangeOut, SplitOut, AmountOut, ReadingOut, A
 -- a truth value that comes in as a number: 0 is false
 abbrev pub truth : ℕ → Bool
 truth v = not (eqb v 0)
+
+-- a style that comes in as four numbers
+abbrev pub styleOf : ℕ → ℕ → ℕ → ℕ → Style
+styleOf f j b k = record { first = f; joiner = j; blank = truth b; shortest = k }
 
 -- a changing call on the first n words of the store ws: the count goes in and out
 pub record Changed (op : Op) (ws : List ℕ) (n r : ℕ) (ws' : List ℕ) (n' : ℕ) : Type 0 where
@@ -29,10 +34,10 @@ pub record SplitOff (at : ℕ) (ws : List ℕ) (n : ℕ) (ts : List ℕ) (r : �
   pub head : ws' ≡ store (headOutcome at ws (bitmapOf n) ts) ws n
   pub tail : ts' ≡ store (tailOutcome at ws (bitmapOf n) ts) ts 0
 
--- `write_list` of the first n words of ws into the buffer bs: the text's length goes out
-pub record Printed (ws : List ℕ) (n : ℕ) (bs : List ℕ) (r : ℕ) (bs' : List ℕ) (v : ℕ) : Type 0 where
-  pub out : AmountOut (reading ws (bitmapOf n) Amount.Refused (λ s. fitted (textOf s) bs)) r v
-  pub leaves : bs' ≡ reading ws (bitmapOf n) (λ e. bs) (λ s. replaced (textOf s) bs)
+-- `write_list` of the first n words of ws into the buffer bs in a style: the text's length goes out
+pub record Printed (y : Style) (ws : List ℕ) (n : ℕ) (bs : List ℕ) (r : ℕ) (bs' : List ℕ) (v : ℕ) : Type 0 where
+  pub out : AmountOut (reading ws (bitmapOf n) Amount.Refused (listAnswer y bs)) r v
+  pub leaves : bs' ≡ reading ws (bitmapOf n) (λ e. bs) (listBuffer y bs)
 
 -- a reading in edition e of a sheet, from the first n words of ws, into the store res: record and count go out
 pub record Read (e : ℕ) (sheet ws : List ℕ) (n : ℕ) (res : List ℕ) (r : ℕ) (res' : List ℕ) (k m : ℕ) : Type 0 where

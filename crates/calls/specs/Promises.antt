@@ -16,6 +16,7 @@ use Rattle.storage.specs.declared.Truth.{Truth}
 use Rattle.storage.specs.declared.Truth.the-variants.{Refused}
 use Rattle.combine.specs.Combine.{besideBoth}
 use Rattle.shapes.specs.Promises.{SplitMeans}
+use Rattle.style.specs.declared.Style.{Style}
 use Rattle.print.specs.Promises.{PrintsText}
 use Rattle.plain.specs.Writer.{duty, remark, started, added, requested}
 use Rattle.sheet.specs.Promises.{ReadingMeans}
@@ -24,7 +25,7 @@ use Rattle.sheet.specs.declared.Fields.{Fields}
 use Rattle.sheet.specs.declared.Reading.{Reading}
 use Rattle.sheet.specs.declared.Added.{Added}
 use Rattle.answers.specs.Answers.{FoundOut, AmountOut, FieldOut, TruthOut, ReadingOut, AddedOut}
-use Rattle.calls.specs.Calls.{truth, Changed, SplitOff, Printed, Read, Written}
+use Rattle.calls.specs.Calls.{truth, styleOf, Changed, SplitOff, Printed, Read, Written}
 
 -- a changing call keeps what its operation promises: by itself, with a second bitmap, with two
 pub record ChangesMean : Type 1 where
@@ -68,7 +69,7 @@ pub record ReadingsOut : Type 1 where
 -- the other calls: `split_off`, `write_list`, and those of the sheet
 pub record OthersMean : Type 0 where
   pub split : (at : ℕ) (ws ts ws' ts' : List ℕ) (n r n' t : ℕ) → SplitOff at ws n ts r ws' n' ts' t → SplitMeans at ws (bitmapOf n) ts r n' t ws' ts'
-  pub print : (ws bs bs' : List ℕ) (n r v : ℕ) → Printed ws n bs r bs' v → PrintsText ws (bitmapOf n) bs r v bs'
+  pub print : (y : Style) (ws bs bs' : List ℕ) (n r v : ℕ) → Printed y ws n bs r bs' v → PrintsText y ws (bitmapOf n) bs r v bs'
   pub read : (e : ℕ) (sheet ws res res' : List ℕ) (n r k m : ℕ) → Read e sheet ws n res r res' k m
       → (a : Reading) × ReadingOut a r k m × ReadingMeans e sheet ws (bitmapOf n) res a res'
   pub start : (bs bs' : List ℕ) (n r n' : ℕ) → Written (started bs) n r bs' n' → (a : Added) × AddedOut a n r n' × StartMeans bs a bs'
@@ -82,11 +83,19 @@ pub record TruthIn : Type 0 where
   pub zero : truth 0 ≡ false
   pub other : (v : ℕ) → 0 < v → truth v ≡ true
 
+-- a style that comes in: number by number, in the order of the call
+pub record StyleIn : Type 0 where
+  pub first : (f j b k : ℕ) → styleOf f j b k .first ≡ f
+  pub joiner : (f j b k : ℕ) → styleOf f j b k .joiner ≡ j
+  pub tight : (f j k : ℕ) → styleOf f j 0 k .blank ≡ false
+  pub spaced : (f j b k : ℕ) → 0 < b → styleOf f j b k .blank ≡ true
+  pub shortest : (f j b k : ℕ) → styleOf f j b k .shortest ≡ k
+
 -- a refused call changes no word, no byte, no count and no length, whatever it works on. Only `read` differs
 pub record RefusedChangesNothing : Type 0 where
   pub change : (op : Op) (ws ws' : List ℕ) (n r n' : ℕ) → Changed op ws n r ws' n' → 0 < r → (n' ≡ n) × (ws' ≡ ws)
   pub split : (at : ℕ) (ws ts ws' ts' : List ℕ) (n r n' t : ℕ) → SplitOff at ws n ts r ws' n' ts' t → 0 < r → (n' ≡ n) × (ws' ≡ ws) × (ts' ≡ ts)
-  pub print : (ws bs bs' : List ℕ) (n r v : ℕ) → Printed ws n bs r bs' v → 0 < r → bs' ≡ bs
+  pub print : (y : Style) (ws bs bs' : List ℕ) (n r v : ℕ) → Printed y ws n bs r bs' v → 0 < r → bs' ≡ bs
   pub start : (bs bs' : List ℕ) (n r n' : ℕ) → Written (started bs) n r bs' n' → 0 < r → (n' ≡ n) × (bs' ≡ bs)
   pub add : (bs bs' payload : List ℕ) (d : Bool) (f : Fields) (n kind r n' : ℕ) → Written (added bs n (requested d kind f payload)) n r bs' n' → 0 < r
       → (n' ≡ n) × (bs' ≡ bs)

@@ -18,7 +18,7 @@ use Rattle.shapes.specs.Shapes.{raising, lowered, truncated, tailOutcome, headO
 use Rattle.gap.specs.Gaps.{opening}
 use Rattle.text.specs.Lists.{plain, covers, highest}
 use Rattle.text.specs.Readings as read
-use Rattle.print.specs.Texts.{runsFrom, decimalFrom, printed, others, text}
+use Rattle.print.specs.Texts.{runsFrom, decimalFrom, singles, pieces, printed, others, text}
 use Rattle.sheet.specs.Bytes.{number}
 use Rattle.sheet.specs.Kinds.{rowOf, sizeIn, ruleOf}
 use Rattle.editions.specs.Reader as sheets
@@ -32,7 +32,8 @@ use Rattle.storage.specs.declared.Found.{Found}
 use Rattle.storage.specs.declared.Found.the-variants.{Refused}
 use Rattle.storage.specs.declared.Truth.{Truth}
 use Rattle.storage.specs.declared.Truth.the-variants.{Is, Refused}
-use Rattle.print.specs.Texts.{textOf, fitted, replaced}
+use Rattle.print.specs.Texts.{listAnswer, listBuffer}
+use Rattle.style.specs.Styles.{plainStyle}
 use Rattle.sheet.specs.Reads.{readAnswer, readStore, readingCount}
 use Rattle.shapes.specs.declared.Split.{Split}
 use Rattle.sheet.specs.declared.Reading.{Reading}
@@ -43,7 +44,7 @@ use Rattle.cases.specs.Cases.{tested, parted, sheeted, Comes, Sample, sa
 printing : Reading → List ℕ → List ℕ
 printing r ws =
     let b = bitmapOf (readingCount r) in
-    sheeted r (reading ws b Amount.Refused (λ s. fitted (textOf s) (zeros 16))) (reading ws b (λ e. zeros 16) (λ s. replaced (textOf s) (zeros 16)))
+    sheeted r (reading ws b Amount.Refused (listAnswer plainStyle (zeros 16))) (reading ws b (λ e. zeros 16) (listBuffer plainStyle (zeros 16)))
 
 -- a call that came to the outcome o on the bitmap b in ws
 changedBy : Outcome → Bitmap → List ℕ → List ℕ
@@ -51,7 +52,7 @@ changedBy o b ws = changed (answer o b) (store o ws (b .count))
 
 -- what the contract of a call makes of it
 outOf : Question → List ℕ
-outOf (from-list bytes c) = changedBy (outcome (read.readingList bytes) (zeros c) noWords) noWords (zeros c)
+outOf (from-list bytes c) = changedBy (outcome (read.readingList plainStyle bytes) (zeros c) noWords) noWords (zeros c)
 outOf (next-clear ws i) = counted (reading ws (whole ws) Amount.Refused (λ s. Amount.Is (nextClear s i)))
 outOf (first-clear ws) = counted (reading ws (whole ws) Amount.Refused (λ s. Amount.Is (nextClear s 0)))
 outOf (get-field ws i width) = fielded (reading ws (whole ws) Field.Refused (fieldAt i width))
@@ -97,7 +98,7 @@ computed : again starred ≡ starred
 unfolding countBelow leastFrom topBelow nth bit pack wordOf member tabFrom wordsOf filledWords andThen checked view reading readingBoth size combined foundBelow
     within wordsFor trimmedCount wordAt written zeroed answer store outcome equal fieldAt nextClear selected movedUp movedDown turnedDown rotatingRight
     settingRegion uniting tidied flippingBit raising lowered truncated tailOutcome headOutcome splitAnswer opening plain covers highest read.kind
-    read.value read.token read.empty read.byKind read.next read.reads read.parsed read.parse read.readingList runsFrom decimalFrom printed others text
+    read.value read.token read.empty read.byKind read.next read.reads read.parsed read.parse read.readingList runsFrom decimalFrom singles pieces printed others text
     number rowOf sizeIn ruleOf sheets.act sheets.records sheets.read step editionOf course printing changedBy outOf again
 computed = refl
 

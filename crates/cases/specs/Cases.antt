@@ -18,6 +18,7 @@ use Rattle.shifts.specs.Shifts.{rotatingRight}
 use Rattle.bitmaps.specs.Bitmaps.{flippingBit}
 use Rattle.shapes.specs.Shapes.{splitNumber, splitHead, splitTail, Splits}
 use Rattle.shapes.specs.declared.Split.{Split}
+use Rattle.style.specs.Styles.{plainStyle}
 use Rattle.text.specs.Readings.{readingList}
 use Rattle.print.specs.Texts.{Prints}
 use Rattle.sheet.specs.Reads.{readingNumber, readingRecord, readingCount, Reads}
@@ -72,7 +73,7 @@ sheeted r p bytes = readingNumber r ∷ readingRecord r ∷ readingCount r ∷ t
 
 -- whatever meets the call's contract comes out so; the result of a sheet is printed into sixteen bytes
 abbrev pub Comes : Question → List ℕ → Type 0
-Comes (from-list text c) out = (r : Change) (ws : List ℕ) → Changes (readingList text) (zeros c) noWords r ws → changed r ws ≡ out
+Comes (from-list text c) out = (r : Change) (ws : List ℕ) → Changes (readingList plainStyle text) (zeros c) noWords r ws → changed r ws ≡ out
 Comes (next-clear ws i) out = (r : Amount) → r ≡ reading ws (whole ws) Amount.Refused (λ s. Amount.Is (nextClear s i)) → counted r ≡ out
 Comes (first-clear ws) out = (r : Amount) → r ≡ reading ws (whole ws) Amount.Refused (λ s. Amount.Is (nextClear s 0)) → counted r ≡ out
 Comes (get-field ws i width) out = (r : Field) → r ≡ reading ws (whole ws) Field.Refused (fieldAt i width) → fielded r ≡ out
@@ -86,7 +87,7 @@ Comes (split-off ws at c) out =
     (r : Split) (ws' ts : List ℕ) → Splits at ws (whole ws) (zeros c) r ws' ts → parted r ws' ts ≡ out
 Comes (read e sheet c) out =
     (r : Reading) (ws : List ℕ) (p : Amount) (bytes : List ℕ)
-    → Reads e sheet [] noWords (zeros c) r ws → Prints ws (bitmapOf (readingCount r)) (zeros 16) p bytes → sheeted r p bytes ≡ out
+    → Reads e sheet [] noWords (zeros c) r ws → Prints plainStyle ws (bitmapOf (readingCount r)) (zeros 16) p bytes → sheeted r p bytes ≡ out
 
 pub record Sample : Type 0 where
   pub asked : Question

@@ -6,6 +6,7 @@ use sheet::Reading;
 use storage::Amount;
 use storage::Bitmap;
 use storage::EMPTY;
+use style::PLAIN;
 
 // The most bytes of a sheet that is read.
 const MOST: usize = 65_535;
@@ -28,7 +29,7 @@ fn answer(edition: usize, number: usize, record: usize, count: usize) {
 // A blank and the list; nothing for an empty one.
 fn list(words: &[u64], b: Bitmap) {
     let mut out = io::large_buffer();
-    match print::write_list(words, b, &mut out) {
+    match print::write_list(words, b, &mut out, PLAIN) {
         Amount::Is(n) => {
             if n > 0 {
                 put(b" ");

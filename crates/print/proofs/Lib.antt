@@ -6,3 +6,4 @@ pub mod Pieces
 pub mod Printing
 pub mod ReadBack
 pub mod Promises
+pub mod Plain

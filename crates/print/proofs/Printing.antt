@@ -8,198 +8,190 @@ use lib.Dec.{leb}
 use lib.ListN.{length, drop, length-append}
 use borrow.Author.Tests.{le-leb, lt-leb}
 use Rattle.word.specs.Sets.{choose}
-use Rattle.storage.specs.Stores.{Bits, Bounded, checked, held}
+use Rattle.storage.specs.Stores.{Bits, Bounded, checked, held, reading}
 use Rattle.storage.specs.Guards.{Passed}
 use Rattle.storage.specs.declared.Bitmap.{Bitmap}
 use Rattle.storage.specs.declared.Refusal.{Refusal}
-use Rattle.storage.specs.declared.Refusal.the-variants.{NoSpace}
+use Rattle.storage.specs.declared.Refusal.the-variants.{NoSpace, BadStyle}
 use Rattle.storage.specs.declared.Guard.the-variants.{Pass, Stop}
 use Rattle.storage.specs.declared.Amount.{Amount}
 use Rattle.storage.specs.declared.Amount.the-variants.{Is}
 use Rattle.storage.proofs.Checks.{reading-ok, reading-stopped}
+use Rattle.style.specs.Styles.{allowed}
+use Rattle.style.specs.Promises.{Allowed}
+use Rattle.style.specs.declared.Style.{Style}
 use Rattle.text.specs.Lists.{listLimit, Range, range}
-use Rattle.print.specs.Texts.{runs, printed, others, text, textOf, fitted, replaced, Prints}
-use Rattle.print.specs.Kernels.{NextRun, separator, putAt, Puts}
-use Rattle.print.specs.Promises.{Runs}
+use Rattle.print.specs.Texts.{runs, cut, pieces, textOf, fitted, replaced, listAnswer, listBuffer, Prints}
+use Rattle.print.specs.Kernels.{NextRun, Printable, rangeOf, after, putAt, Puts}
+use Rattle.print.specs.Forms.{Runs}
 use Rattle.print.specs.declared.Run.{Run}
 use Rattle.print.proofs.Buffer.{length-put, put-then, puts-none}
 use Rattle.print.proofs.Runs.{runs-are, next-none, next-some}
-use Rattle.print.proofs.Pieces.{gap-length, printed-length}
+use Rattle.print.proofs.Pieces.{after-none, after-append, run-most}
 
--- ---- what is left to print, where `at` bytes are printed
+-- ---- the text's front is printed, and the run is the first of those left
 
-tail : ℕ → List Range → List ℕ
-tail zero rs = text rs
-tail (suc at) rs = others rs
-
-tail-none : (at : ℕ) → tail at [] ≡ []
-unfolding tail text others
-tail-none zero = refl
-tail-none (suc at) = refl
-
-tail-more : (at : ℕ) (r : Range) (rs : List Range) → tail at (r ∷ rs) ≡ (separator at ++ printed r) ++ others rs
-unfolding tail text others
-tail-more zero r rs = refl
-tail-more (suc at) r rs = refl
-
-tail-others : (at : ℕ) (rs : List Range) → 0 < at → tail at rs ≡ others rs
-unfolding tail
-tail-others zero rs h = absurd (omega arith)
-tail-others (suc at) rs h = refl
-
--- the text's front is printed, and the run is the first of those left
-pub record PrintingTo (b : Bits) (e at : ℕ) (run : Run) : Type 0 where
+pub record PrintingTo (y : Style) (b : Bits) (e at : ℕ) (run : Run) : Type 0 where
   pub i : ℕ
   pub front : List ℕ
   rest : List Range
   next : NextRun (b .members) e i run
   left : Runs (b .members) i rest
-  parts : textOf b ≡ front ++ tail at rest
+  parts : textOf y b ≡ front ++ after y at (pieces (y .shortest) rest)
   pub at-is : at ≡ length front
   pub short : at ≤ 23 * i
 
-pub going-start : (b : Bits) → Bounded b → (e : ℕ) (run : Run) → NextRun (b .members) e 0 run → PrintingTo b e 0 run
-unfolding tail
-going-start b h e run n =
+pub going-start : (y : Style) (b : Bits) → Bounded b → (e : ℕ) (run : Run) → NextRun (b .members) e 0 run → PrintingTo y b e 0 run
+going-start y b h e run n =
     record { i = 0; front = []; rest = runs b; next = n; left = runs-are b h; parts = refl; at-is = refl; short = omega arith }
 
-module _ (b : Bits) (e : ℕ) (past : (j : ℕ) → e ≤ j → b .members j ≡ false) (small : e ≤ listLimit + 1) (at : ℕ) (run : Run) (g : PrintingTo b e at run) where
+no-pieces : (k : ℕ) → pieces k [] ≡ []
+unfolding pieces
+no-pieces k = refl
+
+more-pieces : (k : ℕ) (r : Range) (rs : List Range) → pieces k (r ∷ rs) ≡ cut k r ++ pieces k rs
+unfolding pieces
+more-pieces k r rs = refl
+
+module _ (y : Style) (ok : Allowed y) (b : Bits) (e : ℕ) (past : (j : ℕ) → e ≤ j → b .members j ≡ false) (small : e ≤ listLimit + 1) (at : ℕ) (run : Run) (g : PrintingTo y b e at run) where
+  abbrev k : ℕ
+  k = y .shortest
+
   -- all is printed
-  pub going-end : run .end ≤ run .low → textOf b ≡ g .front
+  pub going-end : run .end ≤ run .low → textOf y b ≡ g .front
   going-end l =
       g .parts
-      ∙ ap (λ (rs : List Range). g .front ++ tail at rs) (next-none (b .members) e (g .i) run (g .rest) past (g .next) l (g .left))
-      ∙ ap (λ (t : List ℕ). g .front ++ t) (tail-none at) ∙ append-nil (g .front)
+      ∙ ap (λ (rs : List Range). g .front ++ after y at (pieces k rs)) (next-none (b .members) e (g .i) run (g .rest) past (g .next) l (g .left))
+      ∙ ap (λ (t : List ℕ). g .front ++ t) (ap (after y at) (no-pieces k) ∙ after-none y at) ∙ append-nil (g .front)
 
   module _ (l : run .low < run .end) where
-    abbrev r : Range
-    r = range (run .low) (run .end - 1)
+    -- what the run prints
+    abbrev out : List ℕ
+    out = after y at (cut k (rangeOf run))
 
-    abbrev piece : List ℕ
-    piece = separator at ++ printed r
-
-    pub low-limit : run .low ≤ listLimit
-    low-limit = omega (arith, g .next .within)
-
-    pub high-limit : run .end - 1 ≤ listLimit
-    high-limit = omega (arith, g .next .within)
+    pub printable : Printable run
+    printable = record { some = l; limit = omega (arith, g .next .within) }
 
     pub end-within : run .end ≤ e
     end-within = g .next .within
 
-    pub going-on : g .i < run .end
-    going-on = omega (arith, g .next .from)
+    pub run-short : at ≤ 23 * run .low
+    run-short = omega (arith, g .short, g .next .from)
 
-    found : (qs : List Range) × (g .rest ≡ r ∷ qs) × Runs (b .members) (run .end) qs
+    found : (qs : List Range) × (g .rest ≡ rangeOf run ∷ qs) × Runs (b .members) (run .end) qs
     found = next-some (b .members) e (g .i) run (g .rest) (g .next) l (g .left)
 
-    whole : textOf b ≡ (g .front ++ piece) ++ others (found .0)
+    whole : textOf y b ≡ (g .front ++ out) ++ after y (at + length out) (pieces k (found .0))
     whole =
-        g .parts ∙ ap (λ (rs : List Range). g .front ++ tail at rs) (found .1)
-        ∙ ap (λ (t : List ℕ). g .front ++ t) (tail-more at r (found .0))
-        ∙ sym (append-assoc (g .front) piece (others (found .0)))
+        g .parts
+        ∙ ap (λ (rs : List Range). g .front ++ after y at rs) (ap (pieces k) (found .1) ∙ more-pieces k (rangeOf run) (found .0))
+        ∙ ap (λ (t : List ℕ). g .front ++ t) (after-append y at (cut k (rangeOf run)) (pieces k (found .0)))
+        ∙ sym (append-assoc (g .front) out (after y (at + length out) (pieces k (found .0))))
 
-    pub piece-length : length piece ≡ length (separator at) + length (printed r)
-    piece-length = length-append (separator at) (printed r)
+    -- it lies within the text
+    pub run-fits : at + length out ≤ length (textOf y b)
+    run-fits =
+        omega (
+          arith,
+          ap length whole,
+          length-append (g .front ++ out) (after y (at + length out) (pieces k (found .0))),
+          length-append (g .front) out,
+          g .at-is,
+        )
 
-    -- the piece lies within the text
-    pub piece-fits : at + (length (separator at) + length (printed r)) ≤ length (textOf b)
-    piece-fits =
-        omega
-        (arith, ap length whole, length-append (g .front ++ piece) (others (found .0)), length-append (g .front) piece, piece-length, g .at-is)
-
-    pub piece-short : at + (length (separator at) + length (printed r)) ≤ 23 * run .end
-    piece-short =
-        omega (arith, g .short, gap-length at, printed-length (run .low) (run .end - 1) low-limit high-limit .1, going-on)
-
-    pub going-more : (at' : ℕ) (run' : Run) → at' ≡ at + (length (separator at) + length (printed r)) → NextRun (b .members) e (run .end) run' → PrintingTo b e at' run'
+    pub going-more : (at' : ℕ) (run' : Run) → at' ≡ at + length out → NextRun (b .members) e (run .end) run' → PrintingTo y b e at' run'
     going-more at' run' q n = record {
       i = run .end;
-      front = g .front ++ piece;
+      front = g .front ++ out;
       rest = found .0;
       next = n;
       left = found .2;
-      parts =
-          whole
-          ∙ ap (λ (t : List ℕ). (g .front ++ piece) ++ t)
-          (sym (tail-others at' (found .0) (omega (arith, q, printed-length (run .low) (run .end - 1) low-limit high-limit .0))));
-      at-is = q ∙ omega (arith, length-append (g .front) piece, piece-length, g .at-is);
-      short = omega (arith, q, piece-short);
+      parts = whole ∙ ap (λ (m : ℕ). (g .front ++ out) ++ after y m (pieces k (found .0))) (sym q);
+      at-is = q ∙ omega (arith, length-append (g .front) out, g .at-is);
+      short = omega (arith, q, run-short, run-most y ok at (run .low) (run .end) l (printable .limit));
     }
 
 -- ---- the printed front stands in the buffer
 
-pub record Shown (b : Bits) (e : ℕ) (out : List ℕ) (at : ℕ) (run : Run) (out' : List ℕ) : Type 0 where
-  pub going : PrintingTo b e at run
+pub record Shown (y : Style) (b : Bits) (e : ℕ) (out : List ℕ) (at : ℕ) (run : Run) (out' : List ℕ) : Type 0 where
+  pub going : PrintingTo y b e at run
   pub shown : out' ≡ putAt 0 (going .front) out
 
-pub shown-start : (b : Bits) → Bounded b → (e : ℕ) (out : List ℕ) (run : Run) → NextRun (b .members) e 0 run → Shown b e out 0 run out
+pub shown-start : (y : Style) (b : Bits) → Bounded b → (e : ℕ) (out : List ℕ) (run : Run) → NextRun (b .members) e 0 run → Shown y b e out 0 run out
 unfolding going-start
-shown-start b h e out run n = record { going = going-start b h e run n; shown = puts-none 0 out .leaves }
+shown-start y b h e out run n = record { going = going-start y b h e run n; shown = puts-none 0 out .leaves }
 
-module _ (b : Bits) (e : ℕ) (past : (j : ℕ) → e ≤ j → b .members j ≡ false) (small : e ≤ listLimit + 1) (out : List ℕ) (room : length (textOf b) ≤ length out)
-    (at : ℕ) (run : Run) (out' : List ℕ) (w : Shown b e out at run out') where
-  abbrev g : PrintingTo b e at run
+module _ (y : Style) (ok : Allowed y) (b : Bits) (e : ℕ) (past : (j : ℕ) → e ≤ j → b .members j ≡ false) (small : e ≤ listLimit + 1) (out : List ℕ)
+    (room : length (textOf y b) ≤ length out) (at : ℕ) (run : Run) (out' : List ℕ) (w : Shown y b e out at run out') where
+  abbrev g : PrintingTo y b e at run
   g = w .going
 
   module _ (l : run .low < run .end) where
-    -- the front and the piece lie within the buffer
-    fits : length (g .front) + (length (separator at) + length (printed (range (run .low) (run .end - 1)))) ≤ length out
-    fits = omega (arith, piece-fits b e past small at run g l, g .at-is)
+    abbrev piece : List ℕ
+    piece = after y at (cut (y .shortest) (rangeOf run))
+
+    -- the front and the run lie within the buffer
+    fits : length (g .front) + length piece ≤ length out
+    fits = omega (arith, run-fits y ok b e past small at run g l, g .at-is)
 
     pub shown-long : length out' ≡ length out
     shown-long = ap length (w .shown) ∙ length-put 0 (g .front) out (omega (arith, fits))
 
-    pub shown-room : at + (length (separator at) + length (printed (range (run .low) (run .end - 1)))) ≤ length out'
+    pub shown-room : at + length piece ≤ length out'
     shown-room = omega (arith, fits, shown-long, g .at-is)
 
-    pub shown-more : (at' : ℕ) (run' : Run) (out'' : List ℕ) → Puts at (separator at ++ printed (range (run .low) (run .end - 1))) at' out' out''
-        → NextRun (b .members) e (run .end) run' → Shown b e out at' run' out''
+    pub shown-more : (at' : ℕ) (run' : Run) (out'' : List ℕ) → Puts at piece at' out' out'' → NextRun (b .members) e (run .end) run' → Shown y b e out at' run' out''
     unfolding going-more
     shown-more at' run' out'' q n = record {
-      going = going-more b e past small at run g l at' run' (q .next ∙ ap (λ (k : ℕ). at + k) (length-append (separator at) (printed (range (run .low) (run .end - 1))))) n;
+      going = going-more y ok b e past small at run g l at' run' (q .next) n;
       shown =
           q .leaves
-          ∙ ap₂ (λ (k : ℕ) (o : List ℕ). putAt k (separator at ++ printed (range (run .low) (run .end - 1))) o) (g .at-is ∙ omega arith) (w .shown)
-          ∙ put-then 0 (g .front) (separator at ++ printed (range (run .low) (run .end - 1))) out
-          (omega (arith, fits, length-append (separator at) (printed (range (run .low) (run .end - 1)))));
+          ∙ ap₂ (λ (k : ℕ) (o : List ℕ). putAt k piece o) (g .at-is ∙ omega arith) (w .shown)
+          ∙ put-then 0 (g .front) piece out (omega (arith, fits));
     }
 
-  pub shown-end : run .end ≤ run .low → out' ≡ putAt 0 (textOf b) out
-  shown-end l = w .shown ∙ ap (λ (t : List ℕ). putAt 0 t out) (sym (going-end b e past small at run g l))
+  pub shown-end : run .end ≤ run .low → out' ≡ putAt 0 (textOf y b) out
+  shown-end l = w .shown ∙ ap (λ (t : List ℕ). putAt 0 t out) (sym (going-end y ok b e past small at run g l))
 
   pub end-long : run .end ≤ run .low → length out' ≡ length out
-  end-long l = ap length (shown-end l) ∙ length-put 0 (textOf b) out (omega arith)
+  end-long l = ap length (shown-end l) ∙ length-put 0 (textOf y b) out (omega arith)
 
 -- ---- the call
 
-module _ (ws : List ℕ) (b : Bitmap) (out : List ℕ) where
-  pub prints-stopped : (e : Refusal) → Stop e ≡ checked ws b Stop Pass → Prints ws b out (Amount.Refused e) out
+module _ (y : Style) (ws : List ℕ) (b : Bitmap) (out : List ℕ) where
+  pub prints-stopped : (e : Refusal) → Stop e ≡ checked ws b Stop Pass → Prints y ws b out (Amount.Refused e) out
   prints-stopped e q = record {
-    answers = sym (reading-stopped ws b e Amount.Refused (λ s. fitted (textOf s) out) q);
-    leaves = sym (reading-stopped ws b e (λ d. out) (λ s. replaced (textOf s) out) q);
+    answers = sym (reading-stopped ws b e Amount.Refused (listAnswer y out) q);
+    leaves = sym (reading-stopped ws b e (λ d. out) (listBuffer y out) q);
   }
 
-  module _ (p : Passed ws b) (len : ℕ) (el : len ≡ length (textOf (held ws b))) where
-    abbrev t : List ℕ
-    t = textOf (held ws b)
+  module _ (p : Passed ws b) where
+    pub prints-no-style : allowed y ≡ false → Prints y ws b out (Amount.Refused BadStyle) out
+    prints-no-style a = record {
+      answers =
+          sym (reading-ok ws b Amount.Refused (listAnswer y out) p ∙ ap (λ (x : Bool). choose x (fitted (textOf y (held ws b)) out) (Amount.Refused BadStyle)) a);
+      leaves = sym (reading-ok ws b (λ d. out) (listBuffer y out) p ∙ ap (λ (x : Bool). choose x (replaced (textOf y (held ws b)) out) out) a);
+    }
 
-    pub prints-short : length out < len → Prints ws b out (Amount.Refused NoSpace) out
-    prints-short h =
-        let q : leb (length t) (length out) ≡ false = lt-leb (length t) (length out) (omega arith) in
-        record {
-          answers =
-              sym (reading-ok ws b Amount.Refused (λ s. fitted (textOf s) out) p ∙ ap (λ (x : Bool). choose x (Amount.Is (length t)) (Amount.Refused NoSpace)) q);
-          leaves = sym (reading-ok ws b (λ d. out) (λ s. replaced (textOf s) out) p ∙ ap (λ (x : Bool). choose x (t ++ drop (length t) out) out) q);
-        }
+    module _ (a : allowed y ≡ true) (len : ℕ) (el : len ≡ length (textOf y (held ws b))) where
+      abbrev t : List ℕ
+      t = textOf y (held ws b)
 
-    pub prints-done : (out' : List ℕ) → len ≤ length out → out' ≡ putAt 0 t out → Prints ws b out (Amount.Is len) out'
-    unfolding putAt
-    prints-done out' h e =
-        let q : leb (length t) (length out) ≡ true = le-leb (length t) (length out) (omega arith) in
-        record {
-          answers =
-              ap Amount.Is el
-              ∙ sym (reading-ok ws b Amount.Refused (λ s. fitted (textOf s) out) p ∙ ap (λ (x : Bool). choose x (Amount.Is (length t)) (Amount.Refused NoSpace)) q);
-          leaves = e ∙ sym (reading-ok ws b (λ d. out) (λ s. replaced (textOf s) out) p ∙ ap (λ (x : Bool). choose x (t ++ drop (length t) out) out) q);
-        }
+      -- where the style is allowed, whether the text fits is all there is to ask
+      asked : (x : Bool) → leb (length t) (length out) ≡ x
+          → (reading ws b Amount.Refused (listAnswer y out) ≡ choose x (Is (length t)) (Amount.Refused NoSpace))
+          × (reading ws b (λ d. out) (listBuffer y out) ≡ choose x (t ++ drop (length t) out) out)
+      asked x q = (
+        reading-ok ws b Amount.Refused (listAnswer y out) p
+            ∙ ap₂ (λ (u v : Bool). choose u (choose v (Is (length t)) (Amount.Refused NoSpace)) (Amount.Refused BadStyle)) a q,
+        reading-ok ws b (λ d. out) (listBuffer y out) p ∙ ap₂ (λ (u v : Bool). choose u (choose v (t ++ drop (length t) out) out) out) a q,
+      )
+
+      pub prints-short : length out < len → Prints y ws b out (Amount.Refused NoSpace) out
+      prints-short h = let q = asked false (lt-leb (length t) (length out) (omega arith)) in record { answers = sym (q .0); leaves = sym (q .1) }
+
+      pub prints-done : (out' : List ℕ) → len ≤ length out → out' ≡ putAt 0 t out → Prints y ws b out (Amount.Is len) out'
+      unfolding putAt
+      prints-done out' h e =
+          let q = asked true (le-leb (length t) (length out) (omega arith)) in
+          record { answers = ap Amount.Is el ∙ sym (q .0); leaves = e ∙ sym (q .1) }

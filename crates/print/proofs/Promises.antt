@@ -2,7 +2,7 @@
 use mathlib.Core.Path.{_≡_, refl, sym, ap, ap₂, _∙_, subst}
 use mathlib.Core.Bool.{Bool, true, false, false≢true}
 use mathlib.Core.List.{List, [], _∷_, _++_}
-use mathlib.Core.Logic.{inl, inr}
+use mathlib.Core.Logic.{inl, inr, _↔_}
 use Prim.Native.Nat.{ℕ, zero, suc, _+_, _-_, _*_, _^_, _≤_, _<_}
 use native.Mathlib.Nat.{pow-suc}
 use native.Mathlib.Omega.{arith}
@@ -11,14 +11,14 @@ use lib.ListN.{length, take, drop, length-append}
 use lib.Seq.{take-at, drop-at}
 use borrow.Author.Tests.{le-leb, lt-leb}
 use Rattle.word.specs.Sets.{choose}
-use Rattle.word.proofs.Cases.{by-lt}
+use Rattle.word.proofs.Cases.{by-lt, by-test}
 use Rattle.storage.specs.Refusals.{numberOf, amountNumber, amountValue, changeNumber, changeRecord}
 use Rattle.storage.specs.Stores.{Bits, Outcome, done, withCount, spaceOf, checked, view, held, reading, trimmedCount, trimmed, outcome, answer, store}
 use Rattle.storage.specs.Guards.{Passed}
 use Rattle.storage.specs.Promises.{LeastCount}
 use Rattle.storage.specs.declared.Bitmap.{Bitmap}
 use Rattle.storage.specs.declared.Refusal.{Refusal}
-use Rattle.storage.specs.declared.Refusal.the-variants.{NoSpace, NotList}
+use Rattle.storage.specs.declared.Refusal.the-variants.{NoSpace, NotList, BadStyle}
 use Rattle.storage.specs.declared.Amount.{Amount}
 use Rattle.storage.specs.declared.Amount.the-variants.{Is, Refused}
 use Rattle.storage.specs.declared.Change.{Change}
@@ -28,15 +28,20 @@ use Rattle.storage.proofs.Views.{view-count, bounded-view}
 use Rattle.storage.proofs.Stores.{view-written, outcome-ok}
 use Rattle.storage.proofs.Trims.{bounded-trimmed}
 use Rattle.storage.proofs.Promises.{guarded, guarded-map, least-count}
+use Rattle.style.specs.Styles.{allowed}
+use Rattle.style.specs.Promises.{Allowed}
+use Rattle.style.specs.declared.Style.{Style}
+use Rattle.style.proofs.Promises.{styles-mean}
 use Rattle.text.specs.Lists.{plain, Range, range, covers}
 use Rattle.text.specs.Grammar as g
 use Rattle.text.specs.Readings.{empty, token, reads, notList, parsed, parse, readingList}
-use Rattle.print.specs.Texts.{runs, decimal, text, textOf, fitted, replaced, Prints}
-use Rattle.print.specs.Promises.{PrintsShortest, Runs, none, more, PrintsRuns, PrintedRuns, PrintsOne, NotPrinted, TextPut, PrintsText, WriteListMeans, TextMeans, ReadsBack}
+use Rattle.print.specs.Texts.{runs, decimal, pieces, text, textOf, fitted, replaced, listAnswer, listBuffer, Prints}
+use Rattle.print.specs.Forms.{Runs, none, more, PrintedRuns, IsText}
+use Rattle.print.specs.Promises.{PrintsShortest, PrintsRuns, PrintsOne, NotPrinted, TextPut, PutOrShort, PrintsText, WriteListMeans, RefusesStyle, TextMeans, ReadsBack}
 use Rattle.print.proofs.Decimals.{decimal-digits, digits-most}
 use Rattle.print.proofs.Printed.{runs-printed, printed-only}
 use Rattle.print.proofs.Runs.{runs-are, runs-cover}
-use Rattle.print.proofs.ReadBack.{prints-nothing, text-is-list, reads-back}
+use Rattle.print.proofs.ReadBack.{prints-nothing, text-is-list, lists-members, reads-back}
 use Rattle.text.proofs.Taken.{list-is}
 use Rattle.text.proofs.Promises.{covers-within, within-covers}
 
@@ -89,57 +94,94 @@ prints-runs b h = record {
 -- ---- the text of a bitmap
 
 pub prints-one : PrintsOne
-prints-one b h t =
+prints-one y ok b h t =
     let has = runs-are b h in (
-      λ x. printed-only (x .2) ∙ ap text (runs-only (b .members) 0 (x .0) (runs b) (x .1) has),
-      λ e. (runs b, has, subst (λ (u : List ℕ). PrintedRuns u (runs b)) (sym e) (runs-printed (b .members) 0 (runs b) has)),
+      λ x. printed-only y ok (x .2) ∙ ap (λ (rs : List Range). text y (pieces (y .shortest) rs)) (runs-only (b .members) 0 (x .0) (runs b) (x .1) has),
+      λ e. (runs b, has, subst (λ (u : List ℕ). PrintedRuns y u (runs b)) (sym e) (runs-printed y ok (b .members) 0 (runs b) has)),
     )
 
 none-plain : plain [] ≡ true
 unfolding plain
 none-plain = refl
 
-none-parsed : parse [] ≡ notList
+none-parsed : (y : Style) → parse y [] ≡ notList
 unfolding parse reads parsed token empty
-none-parsed = refl
+none-parsed y = refl
 
 pub text-of : TextMeans
-text-of b h small = record {
-  empty = prints-nothing b h small;
-  refused = λ c old. (NotList, list-is [] c old notList none-plain none-parsed, refl);
-  some = text-is-list b h small;
+text-of y ok b h small = record {
+  empty = prints-nothing y ok b h small;
+  refused = λ c old. (NotList, list-is y [] c old notList (styles-mean y .0 ok) none-plain (none-parsed y), refl);
+  some = λ i e.
+      let ps : List Range = pieces (y .shortest) (runs b) in
+      let m : (j : ℕ) → covers ps j ≡ b .members j = lists-members y ok b h small i e in
+      (ps, text-is-list y ok b h small i e, λ j. (λ w. sym (m j) ∙ within-covers ps j w, λ q. covers-within ps j (m j ∙ q)));
 }
 
 -- ---- the call that prints
 
-module _ (ws : List ℕ) (b : Bitmap) (out : List ℕ) (r : Amount) (out' : List ℕ) (p : Prints ws b out r out') where
+module _ (y : Style) (ws : List ℕ) (b : Bitmap) (out : List ℕ) (r : Amount) (out' : List ℕ) (p : Prints y ws b out r out') where
   abbrev t : List ℕ
-  t = textOf (held ws b)
-
-  -- where the store passes, whether the text fits is all there is to ask
-  asked : (x : Bool) → Passed ws b → leb (length t) (length out) ≡ x
-      → (r ≡ choose x (Is (length t)) (Amount.Refused NoSpace)) × (out' ≡ choose x (t ++ drop (length t) out) out)
-  asked x q e = (
-    p .answers ∙ reading-ok ws b Amount.Refused (λ s. fitted (textOf s) out) q ∙ ap (λ (x : Bool). choose x (Is (length t)) (Amount.Refused NoSpace)) e,
-    p .leaves ∙ reading-ok ws b (λ e. out) (λ s. replaced (textOf s) out) q ∙ ap (λ (x : Bool). choose x (t ++ drop (length t) out) out) e,
-  )
+  t = textOf y (held ws b)
 
   stopped : (e : Refusal) → r ≡ Amount.Refused e → out' ≡ out → NotPrinted out (amountNumber r) (amountValue r) out' (numberOf e)
   stopped e q w = record { hands = (ap amountNumber q, ap amountValue q); bytes = w }
 
-  lacking : Passed ws b → length out < length t → NotPrinted out (amountNumber r) (amountValue r) out' 6
-  lacking q l = let a = asked false q (lt-leb (length t) (length out) l) in stopped NoSpace (a .0) (a .1)
+  module _ (q : Passed ws b) where
+    -- where the store passes: a style that is not allowed
+    pub no-style : (Allowed y → ⊥) → NotPrinted out (amountNumber r) (amountValue r) out' 15
+    no-style f = by-test (allowed y) (λ a. absurd (f (styles-mean y .1 a))) (λ a. stopped BadStyle (said a .0) (said a .1))
+      where
+        said : allowed y ≡ false → (r ≡ Amount.Refused BadStyle) × (out' ≡ out)
+        said a = (
+          p .answers ∙ reading-ok ws b Amount.Refused (listAnswer y out) q ∙ ap (λ (x : Bool). choose x (fitted t out) (Amount.Refused BadStyle)) a,
+          p .leaves ∙ reading-ok ws b (λ e. out) (listBuffer y out) q ∙ ap (λ (x : Bool). choose x (replaced t out) out) a,
+        )
 
-  pub text-put : Passed ws b → length t ≤ length out → TextPut t out (amountNumber r) (amountValue r) out'
-  text-put q l =
-      let f = asked true q (le-leb (length t) (length out) l) in
-      let v : amountValue r ≡ length t = ap amountValue (f .0) in
-      record {
-        number = ap amountNumber (f .0);
-        value = v;
-        front = ap (take (amountValue r)) (f .1) ∙ take-at t (drop (length t) out) (amountValue r) (sym v);
-        past = ap (drop (amountValue r)) (f .1) ∙ drop-at t (drop (length t) out) (amountValue r) (sym v) ∙ ap (λ (m : ℕ). drop m out) (sym v);
-      }
+    -- else whether the text fits is all there is to ask
+    module _ (ok : Allowed y) where
+      asked : (x : Bool) → leb (length t) (length out) ≡ x
+          → (r ≡ choose x (Is (length t)) (Amount.Refused NoSpace)) × (out' ≡ choose x (t ++ drop (length t) out) out)
+      asked x e =
+          let a : allowed y ≡ true = styles-mean y .0 ok in (
+            p .answers ∙ reading-ok ws b Amount.Refused (listAnswer y out) q
+                ∙ ap₂ (λ (u v : Bool). choose u (choose v (Is (length t)) (Amount.Refused NoSpace)) (Amount.Refused BadStyle)) a e,
+            p .leaves ∙ reading-ok ws b (λ e. out) (listBuffer y out) q ∙ ap₂ (λ (u v : Bool). choose u (choose v (t ++ drop (length t) out) out) out) a e,
+          )
+
+      lacking : length out < length t → NotPrinted out (amountNumber r) (amountValue r) out' 6
+      lacking l = let a = asked false (lt-leb (length t) (length out) l) in stopped NoSpace (a .0) (a .1)
+
+      pub text-put : length t ≤ length out → TextPut t out (amountNumber r) (amountValue r) out'
+      text-put l =
+          let f = asked true (le-leb (length t) (length out) l) in
+          let v : amountValue r ≡ length t = ap amountValue (f .0) in
+          record {
+            number = ap amountNumber (f .0);
+            value = v;
+            front = ap (take (amountValue r)) (f .1) ∙ take-at t (drop (length t) out) (amountValue r) (sym v);
+            past = ap (drop (amountValue r)) (f .1) ∙ drop-at t (drop (length t) out) (amountValue r) (sym v) ∙ ap (λ (m : ℕ). drop m out) (sym v);
+          }
+
+      pub put-or-short : PutOrShort (IsText y (held ws b .members)) out (amountNumber r) (amountValue r) out'
+      put-or-short = (
+        t,
+        prints-one y ok (held ws b) (bounded-view ws (b .count)) t .1 refl,
+        by-lt (length out) (length t) (λ l. inr (l, lacking l)) (λ l. inl (l, text-put l)),
+      )
+
+      pub text-fits : amountNumber r ≡ 0 → length t ≤ length out
+      text-fits z = by-lt (length out) (length t) (λ l. absurd (omega (arith, lacking l .hands .0))) (λ l. l)
+
+      not-15 : amountNumber r ≡ 15 → ⊥
+      not-15 z = by-lt (length out) (length t) (λ l. omega (arith, z, lacking l .hands .0)) (λ l. omega (arith, z, text-put l .number))
+
+    -- a text that was printed has an allowed style
+    pub was-allowed : amountNumber r ≡ 0 → Allowed y
+    was-allowed z = by-test (allowed y) (λ a. styles-mean y .1 a) (λ a. absurd (omega (arith, z, no-style (λ ok. false≢true (sym a ∙ styles-mean y .0 ok)) .hands .0)))
+
+    only-15 : (Allowed y → ⊥) ↔ (amountNumber r ≡ 15)
+    only-15 = (λ f. no-style f .hands .0, λ z ok. not-15 ok z)
 
   -- the answer and the buffer are refused by one guard
   abbrev kept : Refusal → Amount × List ℕ
@@ -150,38 +192,35 @@ module _ (ws : List ℕ) (b : Bitmap) (out : List ℕ) (r : Amount) (out' : List
   pair-is =
       by-guard ws b
       (λ e s.
-      ap₂ (λ (x : Amount) (y : List ℕ). (x, y)) (p .answers ∙ s _ Amount.Refused (fitted t out)) (p .leaves ∙ s _ (λ e. out) (replaced t out))
+      ap₂ (λ (x : Amount) (y : List ℕ). (x, y)) (p .answers ∙ s _ Amount.Refused (listAnswer y out (held ws b))) (p .leaves ∙ s _ (λ e. out) (listBuffer y out (held ws b)))
       ∙ sym (s _ kept (r, out')))
       (λ q. sym (checked-ok ws b kept (r, out') q))
 
-  call-means : PrintsText ws b out (amountNumber r) (amountValue r) out'
+  call-means : PrintsText y ws b out (amountNumber r) (amountValue r) out'
   call-means =
       guarded-map
-      (λ q u. (
-        t,
-        prints-one (held ws b) (bounded-view ws (b .count)) t .1 refl,
-        by-lt (length out) (length t) (λ l. inr (l, lacking q l)) (λ l. inl (l, text-put q l)),
-      ))
+      (λ q u. record { stop = no-style q; rest = put-or-short q })
       (guarded ws b kept (r, out') (λ x k. NotPrinted out (amountNumber (x .0)) (amountValue (x .0)) (x .1) k) (λ x. Unit {0})
       (λ e. record { hands = (refl, refl); bytes = refl }) (λ q. tt) (r, out') pair-is)
 
-  pub text-fits : Passed ws b → amountNumber r ≡ 0 → length t ≤ length out
-  text-fits q z = by-lt (length out) (length t) (λ l. absurd (omega (arith, lacking q l .hands .0))) (λ l. l)
-
 pub prints-text : WriteListMeans
-prints-text ws b out r out' p = call-means ws b out r out' p
+prints-text y ws b out r out' p = call-means y ws b out r out' p
+
+pub refuses-style : RefusesStyle
+refuses-style y ws b out r out' q p = only-15 y ws b out r out' p q
 
 -- ---- one call after the other
 
 pub there-and-back : ReadsBack
 unfolding answer store
-there-and-back ws b i out out' a q e p z us us' o r m u fewest space c =
+there-and-back y ws b i out out' a q e p z us us' o r m u fewest space c =
     let n = b .count in
-    let put = text-put ws b out a out' p q (text-fits ws b out a out' p q z) in
-    let made : outcome (readingList (take (amountValue a) out')) us o ≡ done (trimmed (held ws b)) =
-    outcome-ok (readingList (take (amountValue a) out')) us o u
-    ∙ ap (λ (t : List ℕ). readingList t (spaceOf us) (held us o)) (put .front)
-    ∙ reads-back (held ws b) (bounded-view ws n) (omega (arith, q, view-count ws n)) i e (spaceOf us) (held us o) (omega (arith, count)) in
+    let ok : Allowed y = was-allowed y ws b out a out' p q z in
+    let put = text-put y ws b out a out' p q ok (text-fits y ws b out a out' p q ok z) in
+    let made : outcome (readingList y (take (amountValue a) out')) us o ≡ done (trimmed (held ws b)) =
+    outcome-ok (readingList y (take (amountValue a) out')) us o u
+    ∙ ap (λ (t : List ℕ). readingList y t (spaceOf us) (held us o)) (put .front)
+    ∙ reads-back y ok (held ws b) (bounded-view ws n) (omega (arith, q, view-count ws n)) i e (spaceOf us) (held us o) (omega (arith, count)) in
     let answered : r ≡ Done (withCount o (trimmed (held ws b) .count)) = c .answers ∙ ap (λ (x : Outcome). answer x o) made in (
       ap changeNumber answered,
       ap (λ (x : Change). changeRecord x .count) answered ∙ count,

@@ -11,58 +11,68 @@ use Rattle.word.specs.Sets.{choose}
 use Rattle.word.proofs.Cases.{by-lt, and-true}
 use Rattle.word.proofs.Lists.{word-zero}
 use Rattle.storage.specs.Stores as stores
-use Rattle.storage.specs.Stores.{Bits, Bounded, done, trimmedCount, trimmed}
+use Rattle.storage.specs.Stores.{Bits, Bounded, trimmedCount, trimmed}
 use Rattle.storage.proofs.Checks.{within-ok}
 use Rattle.storage.proofs.Trims.{trimmed-is}
-use Rattle.text.specs.Lists.{comma, joiner, listLimit, plain, Range, range, highest}
+use Rattle.style.specs.Promises.{Allowed}
+use Rattle.style.specs.declared.Style.{Style}
+use Rattle.style.proofs.Promises.{styles-mean}
+use Rattle.text.specs.Lists.{comma, listLimit, plain, Range, range, covers, highest}
 use Rattle.text.specs.Grammar as g
 use Rattle.text.specs.Readings.{ranges, union, readingList}
-use Rattle.print.specs.Texts.{runs, decimal, printed, others, text, textOf}
-use Rattle.print.specs.Promises.{Runs, none, more}
+use Rattle.print.specs.Texts.{runs, decimal, pieces, printed, gap, others, text, textOf}
 use Rattle.print.proofs.Decimals.{decimal-digits}
 use Rattle.text.proofs.Accepts.{blank-low, complete}
-use Rattle.print.proofs.Runs.{runs-are, runs-cover}
+use Rattle.print.proofs.Runs.{runs-are, Parted, done, piece, parted-cover, pieces-parted}
 use Rattle.text.proofs.Taken.{list-is}
 
 -- ---- what is printed is a list of the grammar
 
-decimal-number : (n : ℕ) → n ≤ listLimit → g.Numeral (decimal n) n
-decimal-number n h = subst (λ (t : List ℕ). g.Numeral t n) (append-nil (decimal n)) (g.number g.nil (decimal-digits n) g.nil h)
+decimal-number : (y : Style) (n : ℕ) → n ≤ listLimit → g.Numeral y (decimal (n + y .first)) n
+decimal-number y n h =
+    subst (λ (t : List ℕ). g.Numeral y t n) (append-nil (decimal (n + y .first))) (g.number g.nil (decimal-digits (n + y .first)) g.nil h)
 
 -- ranges that a list may hold
 data Fit : List Range → Type 0 where
   fitNone : Fit []
   fitMore : {r : Range} {rs : List Range} → r .low ≤ r .high → r .high ≤ listLimit → Fit rs → Fit (r ∷ rs)
 
-printed-token : (r : Range) → r .low ≤ r .high → r .high ≤ listLimit → g.Token (printed r) r
+printed-token : (y : Style) (r : Range) → r .low ≤ r .high → r .high ≤ listLimit → g.Token y (printed y r) r
 unfolding printed
-printed-token r h l = go (eqb (r .low) (r .high)) refl
+printed-token y r h l = go (eqb (r .low) (r .high)) refl
   where
-    go : (t : Bool) → eqb (r .low) (r .high) ≡ t → g.Token (choose t (decimal (r .low)) (decimal (r .low) ++ joiner ∷ decimal (r .high))) r
+    go : (t : Bool) → eqb (r .low) (r .high) ≡ t
+        → g.Token y (choose t (decimal (r .low + y .first)) (decimal (r .low + y .first) ++ y .joiner ∷ decimal (r .high + y .first))) r
     go true e =
-        subst (λ (b : ℕ). g.Token (decimal (r .low)) (range (r .low) b)) (eqb-true (r .low) (r .high) e) (g.single (decimal-number (r .low) (omega arith)))
-    go false e = g.pair (decimal-number (r .low) (omega arith)) (decimal-number (r .high) l) h
+        subst (λ (b : ℕ). g.Token y (decimal (r .low + y .first)) (range (r .low) b)) (eqb-true (r .low) (r .high) e) (g.single (decimal-number y (r .low) (omega arith)))
+    go false e = g.pair (decimal-number y (r .low) (omega arith)) (decimal-number y (r .high) l) h
 
 -- a blank before a token
-blank-number : {t : List ℕ} {v : ℕ} → g.Numeral t v → g.Numeral (32 ∷ t) v
+blank-number : {y : Style} {t : List ℕ} {v : ℕ} → g.Numeral y t v → g.Numeral y (32 ∷ t) v
 blank-number (g.number b d w h) = g.number (g.cons (inl refl) b) d w h
 
-blank-token : {t : List ℕ} {r : Range} → g.Token t r → g.Token (32 ∷ t) r
+blank-token : {y : Style} {t : List ℕ} {r : Range} → g.Token y t r → g.Token y (32 ∷ t) r
 blank-token (g.single x) = g.single (blank-number x)
-blank-token (g.pair x y h) = g.pair (blank-number x) y h
+blank-token (g.pair x z h) = g.pair (blank-number x) z h
 
-others-listed : (t : List ℕ) (r : Range) (rs : List Range) → g.Token t r → Fit rs → g.Listed (t ++ others rs) (r ∷ rs)
+others-listed : (y : Style) (t : List ℕ) (r : Range) (rs : List Range) → g.Token y t r → Fit rs → g.Listed y (t ++ others y rs) (r ∷ rs)
 unfolding others
-others-listed t r [] x fitNone = subst (λ (z : List ℕ). g.Listed z (r ∷ [])) (sym (append-nil t)) (g.last x)
-others-listed t r (q ∷ rs) x (fitMore h l f) = g.more x (others-listed (32 ∷ printed q) q rs (blank-token (printed-token q h l)) f)
+others-listed y t r [] x fitNone = subst (λ (z : List ℕ). g.Listed y z (r ∷ [])) (sym (append-nil t)) (g.last x)
+others-listed y t r (q ∷ rs) x (fitMore h l f) =
+    go (y .blank) (others-listed y (32 ∷ printed y q) q rs (blank-token (printed-token y q h l)) f) (others-listed y (printed y q) q rs (printed-token y q h l) f)
+  where
+    go : (b : Bool) → g.Listed y (32 ∷ (printed y q ++ others y rs)) (q ∷ rs) → g.Listed y (printed y q ++ others y rs) (q ∷ rs)
+        → g.Listed y (t ++ (gap b ++ (printed y q ++ others y rs))) (r ∷ q ∷ rs)
+    go true a b = g.more x a
+    go false a b = g.more x b
 
-text-listed : (r : Range) (rs : List Range) → Fit (r ∷ rs) → g.Listed (text (r ∷ rs)) (r ∷ rs)
+text-listed : (y : Style) (r : Range) (rs : List Range) → Fit (r ∷ rs) → g.Listed y (text y (r ∷ rs)) (r ∷ rs)
 unfolding text
-text-listed r rs (fitMore h l f) = others-listed (printed r) r rs (printed-token r h l) f
+text-listed y r rs (fitMore h l f) = others-listed y (printed y r) r rs (printed-token y r h l) f
 
-runs-fit : (s : ℕ → Bool) (i : ℕ) (rs : List Range) → Runs s i rs → ((j : ℕ) → s j ≡ true → j ≤ listLimit) → Fit rs
-runs-fit s i [] (none f) h = fitNone
-runs-fit s i (r ∷ rs) (more a b f m z x) h = fitMore b (h (r .high) (m (r .high) b (omega arith))) (runs-fit s (r .high + 1) rs x h)
+parted-fit : (s : ℕ → Bool) (i : ℕ) (rs : List Range) → Parted s i rs → ((j : ℕ) → s j ≡ true → j ≤ listLimit) → Fit rs
+parted-fit s i [] (done f) h = fitNone
+parted-fit s i (r ∷ rs) (piece a b f m x) h = fitMore b (h (r .high) (m (r .high) b (omega arith))) (parted-fit s (r .high + 1) rs x h)
 
 -- ---- its bytes are below 128
 
@@ -92,17 +102,19 @@ plain-digits : {t : List ℕ} {v : ℕ} → g.Digits t v → plain t ≡ true
 plain-digits (g.one {c = c} e) = plain-cons c [] (omega (arith, e .1)) plain-nil
 plain-digits (g.more {t = t} c d e) = plain-append t (c ∷ []) (plain-digits d) (plain-cons c [] (omega (arith, e .1)) plain-nil)
 
-plain-number : {t : List ℕ} {v : ℕ} → g.Numeral t v → plain t ≡ true
-plain-number (g.number {u = u} {d = d} {w = w} b x y h) = plain-append (u ++ d) w (plain-append u d (plain-blanks b) (plain-digits x)) (plain-blanks y)
+module _ (y : Style) (ok : Allowed y) where
+  plain-number : {t : List ℕ} {v : ℕ} → g.Numeral y t v → plain t ≡ true
+  plain-number (g.number {u = u} {d = d} {w = w} b x z h) = plain-append (u ++ d) w (plain-append u d (plain-blanks b) (plain-digits x)) (plain-blanks z)
 
-plain-token : {t : List ℕ} {r : Range} → g.Token t r → plain t ≡ true
-plain-token (g.single x) = plain-number x
-plain-token (g.pair {t = t} {u = u} x y h) = plain-append t (joiner ∷ u) (plain-number x) (plain-cons joiner u (omega arith) (plain-number y))
+  plain-token : {t : List ℕ} {r : Range} → g.Token y t r → plain t ≡ true
+  plain-token (g.single x) = plain-number x
+  plain-token (g.pair {t = t} {u = u} x z h) =
+      plain-append t (y .joiner ∷ u) (plain-number x) (plain-cons (y .joiner) u (omega (arith, ok .joiner .printable .1)) (plain-number z))
 
-pub plain-listed : {t : List ℕ} {rs : List Range} → g.Listed t rs → plain t ≡ true
-plain-listed (g.last x) = plain-token x
-plain-listed (g.ended {t = t} {u = u} x b) = plain-append t (comma ∷ u) (plain-token x) (plain-cons comma u (omega arith) (plain-blanks b))
-plain-listed (g.more {t = t} {u = u} x l) = plain-append t (comma ∷ u) (plain-token x) (plain-cons comma u (omega arith) (plain-listed l))
+  pub plain-listed : {t : List ℕ} {rs : List Range} → g.Listed y t rs → plain t ≡ true
+  plain-listed (g.last x) = plain-token x
+  plain-listed (g.ended {t = t} {u = u} x b) = plain-append t (comma ∷ u) (plain-token x) (plain-cons comma u (omega arith) (plain-blanks b))
+  plain-listed (g.more {t = t} {u = u} x l) = plain-append t (comma ∷ u) (plain-token x) (plain-cons comma u (omega arith) (plain-listed l))
 
 -- ---- the largest number is a member, and the last
 
@@ -111,13 +123,13 @@ record Last (s : ℕ → Bool) (i t : ℕ) : Type 0 where
   from : i ≤ t
   past : (j : ℕ) → t < j → s j ≡ false
 
-runs-last : (s : ℕ → Bool) (i : ℕ) (r : Range) (rs : List Range) → Runs s i (r ∷ rs) → Last s i (highest (r ∷ rs))
+parted-last : (s : ℕ → Bool) (i : ℕ) (r : Range) (rs : List Range) → Parted s i (r ∷ rs) → Last s i (highest (r ∷ rs))
 unfolding highest
-runs-last s i r [] (more a b f m z (none x)) =
+parted-last s i r [] (piece a b f m (done x)) =
     let e : max (r .high) 0 ≡ r .high = omega arith in
     record { at = ap s e ∙ m (r .high) b (omega arith); from = omega arith; past = λ j h. x j (omega arith) }
-runs-last s i r (q ∷ rs) (more a b f m z x) =
-    let l = runs-last s (r .high + 1) q rs x in
+parted-last s i r (q ∷ rs) (piece a b f m x) =
+    let l = parted-last s (r .high + 1) q rs x in
     let e : max (r .high) (highest (q ∷ rs)) ≡ highest (q ∷ rs) = omega (arith, l .from) in
     record { at = ap s e ∙ l .at; from = omega (arith, l .from, e); past = λ j h. l .past j (omega (arith, e)) }
 
@@ -131,39 +143,49 @@ words-needed s n t low l =
 
 -- ---- of a bitmap
 
-module _ (b : Bits) (h : Bounded b) (small : b .count ≤ stores.storeLimit) where
+module _ (y : Style) (ok : Allowed y) (b : Bits) (h : Bounded b) (small : b .count ≤ stores.storeLimit) where
   below : (j : ℕ) → b .members j ≡ true → j < 64 * b .count
   below j e = by-lt j (64 * b .count) (λ p. p) (λ p. absurd (false≢true (sym (h .past j p) ∙ e)))
 
+  -- the pieces that are printed
+  abbrev written : List Range
+  written = pieces (y .shortest) (runs b)
+
+  parted : Parted (b .members) 0 written
+  parted = pieces-parted (y .shortest) (b .members) 0 (runs b) (runs-are b h)
+
   -- an empty set prints nothing
-  pub prints-nothing : ((j : ℕ) → b .members j ≡ false) → textOf b ≡ []
+  pub prints-nothing : ((j : ℕ) → b .members j ≡ false) → textOf y b ≡ []
   unfolding text
-  prints-nothing z = ap text (go (runs b) (runs-are b h))
+  prints-nothing z = ap (text y) (go written parted)
     where
-      go : (rs : List Range) → Runs (b .members) 0 rs → rs ≡ []
+      go : (rs : List Range) → Parted (b .members) 0 rs → rs ≡ []
       go [] x = refl
-      go (r ∷ rs) (more p q f m e x) = absurd (false≢true (sym (z (r .low)) ∙ m (r .low) (omega arith) q))
+      go (r ∷ rs) (piece p q f m x) = absurd (false≢true (sym (z (r .low)) ∙ m (r .low) (omega arith) q))
 
   module _ (i : ℕ) (e : b .members i ≡ true) where
-    listed-runs : (rs : List Range) → Runs (b .members) 0 rs → g.Listed (text rs) rs
-    listed-runs [] (none f) = absurd (false≢true (sym (f i (omega arith)) ∙ e))
-    listed-runs (r ∷ rs) x = text-listed r rs (runs-fit (b .members) 0 (r ∷ rs) x (λ j q. omega (arith, below j q)))
+    listed-pieces : (rs : List Range) → Parted (b .members) 0 rs → g.Listed y (text y rs) rs
+    listed-pieces [] (done f) = absurd (false≢true (sym (f i (omega arith)) ∙ e))
+    listed-pieces (r ∷ rs) x = text-listed y r rs (parted-fit (b .members) 0 (r ∷ rs) x (λ j q. omega (arith, below j q)))
 
-    pub text-is-list : g.Listed (textOf b) (runs b)
-    text-is-list = listed-runs (runs b) (runs-are b h)
+    pub text-is-list : g.Listed y (textOf y b) written
+    text-is-list = listed-pieces written parted
 
-    pub reads-back : (c : ℕ) (old : Bits) → trimmedCount (b .members) (b .count) ≤ c → readingList (textOf b) c old ≡ done (trimmed b)
-    reads-back c old space = go (runs b) (runs-are b h)
+    pub lists-members : (j : ℕ) → covers written j ≡ b .members j
+    lists-members j = parted-cover (b .members) 0 written parted j (omega arith)
+
+    pub reads-back : (c : ℕ) (old : Bits) → trimmedCount (b .members) (b .count) ≤ c → readingList y (textOf y b) c old ≡ stores.done (trimmed b)
+    reads-back c old space = go written parted
       where
-        go : (rs : List Range) → Runs (b .members) 0 rs → readingList (text rs) c old ≡ done (trimmed b)
-        go [] (none f) = absurd (false≢true (sym (f i (omega arith)) ∙ e))
+        go : (rs : List Range) → Parted (b .members) 0 rs → readingList y (text y rs) c old ≡ stores.done (trimmed b)
+        go [] (done f) = absurd (false≢true (sym (f i (omega arith)) ∙ e))
         go (r ∷ rs) x =
-            list-is (text (r ∷ rs)) c old (ranges (r ∷ rs)) (plain-listed (listed-runs (r ∷ rs) x)) (complete (listed-runs (r ∷ rs) x))
+            list-is y (text y (r ∷ rs)) c old (ranges (r ∷ rs)) (styles-mean y .0 ok) (plain-listed y ok (listed-pieces (r ∷ rs) x)) (complete y ok (listed-pieces (r ∷ rs) x))
             ∙ within-ok c (union (r ∷ rs)) (omega (arith, count))
-            ∙ ap done (λ k. record { members = fun-ext (λ j. runs-cover (b .members) 0 (r ∷ rs) x j (omega arith)) k; count = sym count k })
+            ∙ ap stores.done (λ k. record { members = fun-ext (λ j. parted-cover (b .members) 0 (r ∷ rs) x j (omega arith)) k; count = sym count k })
           where
             last : Last (b .members) 0 (highest (r ∷ rs))
-            last = runs-last (b .members) 0 r rs x
+            last = parted-last (b .members) 0 r rs x
 
             count : trimmedCount (b .members) (b .count) ≡ highest (r ∷ rs) / 64 + 1
             count = words-needed (b .members) (b .count) (highest (r ∷ rs)) (omega (arith, below (highest (r ∷ rs)) (last .at))) last

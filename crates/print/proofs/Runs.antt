@@ -1,18 +1,18 @@
 -- The maximal runs of a set: that they are found, what they cover, and the next of them by two scans.
 use mathlib.Core.Path.{_≡_, refl, sym, ap, _∙_, subst}
 use mathlib.Core.Bool.{Bool, true, false, not, _&&_, _||_, false≢true}
-use mathlib.Core.List.{List, [], _∷_}
+use mathlib.Core.List.{List, [], _∷_, _++_}
 use Prim.Native.Nat.{ℕ, zero, suc, _+_, _-_, _*_, _/_, _%_, _^_, _≤_, _<_}
 use native.Mathlib.Omega.{arith}
-use lib.Dec.{leb}
+use lib.Dec.{ltb, leb}
 use borrow.Author.Tests.{lt-leb, eq-eqb}
 use Rattle.word.specs.Sets.{choose}
 use Rattle.word.proofs.Cases.{by-lt, by-eq, and-false, zero-one}
 use Rattle.storage.specs.Stores.{Bits, Bounded, view, held, reading, nextFrom}
 use Rattle.text.specs.Lists.{Range, range, covers}
-use Rattle.print.specs.Texts.{Nowhere, From, runsFrom, runs}
+use Rattle.print.specs.Texts.{Nowhere, From, runsFrom, runs, sizeOf, singles, pieces}
 use Rattle.print.specs.Kernels.{NextRun}
-use Rattle.print.specs.Promises.{Runs, none, more}
+use Rattle.print.specs.Forms.{Runs, none, more}
 use Rattle.print.specs.declared.Run.{Run}
 use Rattle.text.proofs.Marks.{betweenMarks, between-in}
 use lib.Bits.{bitAnd}
@@ -83,21 +83,64 @@ between-below a b i h = ap (λ (t : Bool). t && leb i b) (lt-leb a i h)
 between-above : (a b i : ℕ) → b < i → betweenMarks a b i ≡ false
 between-above a b i h = ap (λ (t : Bool). leb a i && t) (lt-leb i b h) ∙ and-false (leb a i)
 
-runs-below : (s : ℕ → Bool) (i : ℕ) (rs : List Range) → Runs s i rs → (j : ℕ) → j < i → covers rs j ≡ false
+-- the pieces of s from i on, rising: no member before a piece, all of it members; and none after the last
+pub data Parted (s : ℕ → Bool) : ℕ → List Range → Type 0 where
+  done : {i : ℕ} → ((j : ℕ) → i ≤ j → s j ≡ false) → Parted s i []
+  piece : {i : ℕ} {r : Range} {rs : List Range} → i ≤ r .low → r .low ≤ r .high → ((j : ℕ) → i ≤ j → j < r .low → s j ≡ false)
+      → ((j : ℕ) → r .low ≤ j → j ≤ r .high → s j ≡ true) → Parted s (r .high + 1) rs → Parted s i (r ∷ rs)
+
+runs-parted : (s : ℕ → Bool) (i : ℕ) (rs : List Range) → Runs s i rs → Parted s i rs
+runs-parted s i [] (none f) = done f
+runs-parted s i (r ∷ rs) (more a b f m z x) = piece a b f m (runs-parted s (r .high + 1) rs x)
+
+parted-below : (s : ℕ → Bool) (i : ℕ) (rs : List Range) → Parted s i rs → (j : ℕ) → j < i → covers rs j ≡ false
 unfolding covers
-runs-below s i [] (none f) j h = refl
-runs-below s i (r ∷ rs) (more a b f m z x) j h =
-    ap (λ (t : Bool). t || covers rs j) (between-below (r .low) (r .high) j (omega arith)) ∙ runs-below s (r .high + 1) rs x j (omega arith)
+parted-below s i [] (done f) j h = refl
+parted-below s i (r ∷ rs) (piece a b f m x) j h =
+    ap (λ (t : Bool). t || covers rs j) (between-below (r .low) (r .high) j (omega arith)) ∙ parted-below s (r .high + 1) rs x j (omega arith)
+
+pub parted-cover : (s : ℕ → Bool) (i : ℕ) (rs : List Range) → Parted s i rs → (j : ℕ) → i ≤ j → covers rs j ≡ s j
+unfolding covers
+parted-cover s i [] (done f) j h = sym (f j h)
+parted-cover s i (r ∷ rs) (piece a b f m x) j h =
+    by-lt j (r .low)
+    (λ p. ap (λ (t : Bool). t || covers rs j) (between-below (r .low) (r .high) j p) ∙ parted-below s (r .high + 1) rs x j (omega arith) ∙ sym (f j h p))
+    (λ p. by-lt (r .high) j
+    (λ q. ap (λ (t : Bool). t || covers rs j) (between-above (r .low) (r .high) j q) ∙ parted-cover s (r .high + 1) rs x j (omega arith))
+    (λ q. ap (λ (t : Bool). t || covers rs j) (between-in (r .low) (r .high) j p q) ∙ sym (m j p q)))
 
 pub runs-cover : (s : ℕ → Bool) (i : ℕ) (rs : List Range) → Runs s i rs → (j : ℕ) → i ≤ j → covers rs j ≡ s j
-unfolding covers
-runs-cover s i [] (none f) j h = sym (f j h)
-runs-cover s i (r ∷ rs) (more a b f m z x) j h =
-    by-lt j (r .low)
-    (λ p. ap (λ (t : Bool). t || covers rs j) (between-below (r .low) (r .high) j p) ∙ runs-below s (r .high + 1) rs x j (omega arith) ∙ sym (f j h p))
-    (λ p. by-lt (r .high) j
-    (λ q. ap (λ (t : Bool). t || covers rs j) (between-above (r .low) (r .high) j q) ∙ runs-cover s (r .high + 1) rs x j (omega arith))
-    (λ q. ap (λ (t : Bool). t || covers rs j) (between-in (r .low) (r .high) j p q) ∙ sym (m j p q)))
+runs-cover s i rs x = parted-cover s i rs (runs-parted s i rs x)
+
+-- ---- runs, whole or number by number, are pieces
+
+parted-back : (s : ℕ → Bool) (i a : ℕ) (ps : List Range) → i ≤ a → ((j : ℕ) → i ≤ j → j < a → s j ≡ false) → Parted s a ps → Parted s i ps
+parted-back s i a [] h f (done g) = done {i = i} (λ j l. by-lt j a (λ q. f j l q) (λ q. g j q))
+parted-back s i a (r ∷ ps) h f (piece x b g m p) = piece {i = i} {r = r} (omega arith) b (λ j l q. by-lt j a (λ u. f j l u) (λ u. g j u q)) m p
+
+singles-parted : (s : ℕ → Bool) (n a : ℕ) (ps : List Range) → ((j : ℕ) → a ≤ j → j < a + n → s j ≡ true) → Parted s (a + n) ps → Parted s a (singles a n ++ ps)
+unfolding singles
+singles-parted s zero a ps m p = let e : a + 0 ≡ a = omega arith in subst (λ (k : ℕ). Parted s k ps) e p
+singles-parted s (suc n) a ps m p =
+    let e : a + suc n ≡ suc a + n = omega arith in
+    let k : suc a ≡ a + 1 = omega arith in
+    piece {i = a} {r = range a a} (omega arith) (omega arith) (λ j l q. absurd (omega arith)) (λ j l q. m j l (omega arith))
+    (subst (λ (z : ℕ). Parted s z (singles (suc a) n ++ ps)) k
+    (singles-parted s n (suc a) ps (λ j l q. m j (omega arith) (omega arith)) (subst (λ (z : ℕ). Parted s z ps) e p)))
+
+pub pieces-parted : (k : ℕ) (s : ℕ → Bool) (i : ℕ) (rs : List Range) → Runs s i rs → Parted s i (pieces k rs)
+unfolding pieces
+pieces-parted k s i [] (none f) = done f
+pieces-parted k s i (r ∷ rs) (more a b f m z x) = go (ltb (sizeOf r) k) (pieces-parted k s (r .high + 1) rs x)
+  where
+    e : r .high + 1 ≡ r .low + sizeOf r
+    e = omega arith
+
+    go : (t : Bool) → Parted s (r .high + 1) (pieces k rs) → Parted s i (choose t (singles (r .low) (sizeOf r)) (r ∷ []) ++ pieces k rs)
+    go true p =
+        parted-back s i (r .low) (singles (r .low) (sizeOf r) ++ pieces k rs) a f
+        (singles-parted s (sizeOf r) (r .low) (pieces k rs) (λ j l q. m j l (omega arith)) (subst (λ (n : ℕ). Parted s n (pieces k rs)) e p))
+    go false p = piece a b f m p
 
 -- ---- the next of them
 

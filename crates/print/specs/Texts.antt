@@ -1,17 +1,19 @@
--- `write_list`: the text of a set, from its maximal runs upward.
+-- `write_list`: the text of a set in a style, from its maximal runs upward.
 use Prim.Native.Nat.{ℕ, zero, suc, _+_, _-_, _*_, _/_, _%_}
 use mathlib.Core.Path.{_≡_}
-use mathlib.Core.Bool.{Bool}
+use mathlib.Core.Bool.{Bool, true, false}
 use mathlib.Core.List.{List, [], _∷_, _++_}
 use lib.Dec.{ltb, leb, eqb}
 use lib.ListN.{length, drop}
 use Rattle.word.specs.Sets.{choose}
 use Rattle.storage.specs.Stores.{Bits, reading}
 use Rattle.storage.specs.declared.Bitmap.{Bitmap}
-use Rattle.storage.specs.declared.Refusal.the-variants.{NoSpace}
+use Rattle.storage.specs.declared.Refusal.the-variants.{NoSpace, BadStyle}
 use Rattle.storage.specs.declared.Amount.{Amount}
 use Rattle.storage.specs.declared.Amount.the-variants.{Is, Refused}
-use Rattle.text.specs.Lists.{comma, joiner, space, zeroDigit, Range, range}
+use Rattle.style.specs.Styles.{allowed}
+use Rattle.style.specs.declared.Style.{Style}
+use Rattle.text.specs.Lists.{comma, space, zeroDigit, Range, range}
 
 -- where the run began that is open, if one is
 pub data Opened : Type 0 where
@@ -48,24 +50,46 @@ decimalFrom (suc f) n =
 abbrev pub decimal : ℕ → List ℕ
 decimal n = decimalFrom n n
 
--- one run: `a` or `a-b`
-unfoldable pub printed : Range → List ℕ
-printed r =
-    let pair = decimal (r .low) ++ joiner ∷ decimal (r .high) in
-    choose (eqb (r .low) (r .high)) (decimal (r .low)) pair
+-- how many numbers a range has
+abbrev pub sizeOf : Range → ℕ
+sizeOf r = suc (r .high) - r .low
 
--- the runs after the first, each after a comma and a blank
-unfoldable pub others : List Range → List ℕ
-others [] = []
-others (r ∷ rs) = comma ∷ space ∷ (printed r ++ others rs)
+-- the n numbers from a on, each a range by itself
+unfoldable pub singles : ℕ → ℕ → List Range
+singles a zero = []
+singles a (suc n) = range a a ∷ singles (suc a) n
 
-unfoldable pub text : List Range → List ℕ
-text [] = []
-text (r ∷ rs) = printed r ++ others rs
+-- a run as it is written: whole, or number by number where it has fewer than k
+abbrev pub cut : ℕ → Range → List Range
+cut k r = choose (ltb (sizeOf r) k) (singles (r .low) (sizeOf r)) (r ∷ [])
 
--- the text of a bitmap
-abbrev pub textOf : Bits → List ℕ
-textOf b = text (runs b)
+unfoldable pub pieces : ℕ → List Range → List Range
+pieces k [] = []
+pieces k (r ∷ rs) = cut k r ++ pieces k rs
+
+-- one piece: `a` or `a-b`, counted from the first number
+unfoldable pub printed : Style → Range → List ℕ
+printed y r =
+    let pair = decimal (r .low + y .first) ++ y .joiner ∷ decimal (r .high + y .first) in
+    choose (eqb (r .low) (r .high)) (decimal (r .low + y .first)) pair
+
+-- what stands between two pieces, with a blank or without
+abbrev pub gap : Bool → List ℕ
+gap true = comma ∷ space ∷ []
+gap false = comma ∷ []
+
+-- the pieces after the first
+unfoldable pub others : Style → List Range → List ℕ
+others y [] = []
+others y (r ∷ rs) = gap (y .blank) ++ (printed y r ++ others y rs)
+
+unfoldable pub text : Style → List Range → List ℕ
+text y [] = []
+text y (r ∷ rs) = printed y r ++ others y rs
+
+-- the text of a bitmap in a style
+abbrev pub textOf : Style → Bits → List ℕ
+textOf y b = text y (pieces (y .shortest) (runs b))
 
 -- the text's length, or 6 where the buffer has fewer bytes
 abbrev pub fitted : List ℕ → List ℕ → Amount
@@ -75,7 +99,14 @@ fitted t out = choose (leb (length t) (length out)) (Is (length t)) (Refused NoS
 abbrev pub replaced : List ℕ → List ℕ → List ℕ
 replaced t out = choose (leb (length t) (length out)) (t ++ drop (length t) out) out
 
+-- 15 and the buffer as it was where the style is not allowed, before all else
+abbrev pub listAnswer : Style → List ℕ → Bits → Amount
+listAnswer y out s = choose (allowed y) (fitted (textOf y s) out) (Refused BadStyle)
+
+abbrev pub listBuffer : Style → List ℕ → Bits → List ℕ
+listBuffer y out s = choose (allowed y) (replaced (textOf y s) out) out
+
 -- a call on the bitmap b in ws answers r, and makes out' of the buffer out
-pub record Prints (ws : List ℕ) (b : Bitmap) (out : List ℕ) (r : Amount) (out' : List ℕ) : Type 0 where
-  pub answers : r ≡ reading ws b Amount.Refused (λ s. fitted (textOf s) out)
-  pub leaves : out' ≡ reading ws b (λ e. out) (λ s. replaced (textOf s) out)
+pub record Prints (y : Style) (ws : List ℕ) (b : Bitmap) (out : List ℕ) (r : Amount) (out' : List ℕ) : Type 0 where
+  pub answers : r ≡ reading ws b Amount.Refused (listAnswer y out)
+  pub leaves : out' ≡ reading ws b (λ e. out) (listBuffer y out)

@@ -1,21 +1,24 @@
-// A bitmap printed as list text: its runs upward, as `0-3, 5-7, 11`. The call measures first and writes only what fits.
+// A bitmap printed as list text in a style: its runs upward, as `0-3, 5-7, 11`. A run is one piece, or one for each number. The call measures first and
+// writes only what fits.
 use storage::Amount;
 use storage::Bitmap;
 use storage::Found;
 use storage::Guard;
 use storage::Refusal;
+use style::Style;
 use text::COMMA;
-use text::JOINER;
 use text::ZERO;
 ghost use mathlib.Core.Path.{_≡_};
-ghost use Prim.Native.Nat.{_+_, _*_, _≤_};
+ghost use Prim.Native.Nat.{_+_, _-_, _*_, _≤_, _<_};
+ghost use lib.Dec.{leb};
 ghost use mathlib.Core.List.{_++_};
 ghost use lib.ListN.{length};
 ghost use Rattle.storage.specs.Stores.{held};
 ghost use Rattle.storage.specs.Guards.{Passed};
 ghost use Rattle.text.specs.Lists.{listLimit, range};
-ghost use Rattle.print.specs.Texts.{decimal, printed, textOf, Prints};
-ghost use Rattle.print.specs.Kernels.{NextRun, separator, putAt, Puts};
+ghost use Rattle.style.specs.Promises.{Allowed};
+ghost use Rattle.print.specs.Texts.{decimal, cut, printed, textOf, Prints};
+ghost use Rattle.print.specs.Kernels.{NextRun, Printable, rangeOf, separator, after, putAt, Puts};
 
 const SPACE: u8 = 32;
 
@@ -55,7 +58,7 @@ fn next_run(words: &[u64], b: Bitmap, i: usize) -> Run
 
 // How many digits x has.
 fn digits(x: usize) -> usize
-    requires { ⌜ x ≤ listLimit ⌝ }
+    requires { ⌜ x < 10_000_000_000 ⌝ }
     ensures { λ r. ⌜ r ≡ length (decimal x) ⌝ }
 {
     if x < 100_000 {
@@ -76,33 +79,61 @@ fn digits(x: usize) -> usize
     10
 }
 
-// The length of what stands before a run.
-fn gap_len(at: usize) -> usize
-    ensures { λ r. ⌜ r ≡ length (separator at) ⌝ }
+// The length of what stands before a piece.
+fn gap_len(at: usize, blank: bool) -> usize
+    ensures { λ r. ⌜ r ≡ length (separator blank at) ⌝ }
 {
-    if at == 0 { 0 } else { 2 }
+    if at == 0 {
+        return 0;
+    }
+    if blank { 2 } else { 1 }
 }
 
-// The length of a run.
-fn run_len(a: usize, b: usize) -> usize
-    requires { ⌜ (a ≤ listLimit) × (b ≤ listLimit) ⌝ }
-    ensures { λ r. ⌜ r ≡ length (printed (range a b)) ⌝ }
+// The length of a piece.
+fn piece_len(a: usize, b: usize, style: Style) -> usize
+    requires { ⌜ Allowed style × (a ≤ listLimit) × (b ≤ listLimit) ⌝ }
+    ensures { λ r. ⌜ r ≡ length (printed style (range a b)) ⌝ }
 {
     if a == b {
-        return digits(a);
+        return digits(a + style.first);
     }
-    digits(a) + 1 + digits(b)
+    digits(a + style.first) + 1 + digits(b + style.first)
+}
+
+// Whether a run is written as a range, and not number by number.
+fn is_range(run: Run, style: Style) -> bool
+    requires { ⌜ Printable run ⌝ }
+    ensures { λ r. ⌜ r ≡ leb (style .shortest) (run .end - run .low) ⌝ }
+{
+    run.end - run.low >= style.shortest
+}
+
+// The place after a run that begins at a place, with what stands before it.
+fn run_end(at: usize, run: Run, style: Style) -> usize
+    requires { ⌜ Allowed style × Printable run × (at ≤ 23 * run .low) ⌝ }
+    ensures { λ r. ⌜ r ≡ at + length (after style at (cut (style .shortest) (rangeOf run))) ⌝ }
+{
+    if is_range(run, style) {
+        return at + gap_len(at, style.blank) + piece_len(run.low, run.end - 1, style);
+    }
+    let mut p = at;
+    let mut x = run.low;
+    while x < run.end {
+        p = p + gap_len(p, style.blank) + piece_len(x, x, style);
+        x += 1;
+    }
+    p
 }
 
 // The length of a bitmap's text.
-fn text_len(words: &[u64], b: Bitmap) -> usize
-    requires { ⌜ Passed (now words) b ⌝ }
-    ensures { λ r. ⌜ r ≡ length (textOf (held (now (words .entry)) b)) ⌝ }
+fn text_len(words: &[u64], b: Bitmap, style: Style) -> usize
+    requires { ⌜ Allowed style × Passed (now words) b ⌝ }
+    ensures { λ r. ⌜ r ≡ length (textOf style (held (now (words .entry)) b)) ⌝ }
 {
     let mut at = 0;
     let mut run = next_run(words, b, 0);
     while run.low < run.end {
-        at += gap_len(at) + run_len(run.low, run.end - 1);
+        at = run_end(at, run, style);
         run = next_run(words, b, run.end);
     }
     at
@@ -110,7 +141,7 @@ fn text_len(words: &[u64], b: Bitmap) -> usize
 
 // Puts the digits of x, the last two first; the place after them.
 fn put_number(out: &mut [u8], at: usize, x: usize) -> usize
-    requires { ⌜ (x ≤ listLimit) × (at + length (decimal x) ≤ length (now out)) ⌝ }
+    requires { ⌜ (x < 10_000_000_000) × (at + length (decimal x) ≤ length (now out)) ⌝ }
     ensures { λ r. ⌜ Puts at (decimal x) r (now (out .entry)) (now (out .exit)) ⌝ }
 {
     let end = at + digits(x);
@@ -129,58 +160,82 @@ fn put_number(out: &mut [u8], at: usize, x: usize) -> usize
     end
 }
 
-// Puts what stands between two runs, if one came before; the place after it.
-fn put_gap(out: &mut [u8], at: usize) -> usize
-    requires { ⌜ at + length (separator at) ≤ length (now out) ⌝ }
-    ensures { λ r. ⌜ Puts at (separator at) r (now (out .entry)) (now (out .exit)) ⌝ }
+// Puts what stands between two pieces, if one came before; the place after it.
+fn put_gap(out: &mut [u8], at: usize, blank: bool) -> usize
+    requires { ⌜ at + length (separator blank at) ≤ length (now out) ⌝ }
+    ensures { λ r. ⌜ Puts at (separator blank at) r (now (out .entry)) (now (out .exit)) ⌝ }
 {
     if at == 0 {
         return 0;
     }
     out[at] = COMMA;
-    out[at + 1] = SPACE;
-    at + 2
+    if blank {
+        out[at + 1] = SPACE;
+        return at + 2;
+    }
+    at + 1
 }
 
-// Puts a run, after what stands before it; the place after it.
-fn put_run(out: &mut [u8], at: usize, a: usize, b: usize) -> usize
-    requires { ⌜ (a ≤ listLimit) × (b ≤ listLimit) × (at + (length (separator at) + length (printed (range a b))) ≤ length (now out)) ⌝ }
-    ensures { λ r. ⌜ Puts at (separator at ++ printed (range a b)) r (now (out .entry)) (now (out .exit)) ⌝ }
+// Puts a piece, after what stands before it; the place after it.
+fn put_piece(out: &mut [u8], at: usize, a: usize, b: usize, style: Style) -> usize
+    requires { ⌜ Allowed style × (a ≤ listLimit) × (b ≤ listLimit) × (at + (length (separator (style .blank) at) + length (printed style (range a b))) ≤ length (now out)) ⌝ }
+    ensures { λ r. ⌜ Puts at (separator (style .blank) at ++ printed style (range a b)) r (now (out .entry)) (now (out .exit)) ⌝ }
 {
-    let start = put_gap(out, at);
-    let next = put_number(out, start, a);
+    let start = put_gap(out, at, style.blank);
+    let next = put_number(out, start, a + style.first);
     if a == b {
         return next;
     }
-    out[next] = JOINER;
-    put_number(out, next + 1, b)
+    out[next] = style.joiner as u8;
+    put_number(out, next + 1, b + style.first)
+}
+
+// Puts a run, after what stands before it; the place after it.
+fn put_run(out: &mut [u8], at: usize, run: Run, style: Style) -> usize
+    requires { ⌜ Allowed style × Printable run × (at + length (after style at (cut (style .shortest) (rangeOf run))) ≤ length (now out)) ⌝ }
+    ensures { λ r. ⌜ Puts at (after style at (cut (style .shortest) (rangeOf run))) r (now (out .entry)) (now (out .exit)) ⌝ }
+{
+    if is_range(run, style) {
+        return put_piece(out, at, run.low, run.end - 1, style);
+    }
+    let mut p = at;
+    let mut x = run.low;
+    while x < run.end {
+        p = put_piece(out, p, x, x, style);
+        x += 1;
+    }
+    p
 }
 
 // Puts the text of a bitmap.
-fn print(words: &[u64], b: Bitmap, out: &mut [u8])
-    requires { ⌜ Passed (now words) b × (length (textOf (held (now words) b)) ≤ length (now out)) ⌝ }
-    ensures { λ r. ⌜ now (out .exit) ≡ putAt 0 (textOf (held (now (words .entry)) b)) (now (out .entry)) ⌝ }
+fn print(words: &[u64], b: Bitmap, out: &mut [u8], style: Style)
+    requires { ⌜ Allowed style × Passed (now words) b × (length (textOf style (held (now words) b)) ≤ length (now out)) ⌝ }
+    ensures { λ r. ⌜ now (out .exit) ≡ putAt 0 (textOf style (held (now (words .entry)) b)) (now (out .entry)) ⌝ }
 {
     let mut at = 0;
     let mut run = next_run(words, b, 0);
     while run.low < run.end {
-        at = put_run(out, at, run.low, run.end - 1);
+        at = put_run(out, at, run, style);
         run = next_run(words, b, run.end);
     }
 }
 
-// Prints the bitmap as a list; the text's length. 6 if the buffer is shorter, before a byte is written; bytes past the text are untouched.
-pub fn write_list(words: &[u64], b: Bitmap, out: &mut [u8]) -> Amount
-    ensures { λ r. ⌜ Prints (now (words .entry)) b (now (out .entry)) r (now (out .exit)) ⌝ }
+// Prints the bitmap as a list in a style; the text's length. 15 if the style is not allowed, then 6 if the buffer is shorter, before a byte is written;
+// bytes past the text are untouched.
+pub fn write_list(words: &[u64], b: Bitmap, out: &mut [u8], style: Style) -> Amount
+    ensures { λ r. ⌜ Prints style (now (words .entry)) b (now (out .entry)) r (now (out .exit)) ⌝ }
 {
     match storage::check(words, b) {
         Guard::Stop(e) => return Amount::Refused(e),
         Guard::Pass => {}
     }
-    let len = text_len(words, b);
+    if !style::is_allowed(style) {
+        return Amount::Refused(Refusal::BadStyle);
+    }
+    let len = text_len(words, b, style);
     if len > out.len() {
         return Amount::Refused(Refusal::NoSpace);
     }
-    print(words, b, out);
+    print(words, b, out, style);
     Amount::Is(len)
 }

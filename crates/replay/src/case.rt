@@ -1,6 +1,7 @@
 // One line: the call made on stores that are filled as the line says, and what it answers and leaves compared with the line.
 use crate::call;
 use crate::store;
+use style::PLAIN;
 use told::Told;
 
 // In place of a call: the list names the call whose cases stand above.
@@ -79,7 +80,7 @@ fn shown_text(line: &[u64; 1024], got: Told, bytes: &[u8; 512]) -> u64 {
 fn write_list(line: &[u64; 1024], words: &[u64]) -> u64 {
     let mut bytes = store::bytes(line, 0);
     let n = store::at_most(store::at(line, 2), 512);
-    let got = print::write_list(words, store::bitmap_at(line, 10), &mut bytes[0..n]);
+    let got = print::write_list(words, store::bitmap_at(line, 10), &mut bytes[0..n], PLAIN);
     shown_text(line, told::amount(got), &bytes)
 }
 
@@ -87,7 +88,7 @@ fn write_list(line: &[u64; 1024], words: &[u64]) -> u64 {
 fn from_list(line: &[u64; 1024], words: &mut [u64]) -> u64 {
     let bytes = store::bytes(line, store::length(line));
     let n = store::at_most(store::at(line, 16), 512);
-    let got = text::from_list(words, store::bitmap_at(line, 10), &bytes[0..n]);
+    let got = text::from_list(words, store::bitmap_at(line, 10), &bytes[0..n], PLAIN);
     shown_text(line, told::change(got), &bytes)
 }
 

@@ -7,16 +7,18 @@ use Prim.Native.Nat.{ℕ, _+_, _≤_, min, _-_}
 use native.Mathlib.Omega.{arith}
 use lib.Dec.{leb, eqb}
 use borrow.Author.Tests.{le-leb, lt-leb, leb-true, eq-eqb, eqb-true, eqb-false}
-use Rattle.word.proofs.Cases.{and-true, or-true}
-use Rattle.text.specs.Lists.{comma, joiner, listLimit, blank, digit, Range, zeroDigit}
+use Rattle.word.proofs.Cases.{by-test, and-true, or-true}
+use Rattle.style.specs.Promises.{Allowed}
+use Rattle.style.specs.declared.Style.{Style}
+use Rattle.text.specs.Lists.{comma, listLimit, blank, digit, Range, zeroDigit}
 use Rattle.text.specs.Grammar as g
-use Rattle.text.specs.Readings.{kind, NumberSoFar, Unread, Open, Closed, Part, part, fresh, value, unread, empty, ranged, token, byJoiner, byKind, TextSoFar, reading, tokenEnds, after, next, reads}
+use Rattle.text.specs.Readings.{kind, tooLarge, bitOf, NumberSoFar, Unread, Open, Closed, Part, part, fresh, value, unread, empty, ranged, token, byJoiner, byKind, TextSoFar, reading, tokenEnds, after, next, reads}
 use Rattle.text.specs.Readings.{ranges, textEnds, parsed, parse}
 use Rattle.text.specs.declared.Kind.{Kind}
 use Rattle.text.specs.declared.Value.{Value}
 use Rattle.text.specs.declared.Value.the-variants.{Of, Missing}
 use Rattle.text.specs.declared.Token.the-variants.{Range as Ranging, NoRange}
-use Rattle.text.proofs.Steps.{kind-digit, kind-blank, kind-joiner, kind-comma, chosen, token-at, kind-other}
+use Rattle.text.proofs.Steps.{kind-digit, kind-blank, kind-joiner, kind-comma, kind-other, chosen, token-at, bit-of}
 use Rattle.text.specs.declared.Kind.the-variants.{Digit, Blank, Joiner, Comma, Other}
 use Rattle.text.specs.declared.Token.{Token}
 
@@ -52,166 +54,183 @@ blank-low c (inl e) = omega arith
 blank-low c (inr h) = omega (arith, h .1)
 
 -- a blank is no digit
-blank-kind : (c : ℕ) → g.Blank c → Blank ≡ kind c
-blank-kind c h = kind-blank c (ap (λ (t : Bool). t && leb c 57) (lt-leb 48 c (omega (arith, blank-low c h)))) (is-blank c h)
+blank-kind : (j c : ℕ) → g.Blank c → Blank ≡ kind j c
+blank-kind j c h = kind-blank j c (ap (λ (t : Bool). t && leb c 57) (lt-leb 48 c (omega (arith, blank-low c h)))) (is-blank c h)
 
--- the kinds, with what they say of the byte
-pub data IsKind (c : ℕ) : Kind → Type 0 where
-  isDigit : g.Digit c → IsKind c (Digit (c - zeroDigit))
-  isBlank : g.Blank c → IsKind c Blank
-  isJoiner : c ≡ joiner → IsKind c Joiner
-  isComma : c ≡ comma → IsKind c Comma
-  isOther : IsKind c Other
+-- the kinds where j joins, with what they say of the byte
+pub data IsKind (j c : ℕ) : Kind → Type 0 where
+  isDigit : g.Digit c → IsKind j c (Digit (c - zeroDigit))
+  isBlank : g.Blank c → IsKind j c Blank
+  isJoiner : c ≡ j → IsKind j c Joiner
+  isComma : c ≡ comma → IsKind j c Comma
+  isOther : IsKind j c Other
 
-pub kind-is : (c : ℕ) → IsKind c (kind c)
-kind-is c = go (digit c) refl (blank c) refl (eqb c joiner) refl (eqb c comma) refl
+pub kind-is : (j c : ℕ) → IsKind j c (kind j c)
+kind-is j c = go (digit c) refl (blank c) refl (eqb c j) refl (eqb c comma) refl
   where
-    go : (a : Bool) → digit c ≡ a → (b : Bool) → blank c ≡ b → (j : Bool) → eqb c joiner ≡ j → (m : Bool) → eqb c comma ≡ m → IsKind c (kind c)
-    go true e b f j h m i = subst (IsKind c) (kind-digit c e) (isDigit (digit-is c e))
-    go false e true f j h m i = subst (IsKind c) (kind-blank c e f) (isBlank (blank-is c f))
-    go false e false f true h m i = subst (IsKind c) (kind-joiner c e f (eqb-true c joiner h)) (isJoiner (eqb-true c joiner h))
-    go false e false f false h true i = subst (IsKind c) (kind-comma c e f (eqb-false c joiner h) (eqb-true c comma i)) (isComma (eqb-true c comma i))
-    go false e false f false h false i = subst (IsKind c) (kind-other c e f (eqb-false c joiner h) (eqb-false c comma i)) isOther
+    go : (a : Bool) → digit c ≡ a → (b : Bool) → blank c ≡ b → (k : Bool) → eqb c j ≡ k → (m : Bool) → eqb c comma ≡ m → IsKind j c (kind j c)
+    go true e b f k h m i = subst (IsKind j c) (kind-digit j c e) (isDigit (digit-is c e))
+    go false e true f k h m i = subst (IsKind j c) (kind-blank j c e f) (isBlank (blank-is c f))
+    go false e false f true h m i = subst (IsKind j c) (kind-joiner j c e f (eqb-true c j h)) (isJoiner (eqb-true c j h))
+    go false e false f false h true i = subst (IsKind j c) (kind-comma j c e f (eqb-false c j h) (eqb-true c comma i)) (isComma (eqb-true c comma i))
+    go false e false f false h false i = subst (IsKind j c) (kind-other j c e f (eqb-false c j h) (eqb-false c comma i)) isOther
 
--- ---- reading on
+-- an allowed joiner is no digit, no comma and no blank
+pub record Apart (j : ℕ) : Type 0 where
+  pub digit : digit j ≡ false
+  pub comma : comma ≡ j → ⊥
+  pub blank : blank j ≡ false
 
-pub reads-append : (x : TextSoFar) (a b : List ℕ) → reads x (a ++ b) ≡ reads (reads x a) b
-unfolding reads
-reads-append x [] b = refl
-reads-append x (c ∷ a) b = reads-append (next x c) a b
+pub joiner-apart : (y : Style) → Allowed y → Apart (y .joiner)
+joiner-apart y ok = record {
+  digit = by-test (digit (y .joiner)) (λ e. let d = digit-is (y .joiner) e in absurd (ok .joiner .no-digit (d .0) (d .1))) (λ e. e);
+  comma = λ e. ok .joiner .no-comma (sym e);
+  blank = by-test (blank (y .joiner)) (λ e. absurd (no-blank (blank-is (y .joiner) e))) (λ e. e);
+}
+  where
+    no-blank : g.Blank (y .joiner) → ⊥
+    no-blank (inl e) = ok .joiner .no-blank e
+    no-blank (inr h) = omega (arith, h .1, ok .joiner .printable)
 
-reads-one : (x : TextSoFar) (c : ℕ) → reads x (c ∷ []) ≡ next x c
-unfolding reads
-reads-one x c = refl
+-- ---- reading on, in an allowed style
 
-reads-cons : (x : TextSoFar) (c : ℕ) (t : List ℕ) → reads x (c ∷ t) ≡ reads (next x c) t
-unfolding reads
-reads-cons x c t = refl
+module _ (st : Style) (ok : Allowed st) where
+  apart : Apart (st .joiner)
+  apart = joiner-apart st ok
 
-pub next-at : (rs : List Range) (p : Part) (c : ℕ) {k : Kind} → k ≡ kind c → next (reading rs p) c ≡ after rs p (byKind p k)
-unfolding next
-next-at rs p c e = ap (λ (x : Kind). after rs p (byKind p x)) (sym e)
+  pub reads-append : (x : TextSoFar) (a b : List ℕ) → reads st x (a ++ b) ≡ reads st (reads st x a) b
+  unfolding reads
+  reads-append x [] b = refl
+  reads-append x (c ∷ a) b = reads-append (next st x c) a b
 
--- ---- every text of the grammar is read
+  reads-one : (x : TextSoFar) (c : ℕ) → reads st x (c ∷ []) ≡ next st x c
+  unfolding reads
+  reads-one x c = refl
 
-blanks-none : (rs : List Range) (l : Value) {t : List ℕ} → g.Blanks t → reads (reading rs (part l Unread)) t ≡ reading rs (part l Unread)
-unfolding reads byKind
-blanks-none rs l g.nil = refl
-blanks-none rs l (g.cons {c = c} {t = t} e b) =
-    ap (λ (x : TextSoFar). reads x t) (next-at rs (part l Unread) c (blank-kind c e)) ∙ blanks-none rs l b
+  reads-cons : (x : TextSoFar) (c : ℕ) (t : List ℕ) → reads st x (c ∷ t) ≡ reads st (next st x c) t
+  unfolding reads
+  reads-cons x c t = refl
 
-blanks-closed : (rs : List Range) (l : Value) (v : ℕ) {t : List ℕ} → g.Blanks t → reads (reading rs (part l (Closed v))) t ≡ reading rs (part l (Closed v))
-unfolding reads byKind
-blanks-closed rs l v g.nil = refl
-blanks-closed rs l v (g.cons {c = c} {t = t} e b) =
-    ap (λ (x : TextSoFar). reads x t) (next-at rs (part l (Closed v)) c (blank-kind c e)) ∙ blanks-closed rs l v b
+  pub next-at : (rs : List Range) (p : Part) (c : ℕ) {k : Kind} → k ≡ kind (st .joiner) c → next st (reading rs p) c ≡ after (st .first) rs p (byKind (st .first) p k)
+  unfolding next
+  next-at rs p c e = ap (λ (x : Kind). after (st .first) rs p (byKind (st .first) p x)) (sym e)
 
-digits-read : (rs : List Range) (l : Value) {t : List ℕ} {v : ℕ} → g.Digits t v → reads (reading rs (part l Unread)) t ≡ reading rs (part l (Open (min (listLimit + 1) v)))
-unfolding byKind
-digits-read rs l (g.one {c = c} e) =
-    reads-one (reading rs (part l Unread)) c ∙ next-at rs (part l Unread) c (kind-digit c (is-digit c e))
-    ∙ ap (λ (x : ℕ). reading rs (part l (Open x))) (omega arith)
-digits-read rs l (g.more {t = t} {v = v} c d e) =
-    reads-append (reading rs (part l Unread)) t (c ∷ [])
-    ∙ ap (λ (x : TextSoFar). reads x (c ∷ [])) (digits-read rs l d)
-    ∙ reads-one (reading rs (part l (Open (min (listLimit + 1) v)))) c
-    ∙ next-at rs (part l (Open (min (listLimit + 1) v))) c (kind-digit c (is-digit c e))
-    ∙ ap (λ (x : ℕ). reading rs (part l (Open x))) (omega arith)
+  -- ---- every text of the grammar is read
 
--- a number that was read: n is what is kept of it
-record Kept (rs : List Range) (l : Value) (t : List ℕ) (v : ℕ) : Type 0 where
-  n : NumberSoFar
-  read : reads (reading rs (part l Unread)) t ≡ reading rs (part l n)
-  is : value n ≡ Of v
-  full : unread n ≡ false
+  blanks-none : (rs : List Range) (l : Value) {t : List ℕ} → g.Blanks t → reads st (reading rs (part l Unread)) t ≡ reading rs (part l Unread)
+  unfolding reads byKind
+  blanks-none rs l g.nil = refl
+  blanks-none rs l (g.cons {c = c} {t = t} e b) =
+      ap (λ (x : TextSoFar). reads st x t) (next-at rs (part l Unread) c (blank-kind (st .joiner) c e)) ∙ blanks-none rs l b
 
-value-open : (v : ℕ) → v ≤ listLimit → value (Open (min (listLimit + 1) v)) ≡ Of v
-unfolding value
-value-open v h = chosen (Of (min (listLimit + 1) v)) Missing (le-leb (min (listLimit + 1) v) listLimit (omega arith)) ∙ ap Of (omega arith)
+  blanks-closed : (rs : List Range) (l : Value) (v : ℕ) {t : List ℕ} → g.Blanks t → reads st (reading rs (part l (Closed v))) t ≡ reading rs (part l (Closed v))
+  unfolding reads byKind
+  blanks-closed rs l v g.nil = refl
+  blanks-closed rs l v (g.cons {c = c} {t = t} e b) =
+      ap (λ (x : TextSoFar). reads st x t) (next-at rs (part l (Closed v)) c (blank-kind (st .joiner) c e)) ∙ blanks-closed rs l v b
 
-value-closed : (v : ℕ) → v ≤ listLimit → value (Closed (min (listLimit + 1) v)) ≡ Of v
-unfolding value
-value-closed v h = chosen (Of (min (listLimit + 1) v)) Missing (le-leb (min (listLimit + 1) v) listLimit (omega arith)) ∙ ap Of (omega arith)
+  digits-read : (rs : List Range) (l : Value) {t : List ℕ} {v : ℕ} → g.Digits t v → reads st (reading rs (part l Unread)) t ≡ reading rs (part l (Open (min tooLarge v)))
+  unfolding byKind
+  digits-read rs l (g.one {c = c} e) =
+      reads-one (reading rs (part l Unread)) c ∙ next-at rs (part l Unread) c (kind-digit (st .joiner) c (is-digit c e))
+      ∙ ap (λ (x : ℕ). reading rs (part l (Open x))) (omega arith)
+  digits-read rs l (g.more {t = t} {v = v} c d e) =
+      reads-append (reading rs (part l Unread)) t (c ∷ [])
+      ∙ ap (λ (x : TextSoFar). reads st x (c ∷ [])) (digits-read rs l d)
+      ∙ reads-one (reading rs (part l (Open (min tooLarge v)))) c
+      ∙ next-at rs (part l (Open (min tooLarge v))) c (kind-digit (st .joiner) c (is-digit c e))
+      ∙ ap (λ (x : ℕ). reading rs (part l (Open x))) (omega arith)
 
--- blanks after the digits
-tail-read : (rs : List Range) (l : Value) (v : ℕ) → v ≤ listLimit → {w : List ℕ} → g.Blanks w
-    → (n : NumberSoFar) × (reads (reading rs (part l (Open (min (listLimit + 1) v)))) w ≡ reading rs (part l n)) × (value n ≡ Of v) × (unread n ≡ false)
-unfolding reads byKind
-tail-read rs l v h g.nil = (Open (min (listLimit + 1) v), refl, value-open v h, refl)
-tail-read rs l v h (g.cons {c = c} {t = t} e b) = (
-  Closed (min (listLimit + 1) v),
-  ap (λ (x : TextSoFar). reads x t) (next-at rs (part l (Open (min (listLimit + 1) v))) c (blank-kind c e))
-      ∙ blanks-closed rs l (min (listLimit + 1) v) b,
-  value-closed v h,
-  refl,
-)
+  -- a number that was read: n is what is kept of it
+  record Kept (rs : List Range) (l : Value) (t : List ℕ) (v : ℕ) : Type 0 where
+    n : NumberSoFar
+    read : reads st (reading rs (part l Unread)) t ≡ reading rs (part l n)
+    is : value (st .first) n ≡ Of v
+    full : unread n ≡ false
 
-number-read : (rs : List Range) (l : Value) {t : List ℕ} {v : ℕ} → g.Numeral t v → Kept rs l t v
-number-read rs l (g.number {u = u} {d = d} {w = w} {v = v} b x y h) =
-    let q = tail-read rs l v h y in
-    record {
-      n = q .0;
-      read =
-          reads-append (reading rs (part l Unread)) (u ++ d) w
-          ∙ ap (λ (z : TextSoFar). reads z w) (reads-append (reading rs (part l Unread)) u d ∙ ap (λ (z : TextSoFar). reads z d) (blanks-none rs l b) ∙ digits-read rs l x)
-          ∙ q .1;
-      is = q .2;
-      full = q .3;
-    }
+  -- a number of an allowed style is not too large
+  bit-kept : (a : ℕ) → a ≤ listLimit → bitOf (st .first) (min tooLarge (a + st .first)) ≡ Of a
+  bit-kept a h = bit-of (st .first) (min tooLarge (a + st .first)) a (omega (arith, ok .first)) h
 
--- a token
-part-token : (l : Value) (n : NumberSoFar) {v : ℕ} → value n ≡ Of v → unread n ≡ false → token (part l n) ≡ ranged l (Of v)
-unfolding empty
-part-token Missing n e f = token-at (part Missing n) f refl e
-part-token (Of a) n e f = token-at (part (Of a) n) refl refl e
+  -- blanks after the digits
+  tail-read : (rs : List Range) (l : Value) (a : ℕ) → a ≤ listLimit → {w : List ℕ} → g.Blanks w
+      → (n : NumberSoFar) × (reads st (reading rs (part l (Open (min tooLarge (a + st .first))))) w ≡ reading rs (part l n)) × (value (st .first) n ≡ Of a) × (unread n ≡ false)
+  unfolding reads byKind value
+  tail-read rs l a h g.nil = (Open (min tooLarge (a + st .first)), refl, bit-kept a h, refl)
+  tail-read rs l a h (g.cons {c = c} {t = t} e b) = (
+    Closed (min tooLarge (a + st .first)),
+    ap (λ (x : TextSoFar). reads st x t) (next-at rs (part l (Open (min tooLarge (a + st .first)))) c (blank-kind (st .joiner) c e))
+        ∙ blanks-closed rs l (min tooLarge (a + st .first)) b,
+    bit-kept a h,
+    refl,
+  )
 
-joiner-read : (rs : List Range) (n : NumberSoFar) {a : ℕ} → value n ≡ Of a → next (reading rs (part Missing n)) joiner ≡ reading rs (part (Of a) Unread)
-unfolding byKind
-joiner-read rs n e =
-    next-at rs (part Missing n) joiner (kind-joiner joiner refl refl refl) ∙ ap (λ (x : Value). after rs (part Missing n) (byJoiner Missing x)) e
+  number-read : (rs : List Range) (l : Value) {t : List ℕ} {v : ℕ} → g.Numeral st t v → Kept rs l t v
+  number-read rs l (g.number {u = u} {d = d} {w = w} {a = a} b x y h) =
+      let q = tail-read rs l a h y in
+      record {
+        n = q .0;
+        read =
+            reads-append (reading rs (part l Unread)) (u ++ d) w
+            ∙ ap (λ (z : TextSoFar). reads st z w) (reads-append (reading rs (part l Unread)) u d ∙ ap (λ (z : TextSoFar). reads st z d) (blanks-none rs l b) ∙ digits-read rs l x)
+            ∙ q .1;
+        is = q .2;
+        full = q .3;
+      }
 
-comma-read : (rs : List Range) (p : Part) → next (reading rs p) comma ≡ tokenEnds rs (token p)
-unfolding byKind
-comma-read rs p = next-at rs p comma (kind-comma comma refl refl (omega arith) refl)
+  -- a token
+  part-token : (l : Value) (n : NumberSoFar) {v : ℕ} → value (st .first) n ≡ Of v → unread n ≡ false → token (st .first) (part l n) ≡ ranged l (Of v)
+  unfolding empty
+  part-token Missing n e f = token-at (st .first) (part Missing n) f refl e
+  part-token (Of a) n e f = token-at (st .first) (part (Of a) n) refl refl e
 
-token-read : (rs : List Range) {t : List ℕ} {r : Range} → g.Token t r
-    → (p : Part) × (reads (reading rs fresh) t ≡ reading rs p) × (token p ≡ Ranging (r .low) (r .high))
-token-read rs (g.single {t = t} {a = a} x) =
-    let q = number-read rs Missing x in
-    (part Missing (q .n), q .read, part-token Missing (q .n) (q .is) (q .full))
-token-read rs (g.pair {t = t} {u = u} {a = a} {b = b} x y h) =
-    let q = number-read rs Missing x in
-    let s = number-read rs (Of a) y in (
-      part (Of a) (s .n),
-      reads-append (reading rs fresh) t (joiner ∷ u)
-          ∙ ap (λ (z : TextSoFar). reads z (joiner ∷ u)) (q .read)
-          ∙ reads-cons (reading rs (part Missing (q .n))) joiner u
-          ∙ ap (λ (z : TextSoFar). reads z u) (joiner-read rs (q .n) (q .is))
-          ∙ s .read,
-      part-token (Of a) (s .n) (s .is) (s .full) ∙ chosen (Ranging a b) NoRange (le-leb a b h),
-    )
+  joiner-read : (rs : List Range) (n : NumberSoFar) {a : ℕ} → value (st .first) n ≡ Of a → next st (reading rs (part Missing n)) (st .joiner) ≡ reading rs (part (Of a) Unread)
+  unfolding byKind
+  joiner-read rs n e =
+      next-at rs (part Missing n) (st .joiner) (kind-joiner (st .joiner) (st .joiner) (apart .digit) (apart .blank) refl) ∙ ap (λ (x : Value). after (st .first) rs (part Missing n) (byJoiner Missing x)) e
 
--- up to a comma
-upto-comma : (rs : List Range) {t : List ℕ} {r : Range} → g.Token t r → (u : List ℕ) → reads (reading rs fresh) (t ++ comma ∷ u) ≡ reads (reading (rs ++ r ∷ []) fresh) u
-upto-comma rs {t} x u =
-    let q = token-read rs x in
-    reads-append (reading rs fresh) t (comma ∷ u)
-    ∙ ap (λ (z : TextSoFar). reads z (comma ∷ u)) (q .1)
-    ∙ reads-cons (reading rs (q .0)) comma u
-    ∙ ap (λ (z : TextSoFar). reads z u) (comma-read rs (q .0) ∙ ap (tokenEnds rs) (q .2))
+  comma-read : (rs : List Range) (p : Part) → next st (reading rs p) comma ≡ tokenEnds rs (token (st .first) p)
+  unfolding byKind
+  comma-read rs p = next-at rs p comma (kind-comma (st .joiner) comma refl refl (apart .comma) refl)
 
-ended-parsed : (rs : List Range) (r : Range) → parsed (reading (rs ++ r ∷ []) fresh) ≡ ranges (rs ++ r ∷ [])
-unfolding parsed token empty
-ended-parsed [] r = refl
-ended-parsed (q ∷ rs) r = refl
+  token-read : (rs : List Range) {t : List ℕ} {r : Range} → g.Token st t r
+      → (p : Part) × (reads st (reading rs fresh) t ≡ reading rs p) × (token (st .first) p ≡ Ranging (r .low) (r .high))
+  token-read rs (g.single {t = t} {a = a} x) =
+      let q = number-read rs Missing x in
+      (part Missing (q .n), q .read, part-token Missing (q .n) (q .is) (q .full))
+  token-read rs (g.pair {t = t} {u = u} {a = a} {b = b} x y h) =
+      let q = number-read rs Missing x in
+      let s = number-read rs (Of a) y in (
+        part (Of a) (s .n),
+        reads-append (reading rs fresh) t (st .joiner ∷ u)
+            ∙ ap (λ (z : TextSoFar). reads st z (st .joiner ∷ u)) (q .read)
+            ∙ reads-cons (reading rs (part Missing (q .n))) (st .joiner) u
+            ∙ ap (λ (z : TextSoFar). reads st z u) (joiner-read rs (q .n) (q .is))
+            ∙ s .read,
+        part-token (Of a) (s .n) (s .is) (s .full) ∙ chosen (Ranging a b) NoRange (le-leb a b h),
+      )
 
-list-read : (rs : List Range) {t : List ℕ} {qs : List Range} → g.Listed t qs → parsed (reads (reading rs fresh) t) ≡ ranges (rs ++ qs)
-unfolding parsed
-list-read rs (g.last x) = let q = token-read rs x in ap parsed (q .1) ∙ ap (textEnds rs) (q .2)
-list-read rs (g.ended {u = u} {r = r} x b) = ap parsed (upto-comma rs x u ∙ blanks-none (rs ++ r ∷ []) Missing b) ∙ ended-parsed rs r
-list-read rs (g.more {u = u} {r = r} {rs = qs} x y) =
-    ap parsed (upto-comma rs x u) ∙ list-read (rs ++ r ∷ []) y ∙ ap ranges (append-assoc rs (r ∷ []) qs)
+  -- up to a comma
+  upto-comma : (rs : List Range) {t : List ℕ} {r : Range} → g.Token st t r → (u : List ℕ) → reads st (reading rs fresh) (t ++ comma ∷ u) ≡ reads st (reading (rs ++ r ∷ []) fresh) u
+  upto-comma rs {t} x u =
+      let q = token-read rs x in
+      reads-append (reading rs fresh) t (comma ∷ u)
+      ∙ ap (λ (z : TextSoFar). reads st z (comma ∷ u)) (q .1)
+      ∙ reads-cons (reading rs (q .0)) comma u
+      ∙ ap (λ (z : TextSoFar). reads st z u) (comma-read rs (q .0) ∙ ap (tokenEnds rs) (q .2))
 
-pub complete : {t : List ℕ} {rs : List Range} → g.Listed t rs → parse t ≡ ranges rs
-unfolding parse
-complete x = list-read [] x
+  ended-parsed : (rs : List Range) (r : Range) → parsed (st .first) (reading (rs ++ r ∷ []) fresh) ≡ ranges (rs ++ r ∷ [])
+  unfolding parsed token empty
+  ended-parsed [] r = refl
+  ended-parsed (q ∷ rs) r = refl
+
+  list-read : (rs : List Range) {t : List ℕ} {qs : List Range} → g.Listed st t qs → parsed (st .first) (reads st (reading rs fresh) t) ≡ ranges (rs ++ qs)
+  unfolding parsed
+  list-read rs (g.last x) = let q = token-read rs x in ap (parsed (st .first)) (q .1) ∙ ap (textEnds rs) (q .2)
+  list-read rs (g.ended {u = u} {r = r} x b) = ap (parsed (st .first)) (upto-comma rs x u ∙ blanks-none (rs ++ r ∷ []) Missing b) ∙ ended-parsed rs r
+  list-read rs (g.more {u = u} {r = r} {rs = qs} x y) =
+      ap (parsed (st .first)) (upto-comma rs x u) ∙ list-read (rs ++ r ∷ []) y ∙ ap ranges (append-assoc rs (r ∷ []) qs)
+
+  pub complete : {t : List ℕ} {rs : List Range} → g.Listed st t rs → parse st t ≡ ranges rs
+  unfolding parse
+  complete x = list-read [] x

@@ -6,3 +6,4 @@ pub mod Accepts
 pub mod Grammar
 pub mod Promises
 pub mod Once
+pub mod Plain

@@ -1,5 +1,5 @@
 -- What a byte, a token's state and a token's end come to, where they are known by equations.
-use mathlib.Core.Path.{_≡_, refl, sym, ap, _∙_}
+use mathlib.Core.Path.{_≡_, refl, sym, ap, ap₂, _∙_}
 use mathlib.Core.Bool.{Bool, true, false, _&&_}
 use mathlib.Core.List.{List}
 use Prim.Native.Nat.{ℕ, zero, suc, _+_, _-_, _≤_, _<_}
@@ -8,12 +8,12 @@ use native.Mathlib.Numerals.{add-one}
 use lib.Dec.{leb, ltb, eqb, eqb·suc-zero}
 use lib.ListN.{length, getD, drop, drop-of-length-le}
 use lib.Seq.{drop-cons}
-use borrow.Author.Tests.{lt-ltb, le-ltb, leb-true, ne-eqb, eq-eqb}
+use borrow.Author.Tests.{lt-ltb, le-ltb, lt-leb, le-leb, leb-true, ne-eqb, eq-eqb}
 use Rattle.word.specs.Sets.{choose}
-use Rattle.word.proofs.Cases.{zero-one}
-use Rattle.text.specs.Lists.{comma, joiner, zeroDigit, listLimit, blank, digit, plain}
+use Rattle.word.proofs.Cases.{and-true, zero-one}
+use Rattle.text.specs.Lists.{comma, zeroDigit, listLimit, blank, digit, plain}
 use Rattle.text.specs.Readings as read
-use Rattle.text.specs.Readings.{kind, NumberSoFar, Unread, Open, Closed, value, unread, missing, empty, ranged, token, part, grown, Go, Stop, byDigit, byBlank, byJoiner, byKind}
+use Rattle.text.specs.Readings.{kind, NumberSoFar, Unread, Open, Closed, bitOf, value, unread, missing, empty, ranged, token, part, grown, Go, Stop, byDigit, byBlank, byJoiner, byKind}
 use Rattle.text.specs.Kernels.{numberSoFar, leftOf, partOf}
 use Rattle.text.specs.declared.Kind.{Kind}
 use Rattle.text.specs.declared.Kind.the-variants.{Digit, Blank, Joiner, Comma, Other}
@@ -22,16 +22,16 @@ use Rattle.text.specs.declared.Value.the-variants.{Of, Missing}
 use Rattle.text.specs.declared.Part.{Part}
 use Rattle.text.specs.declared.Token.the-variants.{Range as Ranging, Empty, NoRange}
 
-pub step-at : (p : read.Part) {k k' : Kind} {l : Value} {n : NumberSoFar} → k ≡ k' → p .left ≡ l → p .number ≡ n → byKind p k ≡ byKind (record { left = l; number = n }) k'
-step-at p e f g = λ i. byKind (record { left = f i; number = g i }) (e i)
+pub step-at : (x : ℕ) (p : read.Part) {k k' : Kind} {l : Value} {n : NumberSoFar} → k ≡ k' → p .left ≡ l → p .number ≡ n → byKind x p k ≡ byKind x (record { left = l; number = n }) k'
+step-at x p e f g = λ i. byKind x (record { left = f i; number = g i }) (e i)
 
-pub token-at : (p : read.Part) {l v : Value} → empty p ≡ false → p .left ≡ l → value (p .number) ≡ v → token p ≡ ranged l v
+pub token-at : (x : ℕ) (p : read.Part) {l v : Value} → empty p ≡ false → p .left ≡ l → value x (p .number) ≡ v → token x p ≡ ranged l v
 unfolding token
-token-at p h e f = (λ i. choose (h i) Empty (ranged (e i) (f i)))
+token-at x p h e f = (λ i. choose (h i) Empty (ranged (e i) (f i)))
 
-pub token-empty : (p : read.Part) → empty p ≡ true → token p ≡ Empty
+pub token-empty : (x : ℕ) (p : read.Part) → empty p ≡ true → token x p ≡ Empty
 unfolding token
-token-empty p h = ap (λ (t : Bool). choose t Empty (ranged (p .left) (value (p .number)))) h
+token-empty x p h = ap (λ (t : Bool). choose t Empty (ranged (p .left) (value x (p .number)))) h
 
 pub chosen : {A : Type 0} {t : Bool} (a b : A) → t ≡ true → choose t a b ≡ a
 chosen a b e = ap (λ (x : Bool). choose x a b) e
@@ -40,25 +40,25 @@ pub other : {A : Type 0} {t : Bool} (a b : A) → t ≡ false → choose t a b �
 other a b e = ap (λ (x : Bool). choose x a b) e
 
 -- ---- what a byte is
-pub kind-digit : (c : ℕ) → digit c ≡ true → Digit (c - zeroDigit) ≡ kind c
+pub kind-digit : (j c : ℕ) → digit c ≡ true → Digit (c - zeroDigit) ≡ kind j c
 unfolding kind
-kind-digit c e = rw e
+kind-digit j c e = rw e
 
-pub kind-blank : (c : ℕ) → digit c ≡ false → blank c ≡ true → Blank ≡ kind c
+pub kind-blank : (j c : ℕ) → digit c ≡ false → blank c ≡ true → Blank ≡ kind j c
 unfolding kind
-kind-blank c e f = rw (e, f)
+kind-blank j c e f = rw (e, f)
 
-pub kind-joiner : (c : ℕ) → digit c ≡ false → blank c ≡ false → c ≡ joiner → Joiner ≡ kind c
+pub kind-joiner : (j c : ℕ) → digit c ≡ false → blank c ≡ false → c ≡ j → Joiner ≡ kind j c
 unfolding kind
-kind-joiner c e f g = rw (e, f, eq-eqb c joiner g)
+kind-joiner j c e f g = rw (e, f, eq-eqb c j g)
 
-pub kind-comma : (c : ℕ) → digit c ≡ false → blank c ≡ false → (c ≡ joiner → ⊥) → c ≡ comma → Comma ≡ kind c
+pub kind-comma : (j c : ℕ) → digit c ≡ false → blank c ≡ false → (c ≡ j → ⊥) → c ≡ comma → Comma ≡ kind j c
 unfolding kind
-kind-comma c e f g h = rw (e, f, ne-eqb c joiner g, eq-eqb c comma h)
+kind-comma j c e f g h = rw (e, f, ne-eqb c j g, eq-eqb c comma h)
 
-pub kind-other : (c : ℕ) → digit c ≡ false → blank c ≡ false → (c ≡ joiner → ⊥) → (c ≡ comma → ⊥) → Other ≡ kind c
+pub kind-other : (j c : ℕ) → digit c ≡ false → blank c ≡ false → (c ≡ j → ⊥) → (c ≡ comma → ⊥) → Other ≡ kind j c
 unfolding kind
-kind-other c e f g h = rw (e, f, ne-eqb c joiner g, ne-eqb c comma h)
+kind-other j c e f g h = rw (e, f, ne-eqb c j g, ne-eqb c comma h)
 
 -- ---- bytes below 128, from place i on
 plain-step : (t : List ℕ) (i : ℕ) → i < length t → plain (drop i t) ≡ ltb (getD t i 0) 128 && plain (drop (i + 1) t)
@@ -80,8 +80,8 @@ ranged-missing : (l : Value) → ranged l Missing ≡ NoRange
 ranged-missing Missing = refl
 ranged-missing (Of a) = refl
 
-pub token-missing : (p : read.Part) → empty p ≡ false → value (p .number) ≡ Missing → token p ≡ NoRange
-token-missing p h e = token-at p h refl e ∙ ranged-missing (p .left)
+pub token-missing : (x : ℕ) (p : read.Part) → empty p ≡ false → value x (p .number) ≡ Missing → token x p ≡ NoRange
+token-missing x p h e = token-at x p h refl e ∙ ranged-missing (p .left)
 
 -- no token has a number past the limit
 ranged-limit : (l v : Value) (a b : ℕ) → ranged l v ≡ Ranging a b → v ≡ Of b
@@ -93,23 +93,45 @@ ranged-limit (Of x) (Of y) a b e = go (leb x y) e
     go true h = cc
     go false h = zero-one cc
 
-allowed-limit : (v b : ℕ) (t : Bool) → leb v listLimit ≡ t → choose t (Of v) Missing ≡ Of b → b ≤ listLimit
-allowed-limit v b true e h = let q : v ≡ b = cc in omega (arith, leb-true v listLimit e)
-allowed-limit v b false e h = zero-one cc
-
-value-limit : (n : NumberSoFar) (b : ℕ) → value n ≡ Of b → b ≤ listLimit
-unfolding value
-value-limit Unread b e = zero-one cc
-value-limit (Open v) b e = allowed-limit v b (leb v listLimit) refl e
-value-limit (Closed v) b e = allowed-limit v b (leb v listLimit) refl e
-
-pub token-limit : (p : read.Part) (a b : ℕ) → token p ≡ Ranging a b → b ≤ listLimit
-unfolding token
-token-limit p a b e = go (empty p) e
+-- a bit that is taken is within the limit, and the number is it and the first
+pub bit-is : (x v b : ℕ) → bitOf x v ≡ Of b → (v ≡ b + x) × (b ≤ listLimit)
+bit-is x v b e = go (leb x v && leb v (listLimit + x)) refl e
   where
-    go : (t : Bool) → choose t Empty (ranged (p .left) (value (p .number))) ≡ Ranging a b → b ≤ listLimit
+    go : (t : Bool) → leb x v && leb v (listLimit + x) ≡ t → choose t (Of (v - x)) Missing ≡ Of b → (v ≡ b + x) × (b ≤ listLimit)
+    go true h f =
+        let q = and-true (leb x v) (leb v (listLimit + x)) h in
+        let k : v - x ≡ b = cc in
+        (omega (arith, leb-true x v (q .0), k), omega (arith, leb-true v (listLimit + x) (q .1), k))
+    go false h f = zero-one cc
+
+pub bit-of : (x v b : ℕ) → v ≡ b + x → b ≤ listLimit → bitOf x v ≡ Of b
+bit-of x v b e h =
+    ap (λ (t : Bool). choose t (Of (v - x)) Missing) (ap₂ _&&_ (le-leb x v (omega arith)) (le-leb v (listLimit + x) (omega arith)))
+    ∙ ap Of (omega arith)
+
+pub bit-within : (x v : ℕ) → x ≤ v → v - x ≤ listLimit → bitOf x v ≡ Of (v - x)
+bit-within x v h l = bit-of x v (v - x) (omega arith) l
+
+-- below the first number, or past the limit
+pub bit-below : (x v : ℕ) → v < x → bitOf x v ≡ Missing
+bit-below x v h = ap (λ (t : Bool). choose (t && leb v (listLimit + x)) (Of (v - x)) Missing) (lt-leb x v h)
+
+pub bit-over : (x v : ℕ) → x ≤ v → listLimit < v - x → bitOf x v ≡ Missing
+bit-over x v h l = ap₂ (λ (t u : Bool). choose (t && u) (Of (v - x)) Missing) (le-leb x v h) (lt-leb v (listLimit + x) (omega arith))
+
+value-limit : (x : ℕ) (n : NumberSoFar) (b : ℕ) → value x n ≡ Of b → b ≤ listLimit
+unfolding value
+value-limit x Unread b e = zero-one cc
+value-limit x (Open v) b e = bit-is x v b e .1
+value-limit x (Closed v) b e = bit-is x v b e .1
+
+pub token-limit : (x : ℕ) (p : read.Part) (a b : ℕ) → token x p ≡ Ranging a b → b ≤ listLimit
+unfolding token
+token-limit x p a b e = go (empty p) e
+  where
+    go : (t : Bool) → choose t Empty (ranged (p .left) (value x (p .number))) ≡ Ranging a b → b ≤ listLimit
     go true h = zero-one cc
-    go false h = value-limit (p .number) b (ranged-limit (p .left) (value (p .number)) a b h)
+    go false h = value-limit x (p .number) b (ranged-limit (p .left) (value x (p .number)) a b h)
 
 -- ---- the code's numbers as a token's state
 
@@ -124,11 +146,11 @@ number-closed zero v e f = absurd (e refl)
 number-closed (suc zero) v e f = absurd (f refl)
 number-closed (suc (suc n)) v e f = refl
 
-pub number-some : (n v : ℕ) → (n ≡ 0 → ⊥) → value (numberSoFar n v) ≡ choose (leb v listLimit) (Of v) Missing
+pub number-some : (x n v : ℕ) → (n ≡ 0 → ⊥) → value x (numberSoFar n v) ≡ bitOf x v
 unfolding value
-number-some zero v e = absurd (e refl)
-number-some (suc zero) v e = refl
-number-some (suc (suc n)) v e = refl
+number-some x zero v e = absurd (e refl)
+number-some x (suc zero) v e = refl
+number-some x (suc (suc n)) v e = refl
 
 pub left-none : (n a : ℕ) → n ≡ 0 → leftOf n a ≡ Missing
 left-none n a e = ap (λ (x : ℕ). leftOf x a) e
@@ -168,9 +190,9 @@ pub by-joiner-is : (n a : ℕ) (u v : Value) → n ≡ 0 → v ≡ u → byJoine
 by-joiner-is n a u v e f = sym (λ i. byJoiner (left-none n a e i) (f i))
 
 -- a blank after no digit, or after another blank
-pub blank-keeps : (p : Part) {k : Kind} → k ≡ Blank → (p .phase ≡ 1 → ⊥) → read.Go (partOf p) ≡ byKind (partOf p) k
+pub blank-keeps : (x : ℕ) (p : Part) {k : Kind} → k ≡ Blank → (p .phase ≡ 1 → ⊥) → read.Go (partOf p) ≡ byKind x (partOf p) k
 unfolding byKind
-blank-keeps p e f = go (p .phase) f ∙ ap (byKind (partOf p)) (sym e)
+blank-keeps x p e f = go (p .phase) f ∙ ap (byKind x (partOf p)) (sym e)
   where
     go : (n : ℕ) → (n ≡ 1 → ⊥) → read.Go (record { left = leftOf (p .split) (p .left); number = numberSoFar n (p .value) }) ≡ byBlank (leftOf (p .split) (p .left)) (numberSoFar n (p .value))
     go zero h = refl

@@ -1,5 +1,5 @@
 -- What `from_list` answers and leaves.
-use mathlib.Core.Path.{_≡_, refl, sym, ap, _∙_, subst}
+use mathlib.Core.Path.{_≡_, refl, sym, ap, ap₂, _∙_, subst}
 use mathlib.Core.Bool.{Bool, true, false, _||_}
 use mathlib.Core.List.{List, [], _++_}
 use mathlib.Core.Logic.{inr}
@@ -17,9 +17,11 @@ use Rattle.storage.specs.Guards.{Passed}
 use Rattle.storage.specs.declared.Bitmap.{Bitmap}
 use Rattle.storage.specs.declared.Change.the-variants.{Done, Refused}
 use Rattle.storage.specs.declared.Refusal.{Refusal}
-use Rattle.storage.specs.declared.Refusal.the-variants.{NoSpace, NotList, NotAscii}
+use Rattle.storage.specs.declared.Refusal.the-variants.{NoSpace, NotList, NotAscii, BadStyle}
 use Rattle.storage.proofs.Checks.{within-ok, within-no}
 use Rattle.storage.proofs.Stores.{Stored, changes-done, changes-refused, part-stored, length-zeroed, zeroed-in, zeroed-out}
+use Rattle.style.specs.Styles.{allowed}
+use Rattle.style.specs.declared.Style.{Style}
 use Rattle.text.specs.Lists.{plain, Range, covers, highest}
 use Rattle.text.specs.Readings.{Parsed, notList, ranges, parse, union, listOutcome, readingList}
 use Rattle.text.specs.Kernels.{measuredOf, marked, Walked}
@@ -28,13 +30,17 @@ use Rattle.text.specs.declared.Measured.the-variants.{Top, NotList as No
 
 -- ---- the operation's cases
 
-pub list-not-plain : (t : List ℕ) (c : ℕ) (b : Bits) → plain t ≡ false → readingList t c b ≡ refused NotAscii
+pub list-no-style : (y : Style) (t : List ℕ) (c : ℕ) (b : Bits) → allowed y ≡ false → readingList y t c b ≡ refused BadStyle
 unfolding readingList
-list-not-plain t c b e = ap (λ (x : Bool). choose x (listOutcome c (parse t)) (refused NotAscii)) e
+list-no-style y t c b e = ap (λ (x : Bool). choose x (choose (plain t) (listOutcome c (parse y t)) (refused NotAscii)) (refused BadStyle)) e
 
-pub list-is : (t : List ℕ) (c : ℕ) (b : Bits) (p : Parsed) → plain t ≡ true → parse t ≡ p → readingList t c b ≡ listOutcome c p
+pub list-not-plain : (y : Style) (t : List ℕ) (c : ℕ) (b : Bits) → allowed y ≡ true → plain t ≡ false → readingList y t c b ≡ refused NotAscii
 unfolding readingList
-list-is t c b p e f = ap (λ (x : Bool). choose x (listOutcome c (parse t)) (refused NotAscii)) e ∙ ap (listOutcome c) f
+list-not-plain y t c b a e = ap₂ (λ (z x : Bool). choose z (choose x (listOutcome c (parse y t)) (refused NotAscii)) (refused BadStyle)) a e
+
+pub list-is : (y : Style) (t : List ℕ) (c : ℕ) (b : Bits) (p : Parsed) → allowed y ≡ true → plain t ≡ true → parse y t ≡ p → readingList y t c b ≡ listOutcome c p
+unfolding readingList
+list-is y t c b p a e f = ap₂ (λ (z x : Bool). choose z (choose x (listOutcome c (parse y t)) (refused NotAscii)) (refused BadStyle)) a e ∙ ap (listOutcome c) f
 
 -- ---- what a measurement says of the text
 
@@ -56,83 +62,87 @@ none-marked rs = refl
 
 -- ---- the call
 
-module _ (t ws : List ℕ) (b : Bitmap) (p : Passed ws b) where
-  pub list-refused-8 : plain t ≡ false → Changes (readingList t) ws b (Refused NotAscii b) ws
-  list-refused-8 e = changes-refused (readingList t) ws b NotAscii p (list-not-plain t (length ws) (view ws (b .count)) e)
+module _ (y : Style) (t ws : List ℕ) (b : Bitmap) (p : Passed ws b) where
+  pub list-refused-15 : allowed y ≡ false → Changes (readingList y t) ws b (Refused BadStyle b) ws
+  list-refused-15 e = changes-refused (readingList y t) ws b BadStyle p (list-no-style y t (length ws) (view ws (b .count)) e)
 
-  module _ (e : plain t ≡ true) (m : Measured) (part : List ℕ) (w : Walked t m [] part) where
-    pub untouched : part ++ ws ≡ ws
-    untouched = ap (λ (y : List ℕ). y ++ ws) (w .marks ∙ none-marked (w .passed))
+  module _ (a : allowed y ≡ true) where
+    pub list-refused-8 : plain t ≡ false → Changes (readingList y t) ws b (Refused NotAscii b) ws
+    list-refused-8 e = changes-refused (readingList y t) ws b NotAscii p (list-not-plain y t (length ws) (view ws (b .count)) a e)
 
-    back : (r : Refusal) → readingList t (length ws) (view ws (b .count)) ≡ refused r → Changes (readingList t) ws b (Refused r b) (part ++ ws)
-    back r q = subst (λ (y : List ℕ). Changes (readingList t) ws b (Refused r b) y) (sym untouched) (changes-refused (readingList t) ws b r p q)
+    module _ (e : plain t ≡ true) (m : Measured) (part : List ℕ) (w : Walked y t m [] part) where
+      pub untouched : part ++ ws ≡ ws
+      untouched = ap (λ (z : List ℕ). z ++ ws) (w .marks ∙ none-marked (w .passed))
 
-    pub list-refused-7 : m ≡ NoList → Changes (readingList t) ws b (Refused NotList b) (part ++ ws)
-    list-refused-7 f = back NotList (list-is t (length ws) (view ws (b .count)) notList e (measured-none (parse t) (sym (w .measures) ∙ f)))
+      back : (r : Refusal) → readingList y t (length ws) (view ws (b .count)) ≡ refused r → Changes (readingList y t) ws b (Refused r b) (part ++ ws)
+      back r q = subst (λ (z : List ℕ). Changes (readingList y t) ws b (Refused r b) z) (sym untouched) (changes-refused (readingList y t) ws b r p q)
 
-    module _ (top : ℕ) (f : m ≡ Top top) where
-      found : (rs : List Range) × (parse t ≡ ranges rs) × (top ≡ highest rs)
-      found = measured-top (parse t) top (sym (w .measures) ∙ f)
+      pub list-refused-7 : m ≡ NoList → Changes (readingList y t) ws b (Refused NotList b) (part ++ ws)
+      list-refused-7 f = back NotList (list-is y t (length ws) (view ws (b .count)) notList a e (measured-none (parse y t) (sym (w .measures) ∙ f)))
 
-      abbrev rs : List Range
-      rs = found .0
+      module _ (top : ℕ) (f : m ≡ Top top) where
+        found : (rs : List Range) × (parse y t ≡ ranges rs) × (top ≡ highest rs)
+        found = measured-top (parse y t) top (sym (w .measures) ∙ f)
 
-      count-is : union rs .count ≡ top / 64 + 1
-      count-is = ap (λ (x : ℕ). x / 64 + 1) (sym (found .2))
+        abbrev rs : List Range
+        rs = found .0
 
-      read : readingList t (length ws) (view ws (b .count)) ≡ within (length ws) (union rs)
-      read = list-is t (length ws) (view ws (b .count)) (ranges rs) e (found .1)
+        count-is : union rs .count ≡ top / 64 + 1
+        count-is = ap (λ (x : ℕ). x / 64 + 1) (sym (found .2))
 
-      pub list-refused-6 : length (part ++ ws) < top / 64 + 1 → Changes (readingList t) ws b (Refused NoSpace b) (part ++ ws)
-      list-refused-6 h = back NoSpace (read ∙ within-no (length ws) (union rs) (omega (arith, count-is, ap length untouched)))
+        read : readingList y t (length ws) (view ws (b .count)) ≡ within (length ws) (union rs)
+        read = list-is y t (length ws) (view ws (b .count)) (ranges rs) a e (found .1)
 
-      -- zeroed, then walked again
-      module _ (h : top / 64 + 1 ≤ length (part ++ ws)) (u : ℕ) (eu : u ≡ max (b .count) (top / 64 + 1)) (z : List ℕ) (ez : z ≡ zeroed 0 u (part ++ ws))
-          (m' : Measured) (us : List ℕ) (v : Walked t m' (take (top / 64 + 1) z) us) where
-        abbrev c : ℕ
-        c = top / 64 + 1
+        pub list-refused-6 : length (part ++ ws) < top / 64 + 1 → Changes (readingList y t) ws b (Refused NoSpace b) (part ++ ws)
+        list-refused-6 h = back NoSpace (read ∙ within-no (length ws) (union rs) (omega (arith, count-is, ap length untouched)))
 
-        z-is : z ≡ zeroed 0 u ws
-        z-is = ez ∙ ap (zeroed 0 u) untouched
+        -- zeroed, then walked again
+        module _ (h : top / 64 + 1 ≤ length (part ++ ws)) (u : ℕ) (eu : u ≡ max (b .count) (top / 64 + 1)) (z : List ℕ) (ez : z ≡ zeroed 0 u (part ++ ws))
+            (m' : Measured) (us : List ℕ) (v : Walked y t m' (take (top / 64 + 1) z) us) where
+          abbrev c : ℕ
+          c = top / 64 + 1
 
-        long : length z ≡ length ws
-        long = ap length z-is ∙ length-zeroed 0 u ws
+          z-is : z ≡ zeroed 0 u ws
+          z-is = ez ∙ ap (zeroed 0 u) untouched
 
-        pub list-room : c ≤ length z
-        list-room = omega (arith, long, ap length untouched)
+          long : length z ≡ length ws
+          long = ap length z-is ∙ length-zeroed 0 u ws
 
-        zero : (k : ℕ) → k < u → getD z k 0 ≡ 0
-        zero k l = ap (λ (y : List ℕ). getD y k 0) z-is ∙ zeroed-in 0 u ws k (omega arith) l
+          pub list-room : c ≤ length z
+          list-room = omega (arith, long, ap length untouched)
 
-        old : (k : ℕ) → u ≤ k → getD z k 0 ≡ getD ws k 0
-        old k l = ap (λ (y : List ℕ). getD y k 0) z-is ∙ zeroed-out 0 u ws k (inr l)
+          zero : (k : ℕ) → k < u → getD z k 0 ≡ 0
+          zero k l = ap (λ (y : List ℕ). getD y k 0) z-is ∙ zeroed-in 0 u ws k (omega arith) l
 
-        none : (i : ℕ) → i < 64 * c → member (take c z) i ≡ false
-        none i l =
-            ap (member (take c z)) (sym (at-place i)) ∙ member-at (take c z) (i / 64) (i % 64) (omega arith)
-            ∙ ap (λ (x : ℕ). bit x (i % 64)) (getD-take c z (i / 64) 0 (omega arith) ∙ zero (i / 64) (omega arith)) ∙ bit-zero (i % 64)
+          old : (k : ℕ) → u ≤ k → getD z k 0 ≡ getD ws k 0
+          old k l = ap (λ (y : List ℕ). getD y k 0) z-is ∙ zeroed-out 0 u ws k (inr l)
 
-        set : us ++ drop c z ≡ wordsOf (λ i. member (take c z) i || covers rs i) c ++ drop c z
-        unfolding marked
-        set =
-            ap (λ (y : List ℕ). y ++ drop c z)
-            (v .marks ∙ ap (λ (qs : List Range). marked qs (take c z)) (v .whole rs (found .1))
-            ∙ ap (wordsOf (λ i. member (take c z) i || covers rs i)) (length-take-le c z list-room))
+          none : (i : ℕ) → i < 64 * c → member (take c z) i ≡ false
+          none i l =
+              ap (member (take c z)) (sym (at-place i)) ∙ member-at (take c z) (i / 64) (i % 64) (omega arith)
+              ∙ ap (λ (x : ℕ). bit x (i % 64)) (getD-take c z (i / 64) 0 (omega arith) ∙ zero (i / 64) (omega arith)) ∙ bit-zero (i % 64)
 
-        stored : Stored z c (union rs) (us ++ drop c z)
-        stored =
-            part-stored z (us ++ drop c z) c (λ i. member (take c z) i || covers rs i) (union rs) list-room set count-is
-            (λ i l. ap (λ (x : Bool). x || covers rs i) (none i l))
+          set : us ++ drop c z ≡ wordsOf (λ i. member (take c z) i || covers rs i) c ++ drop c z
+          unfolding marked
+          set =
+              ap (λ (y : List ℕ). y ++ drop c z)
+              (v .marks ∙ ap (λ (qs : List Range). marked qs (take c z)) (v .whole rs (found .1))
+              ∙ ap (wordsOf (λ i. member (take c z) i || covers rs i)) (length-take-le c z list-room))
 
-        pub list-done : Changes (readingList t) ws b (Done (withCount b c)) (us ++ drop c z)
-        list-done =
-            changes-done (readingList t) ws b (us ++ drop c z) (union rs) c p
-            (read ∙ within-ok (length ws) (union rs) (omega (arith, count-is, ap length untouched)))
-            (record {
-              long = stored .long ∙ long;
-              fits = stored .fits;
-              used = stored .used;
-              dropped = λ k l q. stored .kept k l (omega (arith, count-is)) ∙ zero k (omega arith);
-              kept = λ k l q. stored .kept k l (omega (arith, count-is)) ∙ old k (omega (arith, count-is));
-            })
-            (sym count-is)
+          stored : Stored z c (union rs) (us ++ drop c z)
+          stored =
+              part-stored z (us ++ drop c z) c (λ i. member (take c z) i || covers rs i) (union rs) list-room set count-is
+              (λ i l. ap (λ (x : Bool). x || covers rs i) (none i l))
+
+          pub list-done : Changes (readingList y t) ws b (Done (withCount b c)) (us ++ drop c z)
+          list-done =
+              changes-done (readingList y t) ws b (us ++ drop c z) (union rs) c p
+              (read ∙ within-ok (length ws) (union rs) (omega (arith, count-is, ap length untouched)))
+              (record {
+                long = stored .long ∙ long;
+                fits = stored .fits;
+                used = stored .used;
+                dropped = λ k l q. stored .kept k l (omega (arith, count-is)) ∙ zero k (omega arith);
+                kept = λ k l q. stored .kept k l (omega (arith, count-is)) ∙ old k (omega (arith, count-is));
+              })
+              (sym count-is)

@@ -5,6 +5,7 @@ use mathlib.Core.Bool.{_||_}
 use mathlib.Core.List.{List}
 use lib.ListN.{length}
 use Rattle.word.specs.Places.{member, wordsOf}
+use Rattle.style.specs.declared.Style.{Style}
 use Rattle.text.specs.Lists.{Range, covers, highest}
 use Rattle.text.specs.Readings as read
 use Rattle.text.specs.Readings.{NumberSoFar, Unread, Open, Closed, Parsed, notList, ranges, parse}
@@ -44,8 +45,8 @@ unfoldable pub marked : List Range → List ℕ → List ℕ
 marked rs ws = wordsOf (λ i. member ws i || covers rs i) (length ws)
 
 -- the text is measured, and the ranges of its good tokens are marked: those of all of them, where it is a list
-pub record Walked (t : List ℕ) (r : Measured) (ws ws' : List ℕ) : Type 0 where
-  pub measures : r ≡ measuredOf (parse t)
+pub record Walked (y : Style) (t : List ℕ) (r : Measured) (ws ws' : List ℕ) : Type 0 where
+  pub measures : r ≡ measuredOf (parse y t)
   pub passed : List Range
-  pub whole : (rs : List Range) → parse t ≡ ranges rs → passed ≡ rs
+  pub whole : (rs : List Range) → parse y t ≡ ranges rs → passed ≡ rs
   pub marks : ws' ≡ marked passed ws

@@ -8,10 +8,6 @@ use lib.Dec.{ltb, leb, eqb}
 abbrev pub comma : ℕ
 comma = 44
 
--- the byte between the two numbers of a token, a hyphen
-abbrev pub joiner : ℕ
-joiner = 45
-
 -- the blank that is printed
 abbrev pub space : ℕ
 space = 32
@@ -20,7 +16,7 @@ space = 32
 abbrev pub zeroDigit : ℕ
 zeroDigit = 48
 
--- the largest number that a list may hold
+-- the largest bit that a list may hold
 abbrev pub listLimit : ℕ
 listLimit = 4_294_967_295
 

@@ -1,12 +1,14 @@
--- `from_list`, byte by byte. proofs/Grammar: what is read is exactly what the grammar says.
+-- `from_list` in a style, byte by byte. proofs/Grammar: what is read is exactly what the grammar says.
 use Prim.Native.Nat.{ℕ, _+_, _-_, min}
 use mathlib.Core.Bool.{Bool, true, false, _&&_}
 use mathlib.Core.List.{List, [], _∷_, _++_}
 use lib.Dec.{leb, eqb}
 use Rattle.word.specs.Sets.{choose}
 use Rattle.storage.specs.Stores.{Bits, Outcome, refused, Op, within, upTo}
-use Rattle.storage.specs.declared.Refusal.the-variants.{NotList, NotAscii}
-use Rattle.text.specs.Lists.{comma, joiner, zeroDigit, listLimit, blank, digit, withDigit, plain, Range, range, covers, highest}
+use Rattle.storage.specs.declared.Refusal.the-variants.{NotList, NotAscii, BadStyle}
+use Rattle.style.specs.Styles.{allowed}
+use Rattle.style.specs.declared.Style.{Style}
+use Rattle.text.specs.Lists.{comma, zeroDigit, listLimit, blank, digit, withDigit, plain, Range, range, covers, highest}
 use Rattle.text.specs.declared.Kind.{Kind}
 use Rattle.text.specs.declared.Kind.the-variants.{Digit, Blank, Joiner, Comma, Other}
 use Rattle.text.specs.declared.Value.{Value}
@@ -14,14 +16,18 @@ use Rattle.text.specs.declared.Value.the-variants.{Of, Missing}
 use Rattle.text.specs.declared.Token.{Token}
 use Rattle.text.specs.declared.Token.the-variants.{Range as Ranging, Empty, NoRange}
 
--- what a byte is to a list
-unfoldable pub kind : ℕ → Kind
-kind c =
-    choose (digit c) (Digit (c - zeroDigit)) (choose (blank c) Blank (choose (eqb c joiner) Joiner (choose (eqb c comma) Comma Other)))
+-- what a byte is to a list with the joiner j
+unfoldable pub kind : ℕ → ℕ → Kind
+kind j c =
+    choose (digit c) (Digit (c - zeroDigit)) (choose (blank c) Blank (choose (eqb c j) Joiner (choose (eqb c comma) Comma Other)))
 
--- one digit more; limit + 1 stands for every larger number
+-- more than a number of any style may be
+abbrev pub tooLarge : ℕ
+tooLarge = listLimit + 1_001
+
+-- one digit more; `tooLarge` stands for every larger number
 abbrev pub grown : ℕ → ℕ → ℕ
-grown v d = min (listLimit + 1) (withDigit v d)
+grown v d = min tooLarge (withDigit v d)
 
 -- how far a number is read: no digit yet, its last byte a digit, or blanks after it
 pub data NumberSoFar : Type 0 where
@@ -40,14 +46,14 @@ part l n = record { left = l; number = n }
 abbrev pub fresh : Part
 fresh = part Missing Unread
 
--- a number that ended, if a list may hold it
-abbrev pub allowed : ℕ → Value
-allowed v = choose (leb v listLimit) (Of v) Missing
+-- the bit of a number that ended, if a list that counts from f may hold it
+abbrev pub bitOf : ℕ → ℕ → Value
+bitOf f v = choose (leb f v && leb v (listLimit + f)) (Of (v - f)) Missing
 
-unfoldable pub value : NumberSoFar → Value
-value Unread = Missing
-value (Open v) = allowed v
-value (Closed v) = allowed v
+unfoldable pub value : ℕ → NumberSoFar → Value
+value f Unread = Missing
+value f (Open v) = bitOf f v
+value f (Closed v) = bitOf f v
 
 -- nothing but blanks is read
 abbrev pub unread : NumberSoFar → Bool
@@ -68,8 +74,8 @@ ranged l Missing = NoRange
 ranged Missing (Of b) = Ranging b b
 ranged (Of a) (Of b) = choose (leb a b) (Ranging a b) NoRange
 
-unfoldable pub token : Part → Token
-token p = choose (empty p) Empty (ranged (p .left) (value (p .number)))
+unfoldable pub token : ℕ → Part → Token
+token f p = choose (empty p) Empty (ranged (p .left) (value f (p .number)))
 
 -- what a byte makes of a token: it goes on, it ends, or it is none
 pub data Step : Type 0 where
@@ -92,12 +98,12 @@ byJoiner (Of a) v = Stop
 byJoiner Missing Missing = Stop
 byJoiner Missing (Of a) = Go (part (Of a) Unread)
 
-unfoldable pub byKind : Part → Kind → Step
-byKind p (Digit d) = byDigit (p .left) (p .number) d
-byKind p Blank = byBlank (p .left) (p .number)
-byKind p Joiner = byJoiner (p .left) (value (p .number))
-byKind p Comma = Ends
-byKind p Other = Stop
+unfoldable pub byKind : ℕ → Part → Kind → Step
+byKind f p (Digit d) = byDigit (p .left) (p .number) d
+byKind f p Blank = byBlank (p .left) (p .number)
+byKind f p Joiner = byJoiner (p .left) (value f (p .number))
+byKind f p Comma = Ends
+byKind f p Other = Stop
 
 -- how far a text is read: the ranges of the tokens that ended, and the token at hand
 pub data TextSoFar : Type 0 where
@@ -110,18 +116,18 @@ tokenEnds rs (Ranging a b) = reading (rs ++ range a b ∷ []) fresh
 tokenEnds rs Empty = bad
 tokenEnds rs NoRange = bad
 
-abbrev pub after : List Range → Part → Step → TextSoFar
-after rs p (Go q) = reading rs q
-after rs p Ends = tokenEnds rs (token p)
-after rs p Stop = bad
+abbrev pub after : ℕ → List Range → Part → Step → TextSoFar
+after f rs p (Go q) = reading rs q
+after f rs p Ends = tokenEnds rs (token f p)
+after f rs p Stop = bad
 
-unfoldable pub next : TextSoFar → ℕ → TextSoFar
-next bad c = bad
-next (reading rs p) c = after rs p (byKind p (kind c))
+unfoldable pub next : Style → TextSoFar → ℕ → TextSoFar
+next y bad c = bad
+next y (reading rs p) c = after (y .first) rs p (byKind (y .first) p (kind (y .joiner) c))
 
-unfoldable pub reads : TextSoFar → List ℕ → TextSoFar
-reads x [] = x
-reads x (c ∷ t) = reads (next x c) t
+unfoldable pub reads : Style → TextSoFar → List ℕ → TextSoFar
+reads y x [] = x
+reads y x (c ∷ t) = reads y (next y x c) t
 
 -- what a text is: no list, or one of these ranges
 pub data Parsed : Type 0 where
@@ -135,12 +141,12 @@ textEnds [] Empty = notList
 textEnds (r ∷ rs) Empty = ranges (r ∷ rs)
 textEnds rs NoRange = notList
 
-unfoldable pub parsed : TextSoFar → Parsed
-parsed bad = notList
-parsed (reading rs p) = textEnds rs (token p)
+unfoldable pub parsed : ℕ → TextSoFar → Parsed
+parsed f bad = notList
+parsed f (reading rs p) = textEnds rs (token f p)
 
-unfoldable pub parse : List ℕ → Parsed
-parse t = parsed (reads (reading [] fresh) t)
+unfoldable pub parse : Style → List ℕ → Parsed
+parse y t = parsed (y .first) (reads y (reading [] fresh) t)
 
 -- the union of the ranges, in the words up to the largest number's
 abbrev pub union : List Range → Bits
@@ -150,6 +156,6 @@ abbrev pub listOutcome : ℕ → Parsed → Outcome
 listOutcome c notList = refused NotList
 listOutcome c (ranges rs) = within c (union rs)
 
--- the earlier set is discarded; refusals 8, 7 and 6, in this order
-unfoldable pub readingList : List ℕ → Op
-readingList t c b = let o = listOutcome c (parse t) in choose (plain t) o (refused NotAscii)
+-- the earlier set is discarded; refusals 15, 8, 7 and 6, in this order
+unfoldable pub readingList : Style → List ℕ → Op
+readingList y t c b = let o = listOutcome c (parse y t) in choose (allowed y) (choose (plain t) o (refused NotAscii)) (refused BadStyle)

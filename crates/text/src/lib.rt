@@ -5,6 +5,7 @@ use storage::Bitmap;
 use storage::Change;
 use storage::Guard;
 use storage::Refusal;
+use style::Style;
 ghost use mathlib.Core.Path.{_≡_};
 ghost use Rattle.storage.specs.Stores.{Changes};
 ghost use Rattle.text.specs.Readings.{kind, grown, fresh, value, token, empty, byDigit, byJoiner, byKind, readingList};
@@ -12,12 +13,13 @@ ghost use Rattle.text.specs.Kernels.{numberSoFar, leftOf, partOf, stepOf
 
 pub const COMMA: u8 = 44;
 
-pub const JOINER: u8 = 45;
-
 pub const ZERO: u8 = 48;
 
-// The largest number that a list may hold.
+// The largest bit that a list may hold.
 const LIMIT: usize = 4_294_967_295;
+
+// More than a number of any style may be.
+const TOO_LARGE: usize = LIMIT + 1_001;
 
 // What a byte is to a list.
 enum Kind {
@@ -35,7 +37,7 @@ enum Value {
 }
 
 // How far a token is read: whether the joiner came, the number before it, and how far the number at hand is read: 0, no digit yet;
-// 1, its last byte a digit; 2, blanks after it. One past the limit stands for every larger number. These are numbers because a loop
+// 1, its last byte a digit; 2, blanks after it. `TOO_LARGE` stands for every larger number. These are numbers because a loop
 // that copies an enum copies its padding, which costs more than the rest.
 struct Part {
     pub split: usize,
@@ -64,8 +66,8 @@ enum Measured {
     NotList,
 }
 
-fn kind_of(c: u8) -> Kind
-    ensures { λ r. ⌜ r ≡ kind c ⌝ }
+fn kind_of(c: u8, joiner: usize) -> Kind
+    ensures { λ r. ⌜ r ≡ kind joiner c ⌝ }
 {
     if bytes::is_digit(c) {
         return Kind::Digit(c - ZERO);
@@ -73,7 +75,7 @@ fn kind_of(c: u8) -> Kind
     if bytes::is_blank(c) {
         return Kind::Blank;
     }
-    if c == JOINER {
+    if c as usize == joiner {
         return Kind::Joiner;
     }
     if c == COMMA {
@@ -86,22 +88,25 @@ fn kind_of(c: u8) -> Kind
 fn grown(v: usize, d: u8) -> usize
     ensures { λ r. ⌜ r ≡ grown v d ⌝ }
 {
-    if v > LIMIT {
-        return LIMIT + 1;
+    if v >= TOO_LARGE {
+        return TOO_LARGE;
     }
     let x = v * 10 + d as usize;
-    if x > LIMIT { LIMIT + 1 } else { x }
+    if x > TOO_LARGE { TOO_LARGE } else { x }
 }
 
-// A number that ended, if it has digits and is within the limit.
-fn value_of(phase: usize, v: usize) -> Value
-    ensures { λ r. ⌜ r ≡ value (numberSoFar phase v) ⌝ }
+// The bit of a number that ended, if it has digits, is not below the first number, and is within the limit.
+fn value_of(phase: usize, v: usize, first: usize) -> Value
+    ensures { λ r. ⌜ r ≡ value first (numberSoFar phase v) ⌝ }
 {
     if phase == 0 {
         return Value::Missing;
     }
-    if v <= LIMIT {
-        Value::Of(v)
+    if v < first {
+        return Value::Missing;
+    }
+    if v - first <= LIMIT {
+        Value::Of(v - first)
     } else {
         Value::Missing
     }
@@ -127,14 +132,14 @@ fn empty(p: Part) -> bool
 }
 
 // What a token is that ended.
-fn token_of(p: Part) -> Token
-    ensures { λ r. ⌜ r ≡ token (partOf p) ⌝ }
+fn token_of(p: Part, first: usize) -> Token
+    ensures { λ r. ⌜ r ≡ token first (partOf p) ⌝ }
 {
     if empty(p) {
         return Token::Empty;
     }
     let a = p.left;
-    let v = value_of(p.phase, p.value);
+    let v = value_of(p.phase, p.value, first);
     match v {
         Value::Missing => Token::NoRange,
         Value::Of(b) => {
@@ -174,13 +179,13 @@ fn by_digit(p: Part, d: u8) -> Step
 }
 
 // A token and a joiner.
-fn by_joiner(p: Part) -> Step
-    ensures { λ r. ⌜ stepOf r ≡ byJoiner (leftOf (p .split) (p .left)) (value (numberSoFar (p .phase) (p .value))) ⌝ }
+fn by_joiner(p: Part, first: usize) -> Step
+    ensures { λ r. ⌜ stepOf r ≡ byJoiner (leftOf (p .split) (p .left)) (value first (numberSoFar (p .phase) (p .value))) ⌝ }
 {
     if p.split != 0 {
         return Step::Stop;
     }
-    match value_of(p.phase, p.value) {
+    match value_of(p.phase, p.value, first) {
         Value::Missing => Step::Stop,
         Value::Of(a) => Step::Go(Part {
             split: 1,
@@ -192,8 +197,8 @@ fn by_joiner(p: Part) -> Step
 }
 
 // A token and the next byte.
-fn step_by(p: Part, k: Kind) -> Step
-    ensures { λ r. ⌜ stepOf r ≡ byKind (partOf p) k ⌝ }
+fn step_by(p: Part, k: Kind, first: usize) -> Step
+    ensures { λ r. ⌜ stepOf r ≡ byKind first (partOf p) k ⌝ }
 {
     match k {
         Kind::Digit(d) => by_digit(p, d),
@@ -208,15 +213,15 @@ fn step_by(p: Part, k: Kind) -> Step
             }
             Step::Go(p)
         }
-        Kind::Joiner => by_joiner(p),
+        Kind::Joiner => by_joiner(p, first),
         Kind::Comma => Step::Ends,
         Kind::Other => Step::Stop,
     }
 }
 
 // The largest number of a list, if the text is one. The ranges of its good tokens are set, as far as the words go.
-fn walk(words: &mut [u64], text: &[u8]) -> Measured
-    ensures { λ r. ⌜ Walked (now (text .entry)) r (now (words .entry)) (now (words .exit)) ⌝ }
+fn walk(words: &mut [u64], text: &[u8], style: Style) -> Measured
+    ensures { λ r. ⌜ Walked style (now (text .entry)) r (now (words .entry)) (now (words .exit)) ⌝ }
 {
     let mut top: usize = 0;
     let mut any = false;
@@ -225,7 +230,7 @@ fn walk(words: &mut [u64], text: &[u8]) -> Measured
         let mut part = fresh();
         let mut more = false;
         'digits: while at < text.len() {
-            let s = step_by(part, kind_of(text[at]));
+            let s = step_by(part, kind_of(text[at], style.joiner), style.first);
             at += 1;
             match s {
                 Step::Go(q) => part = q,
@@ -236,7 +241,7 @@ fn walk(words: &mut [u64], text: &[u8]) -> Measured
                 Step::Stop => break 'tokens,
             }
         }
-        match token_of(part) {
+        match token_of(part, style.first) {
             Token::Range(a, b) => {
                 arch::fill_region(words, a, b + 1, true);
                 top = word::max(top, b);
@@ -259,20 +264,24 @@ fn walk(words: &mut [u64], text: &[u8]) -> Measured
     Measured::NotList
 }
 
-// The bitmap becomes the set that the text lists, in the words up to its largest number's. 8, then 7, then 6, each before a word is written.
-pub fn from_list(words: &mut [u64], b: Bitmap, text: &[u8]) -> Change
-    ensures { λ r. ⌜ Changes (readingList (now (text .entry))) (now (words .entry)) b r (now (words .exit)) ⌝ }
+// The bitmap becomes the set that the text lists in a style, in the words up to its largest number's. 15, then 8, then 7, then 6, each before a word
+// is written. Of the style the reader looks at the first number and the joiner.
+pub fn from_list(words: &mut [u64], b: Bitmap, text: &[u8], style: Style) -> Change
+    ensures { λ r. ⌜ Changes (readingList style (now (text .entry))) (now (words .entry)) b r (now (words .exit)) ⌝ }
 {
     let n = b.count;
     match storage::check(words, b) {
         Guard::Stop(e) => return Change::Refused(e, b),
         Guard::Pass => {}
     }
+    if !style::is_allowed(style) {
+        return Change::Refused(Refusal::BadStyle, b);
+    }
     if !bytes::is_plain(text) {
         return Change::Refused(Refusal::NotAscii, b);
     }
     // The first walk is lent no word: it measures.
-    let m = walk(&mut words[..0], text);
+    let m = walk(&mut words[..0], text, style);
     let Measured::Top(top) = m else {
         return Change::Refused(Refusal::NotList, b);
     };
@@ -281,6 +290,6 @@ pub fn from_list(words: &mut [u64], b: Bitmap, text: &[u8]) -> Change
         return Change::Refused(Refusal::NoSpace, b);
     }
     storage::zero_words(words, 0, word::max(n, count));
-    walk(&mut words[..count], text);
+    walk(&mut words[..count], text, style);
     Change::Done(Bitmap { count: count, ..b })
 }

@@ -18,7 +18,7 @@ enum-told c = search needs
 
 returns : tie.Need-returns
 unfolding byKind
-returns c = sym (step-at (partOf (c .before .before .before .before .args .p)) (c .before .before .enum-told .given .1) refl (number-open _ _ (c .if1 .taken)))
+returns c = sym (step-at _ (partOf (c .before .before .before .before .args .p)) (c .before .before .enum-told .given .1) refl (number-open _ _ (c .if1 .taken)))
 
 enum-told-2 : tie.Need-enum-told-2
 enum-told-2 c = search needs
@@ -34,22 +34,22 @@ enum-told-4 c = search needs
 
 returns-2 : tie.Need-returns-2
 unfolding byKind
-returns-2 c = c .by-digit .ensures ∙ sym (ap (byKind (partOf (c .before .before .before .before .args .p))) (c .before .before .k .given .1))
+returns-2 c = c .by-digit .ensures ∙ sym (ap (byKind _ (partOf (c .before .before .before .before .args .p))) (c .before .before .k .given .1))
 
 returns-3 : tie.Need-returns-3
-returns-3 c = blank-keeps (c .before .before .before .before .args .p) (c .before .before .enum-told .given .1) (c .if1 .left)
+returns-3 c = blank-keeps _ (c .before .before .before .before .args .p) (c .before .before .enum-told .given .1) (c .if1 .left)
 
 returns-4 : tie.Need-returns-4
 unfolding byKind
-returns-4 c = c .by-joiner .ensures ∙ sym (ap (byKind (partOf (c .before .before .before .args .p))) (c .before .enum-told2 .given .1))
+returns-4 c = c .by-joiner .ensures ∙ sym (ap (byKind _ (partOf (c .before .before .before .args .p))) (c .before .enum-told2 .given .1))
 
 returns-5 : tie.Need-returns-5
 unfolding byKind
-returns-5 c = sym (ap (byKind (partOf (c .before .before .args .p))) (c .enum-told3 .given .1))
+returns-5 c = sym (ap (byKind _ (partOf (c .before .before .args .p))) (c .enum-told3 .given .1))
 
 returns-6 : tie.Need-returns-6
 unfolding byKind
-returns-6 c = sym (ap (byKind (partOf (c .before .before .args .p))) (c .enum-told4 .given .1))
+returns-6 c = sym (ap (byKind _ (partOf (c .before .before .args .p))) (c .enum-told4 .given .1))
 
 pub step-by-spec : {M : Type 1} → statement M
 step-by-spec =

@@ -13,7 +13,7 @@ empty-requires : tie.Need-empty-requires
 empty-requires c κs = search needs
 
 returns : tie.Need-returns
-returns c = sym (token-empty (partOf (c .before .before .args .p)) (sym (c .before .empty .ensures) ∙ c .if1 .taken))
+returns c = sym (token-empty _ (partOf (c .before .before .args .p)) (sym (c .before .empty .ensures) ∙ c .if1 .taken))
 
 value-of-requires : tie.Need-value-of-requires
 value-of-requires c κs = search needs
@@ -26,25 +26,25 @@ enum-known-v c = search needs
 
 returns-2 : tie.Need-returns-2
 returns-2 c =
-    sym (token-at (partOf (c .before .before .before .before .before .before .before .before .args .p))
+    sym (token-at _ (partOf (c .before .before .before .before .before .before .before .before .args .p))
     (sym (c .before .before .before .before .before .before .before .empty .ensures) ∙ c .before .before .before .before .before .before .if1 .left) (left-none _ _ (c .if2 .taken))
     (sym (c .before .before .before .before .before .value-of .ensures) ∙ c .before .before .before .v .given .1))
 
 returns-3 : tie.Need-returns-3
 returns-3 c =
-    sym (token-missing (partOf (c .before .before .before .before .before .args .p))
+    sym (token-missing _ (partOf (c .before .before .before .before .before .args .p))
     (sym (c .before .before .before .before .empty .ensures) ∙ c .before .before .before .if1 .left) (sym (c .before .before .value-of .ensures) ∙ c .enum-told .given .1))
 
 returns-4 : tie.Need-returns-4
 returns-4 c =
-    sym (token-at (partOf (c .before .before .before .before .before .before .before .before .before .args .p))
+    sym (token-at _ (partOf (c .before .before .before .before .before .before .before .before .before .args .p))
     (sym (c .before .before .before .before .before .before .before .before .empty .ensures) ∙ c .before .before .before .before .before .before .before .if1 .left)
     (left-some _ _ (c .before .if2 .left)) (sym (c .before .before .before .before .before .before .value-of .ensures) ∙ c .before .before .before .before .v .given .1)
     ∙ chosen _ _ (le-leb _ _ (c .if3 .taken)))
 
 returns-5 : tie.Need-returns-5
 returns-5 c =
-    sym (token-at (partOf (c .before .before .before .before .before .before .before .before .before .args .p))
+    sym (token-at _ (partOf (c .before .before .before .before .before .before .before .before .before .args .p))
     (sym (c .before .before .before .before .before .before .before .before .empty .ensures) ∙ c .before .before .before .before .before .before .before .if1 .left)
     (left-some _ _ (c .before .if2 .left)) (sym (c .before .before .before .before .before .before .value-of .ensures) ∙ c .before .before .before .before .v .given .1)
     ∙ other _ _ (lt-leb _ _ (c .if3 .left)))
