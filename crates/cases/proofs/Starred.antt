@@ -37,8 +37,8 @@ use Rattle.style.specs.Styles.{plainStyle}
 use Rattle.sheet.specs.Reads.{readAnswer, readStore, readingCount}
 use Rattle.shapes.specs.declared.Split.{Split}
 use Rattle.sheet.specs.declared.Reading.{Reading}
-use Rattle.cases.specs.Cases.{Question, from-list, next-clear, first-clear, get-field, select, eq, rotate-right, xori, split-off, read, zeros, whole, changed, found, counted, fielded}
-use Rattle.cases.specs.Cases.{tested, parted, sheeted, Comes, Sample, sample, Hold, starred, StarredHold}
+use Rattle.cases.specs.Cases.{Question, from-list, from-list-in, write-list-in, next-clear, first-clear, get-field, select, eq, rotate-right, xori, split-off, read, zeros, whole, changed, found, counted, fielded}
+use Rattle.cases.specs.Cases.{tested, parted, sheeted, listed, Comes, Sample, sample, Hold, starred, StarredHold, styled, StyledHold}
 
 -- a reading's answer, and its result printed
 printing : Reading → List ℕ → List ℕ
@@ -53,6 +53,8 @@ changedBy o b ws = changed (answer o b) (store o ws (b .count))
 -- what the contract of a call makes of it
 outOf : Question → List ℕ
 outOf (from-list bytes c) = changedBy (outcome (read.readingList plainStyle bytes) (zeros c) noWords) noWords (zeros c)
+outOf (from-list-in y bytes c) = changedBy (outcome (read.readingList y bytes) (zeros c) noWords) noWords (zeros c)
+outOf (write-list-in y ws n) = listed (reading ws (whole ws) Amount.Refused (listAnswer y (zeros n))) (reading ws (whole ws) (λ e. zeros n) (listBuffer y (zeros n)))
 outOf (next-clear ws i) = counted (reading ws (whole ws) Amount.Refused (λ s. Amount.Is (nextClear s i)))
 outOf (first-clear ws) = counted (reading ws (whole ws) Amount.Refused (λ s. Amount.Is (nextClear s 0)))
 outOf (get-field ws i width) = fielded (reading ws (whole ws) Field.Refused (fieldAt i width))
@@ -69,6 +71,8 @@ outOf (read e sheet c) = let k = course e sheet [] noWords (zeros c) in printing
 comes : (a : Question) → Comes a (outOf a)
 unfolding printing changedBy outOf
 comes (from-list bytes c) = λ r ws h. ap₂ changed (h .answers) (h .leaves)
+comes (from-list-in y bytes c) = λ r ws h. ap₂ changed (h .answers) (h .leaves)
+comes (write-list-in y ws n) = λ r bytes h. ap₂ listed (h .answers) (h .leaves)
 comes (next-clear ws i) = λ r h. ap counted h
 comes (first-clear ws) = λ r h. ap counted h
 comes (get-field ws i width) = λ r h. ap fielded h
@@ -104,3 +108,12 @@ computed = refl
 
 pub starred-hold : StarredHold
 starred-hold = subst Hold computed (each starred)
+
+styles-computed : again styled ≡ styled
+unfolding bit pack wordOf member tabFrom wordsOf checked view reading within wordsFor wordAt written zeroed answer store outcome plain covers highest read.kind
+    read.value read.token read.empty read.byKind read.next read.reads read.parsed read.parse read.readingList runsFrom decimalFrom singles pieces printed others text
+    changedBy outOf again
+styles-computed = refl
+
+pub styled-hold : StyledHold
+styled-hold = subst Hold styles-computed (each styled)

@@ -1,6 +1,8 @@
--- The starred cases of 01, "Small books to try", and the sentences behind them: one table of what is asked and what must come out. proofs/Starred: every row holds.
+-- The starred cases of 01, "Small books to try", the sentences behind them, and cases of the requests of 02: tables of what is asked and what must come out.
+-- proofs/Starred: every row holds.
 use Prim.Native.Nat.{ℕ, zero, suc}
 use mathlib.Core.Path.{_≡_}
+use mathlib.Core.Bool.{Bool, true, false}
 use mathlib.Core.List.{List, [], _∷_, _++_}
 use lib.ListN.{length, take}
 use Rattle.storage.specs.Refusals.{changeNumber, changeRecord, foundNumber, foundFlag, foundValue, amountNumber, amountValue, fieldNumber, fieldValue, truthNumber, truthValue}
@@ -19,6 +21,7 @@ use Rattle.bitmaps.specs.Bitmaps.{flippingBit}
 use Rattle.shapes.specs.Shapes.{splitNumber, splitHead, splitTail, Splits}
 use Rattle.shapes.specs.declared.Split.{Split}
 use Rattle.style.specs.Styles.{plainStyle}
+use Rattle.style.specs.declared.Style.{Style}
 use Rattle.text.specs.Readings.{readingList}
 use Rattle.print.specs.Texts.{Prints}
 use Rattle.sheet.specs.Reads.{readingNumber, readingRecord, readingCount, Reads}
@@ -35,6 +38,9 @@ pub data Question : Type 0 where
   rotate-right : (words : List ℕ) (k : ℕ) → Question
   xori : (words : List ℕ) (count i : ℕ) → Question
   split-off : (words : List ℕ) (at capacity : ℕ) → Question
+  -- in a style: first number, joiner, whether there is a blank, shortest run; into an empty bitmap, and from all words of a store
+  from-list-in : Style → (text : List ℕ) (capacity : ℕ) → Question
+  write-list-in : Style → (words : List ℕ) (size : ℕ) → Question
   -- from an empty bitmap
   read : (edition : ℕ) (sheet : List ℕ) (capacity : ℕ) → Question
 
@@ -71,9 +77,15 @@ parted r ws ts = splitNumber r ∷ splitHead r .count ∷ (ws ++ (splitTail r �
 abbrev pub sheeted : Reading → Amount → List ℕ → List ℕ
 sheeted r p bytes = readingNumber r ∷ readingRecord r ∷ readingCount r ∷ take (amountValue p) bytes
 
+-- the number, the text's length, and every byte of the buffer
+abbrev pub listed : Amount → List ℕ → List ℕ
+listed r bytes = amountNumber r ∷ amountValue r ∷ bytes
+
 -- whatever meets the call's contract comes out so; the result of a sheet is printed into sixteen bytes
 abbrev pub Comes : Question → List ℕ → Type 0
 Comes (from-list text c) out = (r : Change) (ws : List ℕ) → Changes (readingList plainStyle text) (zeros c) noWords r ws → changed r ws ≡ out
+Comes (from-list-in y text c) out = (r : Change) (ws : List ℕ) → Changes (readingList y text) (zeros c) noWords r ws → changed r ws ≡ out
+Comes (write-list-in y ws n) out = (r : Amount) (bytes : List ℕ) → Prints y ws (whole ws) (zeros n) r bytes → listed r bytes ≡ out
 Comes (next-clear ws i) out = (r : Amount) → r ≡ reading ws (whole ws) Amount.Refused (λ s. Amount.Is (nextClear s i)) → counted r ≡ out
 Comes (first-clear ws) out = (r : Amount) → r ≡ reading ws (whole ws) Amount.Refused (λ s. Amount.Is (nextClear s 0)) → counted r ≡ out
 Comes (get-field ws i width) out = (r : Field) → r ≡ reading ws (whole ws) Field.Refused (fieldAt i width) → fielded r ≡ out
@@ -149,6 +161,35 @@ starred =
     ∷ sample (read 2 sheet 128) (0 ∷ 3 ∷ 1 ∷ 52 ∷ 44 ∷ 32 ∷ 55 ∷ 45 ∷ 56 ∷ [])
     ∷ []
 
+abbrev pub style : ℕ → ℕ → Bool → ℕ → Style
+style f j b k = record { first = f; joiner = j; blank = b; shortest = k }
+
+-- T-01
+abbrev pub styled : List Sample
+styled =
+    -- {4, 5} with shortest 3 is `4, 5`, with 2 `4-5`, without a blank `4,5`
+    sample (write-list-in (style 0 45 true 3) (48 ∷ []) 5) (0 ∷ 4 ∷ 52 ∷ 44 ∷ 32 ∷ 53 ∷ 0 ∷ [])
+    ∷ sample (write-list-in (style 0 45 true 2) (48 ∷ []) 5) (0 ∷ 3 ∷ 52 ∷ 45 ∷ 53 ∷ 0 ∷ 0 ∷ [])
+    ∷ sample (write-list-in (style 0 45 false 3) (48 ∷ []) 5) (0 ∷ 3 ∷ 52 ∷ 44 ∷ 53 ∷ 0 ∷ 0 ∷ [])
+    -- from 1, a colon, shortest 3: {0, 1, 2, 4, 5} is `1:3, 5, 6`, in nine bytes and not in eight
+    ∷ sample (write-list-in (style 1 58 true 3) (55 ∷ []) 9) (0 ∷ 9 ∷ 49 ∷ 58 ∷ 51 ∷ 44 ∷ 32 ∷ 53 ∷ 44 ∷ 32 ∷ 54 ∷ [])
+    ∷ sample (write-list-in (style 1 58 true 3) (55 ∷ []) 8) (6 ∷ 0 ∷ zeros 8)
+    -- reading looks at first and joiner only: shortest 3 reads `4-5`, a style without a blank `1, 2`; a colon style gets `1-2`: 7
+    ∷ sample (from-list-in (style 0 45 true 3) (52 ∷ 45 ∷ 53 ∷ []) 2) (0 ∷ 1 ∷ 48 ∷ 0 ∷ [])
+    ∷ sample (from-list-in (style 0 45 false 2) (49 ∷ 44 ∷ 32 ∷ 50 ∷ []) 2) (0 ∷ 1 ∷ 6 ∷ 0 ∷ [])
+    ∷ sample (from-list-in (style 0 58 true 2) (49 ∷ 45 ∷ 50 ∷ []) 2) (7 ∷ 0 ∷ 0 ∷ 0 ∷ [])
+    -- first 1,000: `0999` is 7, `01000` reads {0}, `4294968295` into two words is 6, `4294968296` is 7
+    ∷ sample (from-list-in (style 1_000 45 true 2) (48 ∷ 57 ∷ 57 ∷ 57 ∷ []) 2) (7 ∷ 0 ∷ 0 ∷ 0 ∷ [])
+    ∷ sample (from-list-in (style 1_000 45 true 2) (48 ∷ 49 ∷ 48 ∷ 48 ∷ 48 ∷ []) 2) (0 ∷ 1 ∷ 1 ∷ 0 ∷ [])
+    ∷ sample (from-list-in (style 1_000 45 true 2) (52 ∷ 50 ∷ 57 ∷ 52 ∷ 57 ∷ 54 ∷ 56 ∷ 50 ∷ 57 ∷ 53 ∷ []) 2) (6 ∷ 0 ∷ 0 ∷ 0 ∷ [])
+    ∷ sample (from-list-in (style 1_000 45 true 2) (52 ∷ 50 ∷ 57 ∷ 52 ∷ 57 ∷ 54 ∷ 56 ∷ 50 ∷ 57 ∷ 54 ∷ []) 2) (7 ∷ 0 ∷ 0 ∷ 0 ∷ [])
+    -- 15: a digit joins, and the text is FF; first 2^64 - 1; a joiner of 256 + 45, and there is nothing to print; shortest 1 and no byte lent
+    ∷ sample (from-list-in (style 0 48 true 2) (0xff ∷ []) 2) (15 ∷ 0 ∷ 0 ∷ 0 ∷ [])
+    ∷ sample (from-list-in (style 0xffff_ffff_ffff_ffff 45 true 2) (49 ∷ []) 2) (15 ∷ 0 ∷ 0 ∷ 0 ∷ [])
+    ∷ sample (write-list-in (style 0 301 true 2) (0 ∷ []) 1) (15 ∷ 0 ∷ 0 ∷ [])
+    ∷ sample (write-list-in (style 0 45 true 1) (48 ∷ []) 0) (15 ∷ 0 ∷ [])
+    ∷ []
+
 -- every row comes out as it says
 abbrev pub Hold : List Sample → Type 0
 Hold [] = Unit {0}
@@ -156,3 +197,6 @@ Hold (r ∷ rs) = Comes (r .asked) (r .out) × Hold rs
 
 abbrev pub StarredHold : Type 0
 StarredHold = Hold starred
+
+abbrev pub StyledHold : Type 0
+StyledHold = Hold styled
