@@ -145,12 +145,14 @@ pub fn set_region(w: &mut [u64], count: &mut usize, i: usize, value: bool, k: us
     assert_eq!(unsafe { raw::taxolbin_set_region(w.as_mut_ptr(), w.len(), count, i, value as u32, k) }, 0);
 }
 
+/// List text in the plain style, which is the Rust's: 0, hyphen, blank, 2.
 pub fn write_list(w: &[u64], out: &mut [u8]) -> usize {
     let mut length = 0;
-    assert_eq!(unsafe { raw::taxolbin_write_list(w.as_ptr(), w.len(), w.len(), out.as_mut_ptr(), out.len(), &mut length) }, 0);
+    let number = unsafe { raw::taxolbin_write_list(w.as_ptr(), w.len(), w.len(), out.as_mut_ptr(), out.len(), &mut length, 0, 45, 1, 2) };
+    assert_eq!(number, 0);
     length
 }
 
 pub fn from_list(w: &mut [u64], count: &mut usize, text: &[u8]) {
-    assert_eq!(unsafe { raw::taxolbin_from_list(w.as_mut_ptr(), w.len(), count, text.as_ptr(), text.len()) }, 0);
+    assert_eq!(unsafe { raw::taxolbin_from_list(w.as_mut_ptr(), w.len(), count, text.as_ptr(), text.len(), 0, 45, 1, 2) }, 0);
 }

@@ -1,5 +1,5 @@
 // The archive's calls, each by its own name, and one way to make them all: on copies of what is lent, with guards before and behind each.
-use crate::case::{Case, Out};
+use crate::case::{Case, Out, Style};
 use crate::ffi;
 
 type W = *const u64;
@@ -43,8 +43,8 @@ calls! {
     Both(w: M, c: N, n: O, l: W, lc: N, ln: N, r: W, rc: N, rn: N): taxolbin_and_from taxolbin_andnot_from taxolbin_or_from taxolbin_xor_from
         taxolbin_dup_and taxolbin_dup_andnot taxolbin_dup_or taxolbin_dup_xor;
     Split(w: M, c: N, n: O, x: N, t: M, tc: N, tn: O): taxolbin_split_off;
-    FromList(w: M, c: N, n: O, t: B, k: N): taxolbin_from_list;
-    WriteList(w: W, c: N, n: N, t: T, k: N, v: O): taxolbin_write_list;
+    FromList(w: M, c: N, n: O, t: B, k: N, first: N, joiner: N, blank: u32, shortest: N): taxolbin_from_list;
+    WriteList(w: W, c: N, n: N, t: T, k: N, v: O, first: N, joiner: N, blank: u32, shortest: N): taxolbin_write_list;
     Read(x: N, s: B, k: N, w: W, c: N, n: N, r: M, rc: N, at: O, rn: O): taxolbin_read;
     Start(b: T, c: N, n: O): taxolbin_start;
     Add(b: T, c: N, n: O, duty: u32, kind: N, p: u32, k: u32, flag: u32, width: N, value: u64, bits: N, l: B, ln: N): taxolbin_add;
@@ -88,6 +88,7 @@ pub fn run(call: &Call, c: &Case) -> Option<Out> {
     let (mut bytes, list, payload) = (Lent::new(&c.bytes, 0xee), Lent::new(&c.list, 0x77), Lent::new(&c.payload, 0xdd));
     let (cap, bcap, dcap, size) = (c.a.len(), c.b.len(), c.d.len(), c.bytes.len());
     let (x, y) = (c.x as usize, c.y as usize);
+    let Style { first, joiner, blank, shortest } = c.style;
     // a count goes in and out; the others have any value before the call
     let (mut n, mut v, mut u, mut w) = (c.n, 91, 92, 93u64);
     let mut outs = vec![];
@@ -111,8 +112,8 @@ pub fn run(call: &Call, c: &Case) -> Option<Out> {
             Call::Other(f) => f(a.ptr_mut(), cap, &mut n, b.ptr(), bcap, c.m),
             Call::Both(f) => f(a.ptr_mut(), cap, &mut n, b.ptr(), bcap, c.m, d.ptr(), dcap, c.l),
             Call::Split(f) => f(a.ptr_mut(), cap, &mut n, x, b.ptr_mut(), bcap, &mut v),
-            Call::FromList(f) => f(a.ptr_mut(), cap, &mut n, bytes.ptr(), size),
-            Call::WriteList(f) => f(a.ptr(), cap, n, bytes.ptr_mut(), size, &mut v),
+            Call::FromList(f) => f(a.ptr_mut(), cap, &mut n, bytes.ptr(), size, first, joiner, blank, shortest),
+            Call::WriteList(f) => f(a.ptr(), cap, n, bytes.ptr_mut(), size, &mut v, first, joiner, blank, shortest),
             Call::Read(f) => f(x, bytes.ptr(), size, a.ptr(), cap, n, b.ptr_mut(), bcap, &mut v, &mut u),
             Call::Start(f) => f(bytes.ptr_mut(), size, &mut n),
             Call::Add(f) => {

@@ -1,7 +1,19 @@
 // A case: what a call is given. Where a call has no use for a part, it is empty or 0. Random cases, and smaller ones of one that fails.
 use crate::rng::Rng;
 
-// Stores a, b and d with their counts n, m and l; bytes for a text, a sheet or a buffer; numbers; and an addition's duty, p, k and flag.
+// A style of list text, as a call takes it: the blank is a truth value.
+#[derive(Clone, Copy, Debug, Default, PartialEq)]
+pub struct Style {
+    pub first: usize,
+    pub joiner: usize,
+    pub blank: u32,
+    pub shortest: usize,
+}
+
+pub const PLAIN: Style = Style { first: 0, joiner: 45, blank: 1, shortest: 2 };
+
+// Stores a, b and d with their counts n, m and l; bytes for a text, a sheet or a buffer; numbers; an addition's duty, p, k and flag; and the
+// style of a text.
 #[derive(Clone, Debug, Default, PartialEq)]
 pub struct Case {
     pub a: Vec<u64>,
@@ -17,6 +29,7 @@ pub struct Case {
     pub y: u64,
     pub z: u64,
     pub f: [u32; 4],
+    pub style: Style,
 }
 
 // What is returned, what goes out by parameters, in their order, and every store and buffer afterwards.
@@ -73,25 +86,66 @@ impl Rng {
         }
     }
 
-    // A text whose numbers fit the store now and then.
-    fn text(&mut self, capacity: usize) -> Vec<u8> {
+    // The plain style every other time, else one of the others; some of these are outside the limits by one part or more, also by what a narrower
+    // number would not show.
+    fn style(&mut self) -> Style {
+        if self.below(2) == 0 {
+            return PLAIN;
+        }
+        let mut y = Style { first: self.below(1001) as usize, joiner: 33 + self.below(94) as usize, ..PLAIN };
+        if self.below(2) == 0 {
+            (y.first, y.joiner) = (self.pick(&[0, 1, 999, 1000]), self.pick(b"!+-/:;A~") as usize);
+        }
+        (y.blank, y.shortest) = (self.pick(&[0, 0, 1, 2, 1 << 31]), self.pick(&[2, 3, 4, 5, 8, 9]));
+        let parts = if self.below(4) == 0 { 1 + self.below(7) } else { 0 };
+        if parts & 1 != 0 {
+            y.first = self.pick(&[1001, 1 << 16, 1 << 32, (1 << 32) + 1, usize::MAX]);
+        }
+        if parts & 2 != 0 {
+            y.joiner = self.pick(&[0, 9, 10, 32, 44, 48, 57, 127, 128, 255, 256 + 45, (1 << 32) + 45, usize::MAX]);
+        }
+        if parts & 4 != 0 {
+            y.shortest = self.pick(&[0, 1, 10, 256 + 2, (1 << 32) + 2, usize::MAX]);
+        }
+        y
+    }
+
+    // A text whose numbers fit the store and the style now and then.
+    fn text(&mut self, capacity: usize, y: &Style) -> Vec<u8> {
         let n = 1 + self.below(12);
         let good = self.below(2) == 0;
+        let (first, joiner) = (y.first.min(1000) as u64, y.joiner as u8);
         let mut text = vec![];
         for _ in 0..n {
             if good {
-                let low = self.below(60 * capacity as u64 + 1);
+                let low = first + self.below(60 * capacity as u64 + 1);
                 let high = low + self.below(9);
-                let token = if self.below(2) == 0 { format!("{low}, ") } else { format!(" {low} -{high},") };
-                text.extend(token.bytes());
+                if self.below(2) == 0 {
+                    text.extend(format!("{low}, ").bytes());
+                } else {
+                    text.extend([format!(" {low} ").as_bytes(), &[joiner], format!("{high},").as_bytes()].concat());
+                }
             } else {
-                text.push(self.pick(b"0123456789,,--  \t\x0b\x0e\x80\xc2a"));
+                text.push(self.pick(&[&b"0123456789,,--  \t\x0b\x0e\x80\xc2a"[..], &[joiner; 2]].concat()));
             }
         }
-        if self.below(16) == 0 {
-            text.extend(b"4294967295");
+        match self.below(16) {
+            // round the upper limit, and round the lower one
+            0 => text.extend((4_294_967_294 + first + self.below(3)).to_string().bytes()),
+            1 => text.extend(format!("00{}", (first + self.below(3)).saturating_sub(1)).bytes()),
+            _ => {}
         }
         text
+    }
+
+    // A buffer for a text; every fourth is so short that little fits.
+    fn buffer(&mut self, long: bool) -> Vec<u8> {
+        let size = match self.below(4) {
+            0 => 12,
+            _ if long => 400_000,
+            _ => 900,
+        };
+        vec![0xab; self.below(size) as usize]
     }
 
     pub fn case(&mut self, name: &str, most: u64) -> Case {
@@ -120,10 +174,13 @@ impl Rng {
             _ => self.index(c.a.len()),
         };
         c.z = if name == "set_region" { self.pick(&[0, 0, 1, 1, 2, 1 << 31]) } else { self.word() };
+        if name.ends_with("_list") {
+            c.style = self.style();
+        }
         match name {
             "set_many" => c.list = (0..self.below(12)).map(|_| self.below(64 * c.a.len() as u64 + 2) as usize).collect(),
-            "from_list" => c.bytes = self.text(c.a.len()),
-            "write_list" => c.bytes = vec![0x20; self.below(if most > 100 { 400_000 } else { 900 }) as usize],
+            "from_list" => c.bytes = self.text(c.a.len(), &c.style),
+            "write_list" => c.bytes = self.buffer(most > 100),
             _ => {}
         }
         c
@@ -138,6 +195,14 @@ fn shorter<T: Clone>(v: &[T]) -> Vec<Vec<T>> {
 fn lower(x: u64) -> Vec<u64> {
     let (lowest, highest) = (x & x.wrapping_neg(), 1u64.checked_shl(63 - x.leading_zeros().min(63)).unwrap_or(0));
     [0, 1, lowest, x & !highest, x & !lowest, x / 2, x.wrapping_sub(64), x.wrapping_sub(1)].into_iter().filter(|&y| y < x).collect()
+}
+
+// The plain style, and those that are nearer to it in one part.
+fn plainer(y: Style) -> Vec<Style> {
+    let mut out = vec![PLAIN, Style { joiner: PLAIN.joiner, ..y }, Style { blank: PLAIN.blank, ..y }, Style { shortest: PLAIN.shortest, ..y }];
+    out.extend(lower(y.first as u64).iter().map(|&v| Style { first: v as usize, ..y }));
+    out.retain(|w| *w != y);
+    out
 }
 
 // Cases that are smaller in one part.
@@ -174,6 +239,7 @@ pub fn smaller(c: &Case) -> Vec<Case> {
     lower(c.x).iter().for_each(|&v| put(&|d| d.x = v));
     lower(c.y).iter().for_each(|&v| put(&|d| d.y = v));
     lower(c.z).iter().for_each(|&v| put(&|d| d.z = v));
+    plainer(c.style).iter().for_each(|&w| put(&|d| d.style = w));
     for k in 0..4 {
         lower(c.f[k] as u64).iter().for_each(|&v| put(&|d| d.f[k] = v as u32));
     }

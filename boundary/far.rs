@@ -34,8 +34,8 @@ pub fn huge() -> usize {
                 Call::Other(f) => f(w, big, &mut n, s, 2, 9),
                 Call::Both(f) => f(w, big, &mut n, s, 2, 9, s, 2, 9),
                 Call::Split(f) => f(w, big, &mut n, 0, s, 2, &mut v),
-                Call::FromList(f) => f(w, big, &mut n, t, 8),
-                Call::WriteList(f) => f(w, big, n, t, 8, &mut v),
+                Call::FromList(f) => f(w, big, &mut n, t, 8, usize::MAX, 0, 1, 0),
+                Call::WriteList(f) => f(w, big, n, t, 8, &mut v, usize::MAX, 0, 1, 0),
                 Call::Read(f) => f(1, t, 8, w, big, n, s, 2, &mut v, &mut u),
                 Call::Start(_) | Call::Add(_) => continue,
             }
@@ -73,6 +73,23 @@ fn at_limit(words: &mut [u64]) {
     assert_at("taxolbin_set", good && words[LIMIT] == 0);
     let good = unsafe { last_set(w, LIMIT, n, &mut found, &mut place) == 0 && (found, place) == (1, last) };
     assert_at("taxolbin_last_set", good);
+    last_number(words);
+}
+
+// The greatest number of list text, which has 33 bits: printed, read back, and one more, which is no list. The last bit alone is set before and after.
+fn last_number(words: &mut [u64]) {
+    let w = words.as_mut_ptr();
+    let find = |name: &str| &CALLS.iter().find(|c| c.0 == name).expect("a call").1;
+    let (Call::FromList(read), Call::WriteList(write)) = (find("taxolbin_from_list"), find("taxolbin_write_list")) else { panic!("another form") };
+    let (mut text, mut length, mut n) = (*b"xxxxxxxxxxxx", 7, LIMIT);
+    let t = text.as_mut_ptr();
+    let good = unsafe { write(w, LIMIT, n, t, 12, &mut length, 1000, 45, 1, 2) == 0 };
+    assert_at("taxolbin_write_list", good && length == 10 && text == *b"4294968295xx");
+    let good = unsafe { read(w, LIMIT, &mut n, text.as_ptr(), 10, 1000, 45, 1, 2) == 0 && n == LIMIT };
+    assert_at("taxolbin_from_list", good && words[LIMIT - 1] == 1 << 63 && words[..LIMIT - 1].iter().all(|&x| x == 0));
+    text[9] = b'6';
+    let good = unsafe { read(w, LIMIT, &mut n, text.as_ptr(), 10, 1000, 45, 1, 2) == 7 && n == LIMIT };
+    assert_at("taxolbin_from_list", good && words[LIMIT - 1] == 1 << 63 && words[LIMIT] == 0);
 }
 
 // What is only read may overlap: a bitmap beside itself.

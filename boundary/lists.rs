@@ -1,7 +1,15 @@
-// List text, naively: 01's grammar over slices of bytes.
+// List text, naively: 01's grammar over slices of bytes, with 02's styles.
+use crate::case::Style;
 
 fn blank(c: &u8) -> bool {
     (9..=13).contains(c) || *c == 32
+}
+
+// 02's limits: the joiner is printable ASCII, no digit, comma or blank.
+pub fn allowed(y: &Style) -> bool {
+    let printable = y.joiner >= b' ' as usize && y.joiner <= b'~' as usize;
+    let barred = b" ,0123456789".iter().any(|&c| c as usize == y.joiner);
+    y.first <= 1000 && printable && !barred && (2..=9).contains(&y.shortest)
 }
 
 fn stripped(mut t: &[u8]) -> &[u8] {
@@ -14,20 +22,21 @@ fn stripped(mut t: &[u8]) -> &[u8] {
     t
 }
 
-fn number(t: &[u8]) -> Result<u64, u32> {
+// The bit that a number stands for.
+fn number(t: &[u8], y: &Style) -> Result<u64, u32> {
     let t = stripped(t);
     if t.is_empty() || t.iter().any(|c| !c.is_ascii_digit()) {
         return Err(7);
     }
     let value = t.iter().fold(0u64, |v, c| (v * 10 + (c - b'0') as u64).min(1 << 40));
-    if value > u32::MAX as u64 {
-        return Err(7);
+    match value.checked_sub(y.first as u64) {
+        Some(bit) if bit <= u32::MAX as u64 => Ok(bit),
+        _ => Err(7),
     }
-    Ok(value)
 }
 
-// The ranges of a text, or 8 or 7.
-pub fn read(text: &[u8]) -> Result<Vec<(u64, u64)>, u32> {
+// The ranges of a text in an allowed style, or 8 or 7.
+pub fn read(text: &[u8], y: &Style) -> Result<Vec<(u64, u64)>, u32> {
     if text.iter().any(|&c| c >= 128) {
         return Err(8);
     }
@@ -37,9 +46,9 @@ pub fn read(text: &[u8]) -> Result<Vec<(u64, u64)>, u32> {
         if stripped(token).is_empty() && k > 0 && k + 1 == tokens.len() {
             break;
         }
-        let (low, high) = match token.iter().position(|&c| c == b'-') {
-            Some(h) => (number(&token[..h])?, number(&token[h + 1..])?),
-            None => (number(token)?, number(token)?),
+        let (low, high) = match token.iter().position(|&c| c as usize == y.joiner) {
+            Some(h) => (number(&token[..h], y)?, number(&token[h + 1..], y)?),
+            None => (number(token, y)?, number(token, y)?),
         };
         if high < low {
             return Err(7);
@@ -49,18 +58,18 @@ pub fn read(text: &[u8]) -> Result<Vec<(u64, u64)>, u32> {
     Ok(ranges)
 }
 
-// Maximal runs upward.
-pub fn text(s: &[bool]) -> Vec<u8> {
-    let mut out = String::new();
-    let mut i = 0;
+// Maximal runs upward, in an allowed style.
+pub fn text(s: &[bool], y: &Style) -> Vec<u8> {
+    let printed = |p: usize| (p as u64 + y.first as u64).to_string();
+    let (mut parts, mut i) = (vec![], 0);
     while i < s.len() {
         let end = (i..s.len()).find(|&p| !s[p]).unwrap_or(s.len());
-        if end > i {
-            let blank = if out.is_empty() { "" } else { ", " };
-            let run = if end == i + 1 { format!("{blank}{i}") } else { format!("{blank}{i}-{}", end - 1) };
-            out.push_str(&run);
+        if end - i >= y.shortest {
+            parts.push(format!("{}{}{}", printed(i), y.joiner as u8 as char, printed(end - 1)));
+        } else {
+            parts.extend((i..end).map(printed));
         }
         i = end + 1;
     }
-    out.into_bytes()
+    parts.join(if y.blank != 0 { ", " } else { "," }).into_bytes()
 }

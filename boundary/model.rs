@@ -1,5 +1,6 @@
-// A naive model of document 01's bitmaps and list text: sets as lists of truth values, sums in 128 bits, no words but at the edges.
+// A naive model of document 01's bitmaps and list text, with document 02's styles: sets as lists of truth values, sums in 128 bits, no words but at the edges.
 use crate::case::{Case, Out};
+use crate::lists;
 
 pub const LIMIT: usize = 67_108_864;
 
@@ -207,12 +208,13 @@ fn outcome(name: &str, c: &Case, s: &Bits) -> Done {
         "and" | "andnot" | "xor" => within(Ok(trimmed(&pair(name, s, &other()))), capacity),
         "or_from" | "dup_or" => within(Ok(words(&pair(name, &other(), &bits(&c.d[..c.l])))), capacity),
         _ if others(name) == 2 => within(Ok(trimmed(&pair(name, &other(), &bits(&c.d[..c.l])))), capacity),
-        "from_list" => crate::lists::read(&c.bytes).map_or_else(Refused, |rs| {
+        "from_list" | "write_list" if !lists::allowed(&c.style) => Refused(15),
+        "from_list" => lists::read(&c.bytes, &c.style).map_or_else(Refused, |rs| {
             let last = rs.iter().map(|r| r.1).max().expect("a list has a token");
             let held = |p: u128| rs.iter().any(|r| r.0 as u128 <= p && p <= r.1 as u128);
             within(grown(&vec![], last as u128, capacity).map(|g| words(&tabled(g.len(), held))), capacity)
         }),
-        "write_list" => match crate::lists::text(s) {
+        "write_list" => match lists::text(s, &c.style) {
             t if t.len() > c.bytes.len() => Refused(6),
             t => Text(t),
         },

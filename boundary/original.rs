@@ -1,5 +1,5 @@
 // The Rust original beside the archive: the published vbitmap, built by oracle/build.sh.
-use crate::case::{Case, Out};
+use crate::case::{Case, Out, PLAIN};
 use std::panic::{catch_unwind, AssertUnwindSafe};
 use vbitmap::{BitSlice, Bitmap64};
 
@@ -135,6 +135,10 @@ fn expected(out: &Out) -> impl Fn(&Made) -> bool + '_ {
 pub fn agrees(name: &str, c: &Case, out: &Out) -> Option<bool> {
     let gap = name.ends_with("_gap");
     let sets = ["or", "xor", "append"].contains(&name) || name.ends_with("_from") || name.starts_with("dup_");
+    // it has the plain style and no other
+    if name.ends_with("_list") && c.style != PLAIN {
+        return None;
+    }
     if name == "from_list" && out.number == 7 {
         return Some(std::str::from_utf8(&c.bytes).is_ok_and(|t| Bitmap64::from_list(t).is_err()));
     }

@@ -48,7 +48,7 @@ static void line(const struct bitmap *old, const struct sheet *s, size_t edition
         printf(" %s\n", taxolbin_why(number));
         return;
     }
-    must(taxolbin_write_list(result, WORDS, count, text, TEXT, &length), "write_list");
+    must(taxolbin_write_list(result, WORDS, count, text, TEXT, &length, TAXOLBIN_PLAIN), "write_list");
     printf(" %.*s\n", (int)length, (const char *)text);
 }
 
@@ -58,8 +58,8 @@ static void save_and_load(struct bitmap *book)
     uint8_t text[TEXT];
     size_t length, notes;
     must(taxolbin_resize_bits(book->words, OLD, &book->count, 0), "resize_bits");
-    must(taxolbin_write_list(book->words, OLD, book->count, text, TEXT, &length), "write_list");
-    must(taxolbin_load_list(book->words, OLD, &book->count, text, length), "load_list");
+    must(taxolbin_write_list(book->words, OLD, book->count, text, TEXT, &length, TAXOLBIN_PLAIN), "write_list");
+    must(taxolbin_load_list(book->words, OLD, &book->count, text, length, TAXOLBIN_PLAIN), "load_list");
     must(taxolbin_count_set_bits(book->words, OLD, book->count, &notes), "count_set_bits");
     printf("an empty book: %zu bytes, %zu notes\n", length, notes);
 }
@@ -74,7 +74,7 @@ int main(void)
     for (i = 0; i < s.length; i++) {
         printf("%02X%s", (unsigned)s.bytes[i], i + 1 < s.length ? " " : "\n");
     }
-    must(taxolbin_load_list(old.words, OLD, &old.count, list, sizeof list), "load_list");
+    must(taxolbin_load_list(old.words, OLD, &old.count, list, sizeof list, TAXOLBIN_PLAIN), "load_list");
     line(&old, &s, 1);
     line(&old, &s, 2);
     line(&old, &s, 3);

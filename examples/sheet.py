@@ -5,6 +5,10 @@ import subprocess
 
 SIZE, WORD, NUMBER = ctypes.c_size_t, ctypes.c_uint64, ctypes.c_uint32
 OLD, WORDS, BYTES, TEXT = 4, 128, 256, 65536
+# the plain style of list text: first number, joiner, blank after a comma, shortest range
+PLAIN = 0, ord("-"), True, 2
+# what a text is refused with that is no list
+NOT_LIST = 7
 # each kind with its fields, from kind 1 on; a flag is a region's value, or true for right
 KINDS = {
     "set": {"p"},
@@ -33,8 +37,9 @@ def declared(name, *types):
 
 library = ctypes.CDLL(variable("libdir") + "/libtaxolbin.so")
 words, count, data, out = ctypes.POINTER(WORD), ctypes.POINTER(SIZE), ctypes.c_char_p, ctypes.POINTER(SIZE)
-from_list = declared("from_list", words, SIZE, count, data, SIZE)
-write_list = declared("write_list", words, SIZE, SIZE, data, SIZE, out)
+STYLE = SIZE, SIZE, NUMBER, SIZE
+from_list = declared("from_list", words, SIZE, count, data, SIZE, *STYLE)
+write_list = declared("write_list", words, SIZE, SIZE, data, SIZE, out, *STYLE)
 resize_bits = declared("resize_bits", words, SIZE, count, SIZE)
 count_set_bits = declared("count_set_bits", words, SIZE, SIZE, out)
 read = declared("read", SIZE, data, SIZE, words, SIZE, SIZE, words, SIZE, out, out)
@@ -78,16 +83,16 @@ class Bitmap:
     def __init__(self, capacity):
         self.words, self.capacity, self.count = (WORD * capacity)(), capacity, SIZE()
 
-    def load_list(self, text):
+    def load_list(self, text, style=PLAIN):
         """An empty book prints no text, and no text, or blanks alone, is no list."""
-        if text.strip():
-            must(from_list(self.words, self.capacity, self.count, text, len(text)))
-        else:
-            must(resize_bits(self.words, self.capacity, self.count, 0))
+        number = from_list(self.words, self.capacity, self.count, text, len(text), *style)
+        if number == NOT_LIST and not text.strip():
+            number = resize_bits(self.words, self.capacity, self.count, 0)
+        must(number)
 
-    def write_list(self):
+    def write_list(self, style=PLAIN):
         text, length = ctypes.create_string_buffer(TEXT), SIZE()
-        must(write_list(self.words, self.capacity, self.count, text, TEXT, length))
+        must(write_list(self.words, self.capacity, self.count, text, TEXT, length, *style))
         return text.raw[: length.value]
 
     def notes(self):

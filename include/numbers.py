@@ -51,12 +51,12 @@ RUST_HEAD = """// Written by include/numbers.py from numbers.txt.
 /// The number of each is the one that the C header has; [`Error::why`] is the sentence for a user.
 ///
 /// ```
-/// use taxolbin::{Bitmap, Error};
+/// use taxolbin::{Bitmap, Error, Style};
 ///
 /// let mut store = [0u64; 2];
 /// let mut notes = Bitmap::empty(&mut store)?;
 /// assert_eq!(notes.set(128), Err(Error::NoSpace));
-/// assert_eq!(notes.from_list("5-3").unwrap_err().why(), "the text is not a list");
+/// assert_eq!(notes.from_list("5-3", Style::PLAIN).unwrap_err().why(), "the text is not a list");
 /// # Ok::<(), Error>(())
 /// ```
 #[derive(Debug, Clone, Copy, PartialEq, Eq, PartialOrd, Ord, Hash)]

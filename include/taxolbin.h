@@ -49,7 +49,7 @@ extern "C" {
 #endif
 
 /* This version. Before 1.0 a call may change with the second number. */
-#define TAXOLBIN_VERSION "0.1.0"
+#define TAXOLBIN_VERSION "0.2.0"
 
 /* The most words of a store, the newest edition, the most records of a sheet and bytes of a payload, and the most bits of a resize in a sheet. */
 #define TAXOLBIN_CAPACITY_MAX UINT64_C(67108864)
@@ -75,7 +75,8 @@ enum taxolbin_number {
     TAXOLBIN_BYTES_REMAIN = 11,
     TAXOLBIN_BAD_PAYLOAD = 12,
     TAXOLBIN_NEWER_KIND = 13,
-    TAXOLBIN_NO_EDITION = 14
+    TAXOLBIN_NO_EDITION = 14,
+    TAXOLBIN_BAD_STYLE = 15
 };
 
 /* A number in words. */
@@ -112,6 +113,8 @@ static inline const char *taxolbin_why(uint32_t number)
         return "a record's kind is newer than the edition, or there is no such kind";
     case TAXOLBIN_NO_EDITION:
         return "the edition is neither 1 nor 2";
+    case TAXOLBIN_BAD_STYLE:
+        return "a style of list text is outside its limits";
     default:
         return "not a number of this library";
     }
@@ -321,24 +324,43 @@ TAXOLBIN_MUST_USE uint32_t taxolbin_dup_xor(
 /* ---- List text, such as 0-3, 5-7, 11 ----
  *
  * An empty bitmap prints no text (length 0), and a text of no bytes, or of blanks alone, is no list (7). A book that is kept as its list is loaded by
- * taxolbin_load_list, which takes that too. A list does not carry the count: what is read has the words up to its last member, and no more. */
+ * taxolbin_load_list, which takes that too. A list does not carry the count: what is read has the words up to its last member, and no more.
+ *
+ * The last four arguments are the style, which says how a publisher writes a list:
+ *
+ * - first, 0 to 1,000: a number of the text is a bit plus first. A number below first is no list.
+ * - joiner, the byte between the two numbers of a range: 33 to 126, but no comma (44) and no digit (48 to 57). It is never cut to a byte.
+ * - blank, a truth value: whether a blank (byte 32) is printed after a comma. In reading, blanks may stand around numbers in every style.
+ * - shortest, 2 to 9: a run of at least so many numbers is printed as a range, a shorter one number by number. In reading, any range may stand.
+ *
+ * Any other style is refused with 15, whatever the text, the bitmap or the buffer is. */
 
-/* The bitmap becomes the set of the list; the earlier set is discarded. A text of no bytes is 7. [1, 2, 8, 7, 6] */
-TAXOLBIN_MUST_USE uint32_t taxolbin_from_list(uint64_t *words, size_t capacity, size_t *count, const uint8_t *list, size_t length);
+/* The plain style, in which 0-3, 5-7, 11 is written, as the last four arguments of a call. */
+#define TAXOLBIN_PLAIN 0, '-', 1, 2
+
+/* The bitmap becomes the set of the list; the earlier set is discarded. A text of no bytes is 7. A number is at most 4,294,967,295 plus first, and
+ * more is 7. [1, 2, 15, 8, 7, 6] */
+TAXOLBIN_MUST_USE uint32_t taxolbin_from_list(
+    uint64_t *words, size_t capacity, size_t *count, const uint8_t *list, size_t length, size_t first, size_t joiner, uint32_t blank,
+    size_t shortest);
 /* Prints the list to the front of the buffer and hands out its length, 0 for an empty bitmap; no zero byte follows. 12 bytes for each set bit are
- * always enough. [1, 2, 6] */
+ * always enough, in every style. [1, 2, 15, 6] */
 TAXOLBIN_MUST_USE uint32_t taxolbin_write_list(
-    const uint64_t *words, size_t capacity, size_t count, uint8_t *out, size_t size, size_t *length);
+    const uint64_t *words, size_t capacity, size_t count, uint8_t *out, size_t size, size_t *length, size_t first, size_t joiner, uint32_t blank,
+    size_t shortest);
 
 /* As taxolbin_from_list, but a text of no bytes, or of blanks alone (bytes 9 to 13 and 32), is the empty bitmap: it takes whatever
- * taxolbin_write_list has printed, also with a line end behind it. [1, 2, 8, 7, 6] */
-TAXOLBIN_MUST_USE static inline uint32_t taxolbin_load_list(uint64_t *words, size_t capacity, size_t *count, const uint8_t *list, size_t length)
+ * taxolbin_write_list has printed in the same style, also with a line end behind it. [1, 2, 15, 8, 7, 6] */
+TAXOLBIN_MUST_USE static inline uint32_t taxolbin_load_list(
+    uint64_t *words, size_t capacity, size_t *count, const uint8_t *list, size_t length, size_t first, size_t joiner, uint32_t blank,
+    size_t shortest)
 {
+    const uint32_t number = taxolbin_from_list(words, capacity, count, list, length, first, joiner, blank, shortest);
     size_t i = 0;
     while (i < length && (list[i] == 32 || (list[i] >= 9 && list[i] <= 13))) {
         i++;
     }
-    return i == length ? taxolbin_resize_bits(words, capacity, count, 0) : taxolbin_from_list(words, capacity, count, list, length);
+    return i == length && number == TAXOLBIN_NOT_LIST ? taxolbin_resize_bits(words, capacity, count, 0) : number;
 }
 
 /* ---- The change sheet ----

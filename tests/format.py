@@ -1,5 +1,5 @@
-"""What docs/FORMAT.md says, asked of the library: the sheet byte by byte, each kind's fields, the lists, and that the definitions it names are there:
-format.py SHARED"""
+"""What docs/FORMAT.md says, asked of the library: the sheet byte by byte, each kind's fields, the lists and their styles, and that the definitions it
+names are there: format.py SHARED"""
 import ctypes
 import re
 import sys
@@ -8,6 +8,7 @@ from library import ROOT, load
 
 PAGE = (ROOT / "docs" / "FORMAT.md").read_text()
 WIDTHS = {"value": 1, "p": 32, "k": 32, "right": 1, "width": 7, "bits": 33, "word": 64}
+PLAIN = 0, 45, 1, 2
 # a value for each field, with ones at both of its ends
 VALUES = {"value": 1, "p": 0x80000001, "k": 0xC0000003, "right": 1, "width": 33, "bits": 0x80000005, "word": 0x8000000000000007}
 wrong = []
@@ -19,7 +20,7 @@ def same(what, got, expected):
 
 
 def table(title):
-    rows = PAGE[PAGE.index(title) :].split("\n\n")[0].splitlines()[2:]
+    rows = PAGE[PAGE.index("\n" + title) + 1 :].split("\n\n")[0].splitlines()[2:]
     return [[cell.strip(" ") for cell in row.strip("|").split("|")] for row in rows]
 
 
@@ -32,7 +33,7 @@ def read(lib, edition, sheet):
     old, result, record, count = (ctypes.c_uint64 * 1)(), (ctypes.c_uint64 * 128)(), size(), size()
     number = lib.read(edition, sheet, len(sheet), old, 1, 0, result, 128, record, count)
     text, length = ctypes.create_string_buffer(65536), size()
-    lib.write_list(result, 128, count, text, 65536, length)
+    lib.write_list(result, 128, count, text, 65536, length, *PLAIN)
     return f"{edition} {number} {record.value} {count.value} {text.raw[: length.value].decode()}".strip()
 
 
@@ -79,12 +80,45 @@ def kinds(lib):
             same(f"kind {kind} in edition {edition}", refused, edition < int(since))
 
 
+def list_read(lib, what, text, style, number, notes):
+    words, count = (ctypes.c_uint64 * 2)(), size()
+    data = text[1:-1].encode()
+    same(f"{what}{text}", lib.from_list(words, 2, count, data, len(data), *style), int(number))
+    same(f"notes of {what}{text}", [i for i in range(128) if words[i // 64] >> i % 64 & 1], [int(note) for note in notes.split()])
+
+
+def list_printed(lib, notes, style, expected):
+    words, text, length = (ctypes.c_uint64 * 2)(), ctypes.create_string_buffer(64), size()
+    for note in map(int, notes.split()):
+        words[note // 64] |= 1 << note % 64
+    number = lib.write_list(words, 2, 2, text, 64, length, *style)
+    same(f"{notes} in {style}", (number, f"`{text.raw[: length.value].decode()}`"), (0, expected))
+
+
 def lists(lib):
     for text, number, notes in table("| text | number"):
-        words, count = (ctypes.c_uint64 * 2)(), size()
-        data = text[1:-1].encode()
-        same(f"{text}", lib.from_list(words, 2, count, data, len(data)), int(number))
-        same(f"notes of {text}", [i for i in range(128) if words[i // 64] >> i % 64 & 1], [int(note) for note in notes.split()])
+        list_read(lib, "", text, PLAIN, number, notes)
+    for *style, text, number, notes in table("| first | joiner"):
+        list_read(lib, f"{style} ", text, map(int, style), number, notes)
+    for notes, *style, text in table("| notes | first"):
+        list_printed(lib, notes, list(map(int, style)), text)
+
+
+def styles(lib):
+    """Each part of the style at its limits and just outside of them, the others plain; what has no limits may be anything."""
+    rows = table("| part | from")
+    same("parts", [row[0] for row in rows], ["first", "joiner", "blank", "shortest"])
+    same("plain", tuple(int(row[3]) for row in rows), PLAIN)
+    for at, (part, low, high, *_) in enumerate(rows):
+        low, high = (int(low), int(high)) if high else (0, 2**32 - 1)
+        barred = [44, *range(48, 58)] if part == "joiner" else []
+        values = {low, high, *barred, 43, 45, 47, 58} if barred else {low, high}
+        for value in values | {value for value in (low - 1, high + 1) if 0 <= value < 2**32}:
+            style = [*PLAIN[:at], value, *PLAIN[at + 1 :]]
+            number = 0 if low <= value <= high and value not in barred else 15
+            words, count, text, length = (ctypes.c_uint64 * 32)(), size(), ctypes.create_string_buffer(64), size()
+            same(f"reading in {style}", lib.from_list(words, 32, count, b"1000", 4, *style), number)
+            same(f"printing in {style}", lib.write_list(words, 32, count, text, 64, length, *style), number)
 
 
 def definitions():
@@ -101,5 +135,6 @@ library = load(sys.argv[1])
 worked_sheet(library)
 kinds(library)
 lists(library)
+styles(library)
 definitions()
 sys.exit("\n".join(wrong) or 0)

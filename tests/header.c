@@ -1,5 +1,6 @@
 /* The header's own functions, in what C and C++ have in common: the bytes of each kind's record, typed from the table of document 01, refusals, the
- * numbers in words, an empty book, and equal bitmaps of different counts. With an argument it prints the numbers in words and nothing else. */
+ * numbers in words, an empty book, styles of list text, and equal bitmaps of different counts. With an argument it prints the numbers in words and
+ * nothing else. */
 #include <stdio.h>
 #include <stdlib.h>
 #include <string.h>
@@ -85,25 +86,109 @@ static void empty_book(void)
     uint64_t words[2] = {0, 0};
     uint8_t text[1] = {'x'};
     size_t count = 0, n = 9;
-    is("an empty book is printed", taxolbin_write_list(words, 2, count, text, 0, &n), 0);
+    is("an empty book is printed", taxolbin_write_list(words, 2, count, text, 0, &n, TAXOLBIN_PLAIN), 0);
     is("its length", n, 0);
-    is("its text read", taxolbin_from_list(words, 2, &count, text, n), TAXOLBIN_NOT_LIST);
-    is("a list loaded", taxolbin_load_list(words, 2, &count, list, sizeof list), 0);
+    is("its text read", taxolbin_from_list(words, 2, &count, text, n, TAXOLBIN_PLAIN), TAXOLBIN_NOT_LIST);
+    is("a list loaded", taxolbin_load_list(words, 2, &count, list, sizeof list, TAXOLBIN_PLAIN), 0);
     is("its words", words[0], 0x190);
     is("its count", count, 1);
-    is("an empty book loaded", taxolbin_load_list(words, 2, &count, text, n), 0);
+    is("an empty book loaded", taxolbin_load_list(words, 2, &count, text, n, TAXOLBIN_PLAIN), 0);
     is("its words", words[0], 0);
     is("its count", count, 0);
-    is("a list with a line end", taxolbin_load_list(words, 2, &count, line, sizeof line), 0);
+    is("a list with a line end", taxolbin_load_list(words, 2, &count, line, sizeof line, TAXOLBIN_PLAIN), 0);
     is("its words", words[0], 0x10);
-    is("an empty book with a line end", taxolbin_load_list(words, 2, &count, line + 1, 1), 0);
+    is("an empty book with a line end", taxolbin_load_list(words, 2, &count, line + 1, 1, TAXOLBIN_PLAIN), 0);
     is("its count", count, 0);
-    is("all blanks", taxolbin_load_list(words, 2, &count, blanks, sizeof blanks), 0);
-    is("no blank", taxolbin_load_list(words, 2, &count, none, 1), TAXOLBIN_NOT_LIST);
-    is("no blank", taxolbin_load_list(words, 2, &count, none + 1, 1), TAXOLBIN_NOT_LIST);
-    is("a text that is no list", taxolbin_load_list(words, 2, &count, text, 1), TAXOLBIN_NOT_LIST);
+    is("all blanks", taxolbin_load_list(words, 2, &count, blanks, sizeof blanks, TAXOLBIN_PLAIN), 0);
+    is("no blank", taxolbin_load_list(words, 2, &count, none, 1, TAXOLBIN_PLAIN), TAXOLBIN_NOT_LIST);
+    is("no blank", taxolbin_load_list(words, 2, &count, none + 1, 1, TAXOLBIN_PLAIN), TAXOLBIN_NOT_LIST);
+    is("a text that is no list", taxolbin_load_list(words, 2, &count, text, 1, TAXOLBIN_PLAIN), TAXOLBIN_NOT_LIST);
     count = 3;
-    is("a count over the store", taxolbin_load_list(words, 2, &count, text, 0), TAXOLBIN_COUNT_OVER_STORE);
+    is("a count over the store", taxolbin_load_list(words, 2, &count, text, 0, TAXOLBIN_PLAIN), TAXOLBIN_COUNT_OVER_STORE);
+}
+
+/* What a style makes of the notes {4, 5, 7, 8, 9}, and that it is read back. */
+static void printed(const char *expected, size_t first, size_t joiner, uint32_t blank, size_t shortest)
+{
+    static const uint64_t notes[2] = {0x3B0, 0};
+    uint64_t words[2] = {0, 7};
+    uint8_t text[SIZE];
+    size_t n = 9, count = 0;
+    memset(text, 'x', SIZE);
+    is(expected, taxolbin_write_list(notes, 2, 2, text, strlen(expected), &n, first, joiner, blank, shortest), 0);
+    is("its length", n, strlen(expected));
+    if (memcmp(text, expected, strlen(expected)) != 0 || text[strlen(expected)] != 'x') {
+        wrong = 1;
+        printf("%.*s, not %s\n", SIZE, (const char *)text, expected);
+    }
+    is("read back", taxolbin_from_list(words, 2, &count, text, n, first, joiner, blank, shortest), 0);
+    is("its words", words[0], notes[0]);
+    is("the word behind", words[1], 7);
+    is("its count", count, 1);
+    is("a byte short", taxolbin_write_list(notes, 2, 2, text, strlen(expected) - 1, &n, first, joiner, blank, shortest), TAXOLBIN_NO_SPACE);
+    is("its length", n, 0);
+}
+
+/* Every call refuses the style, whatever else is wrong but 2. */
+static void refused(const char *what, size_t first, size_t joiner, uint32_t blank, size_t shortest)
+{
+    static const uint8_t texts[] = {'1', 'x', 0xFF, 32};
+    uint64_t words[2] = {0x3B0, 7};
+    uint8_t text[SIZE];
+    size_t i, n, count = 1, over = 3;
+    memset(text, 'x', SIZE);
+    for (i = 0; i < sizeof texts; i++) {
+        is(what, taxolbin_from_list(words, 2, &count, texts + i, 1, first, joiner, blank, shortest), TAXOLBIN_BAD_STYLE);
+        is(what, taxolbin_load_list(words, 2, &count, texts + i, 1, first, joiner, blank, shortest), TAXOLBIN_BAD_STYLE);
+    }
+    is(what, taxolbin_from_list(words, 2, &count, texts, 0, first, joiner, blank, shortest), TAXOLBIN_BAD_STYLE);
+    is(what, taxolbin_load_list(words, 2, &count, texts, 0, first, joiner, blank, shortest), TAXOLBIN_BAD_STYLE);
+    is(what, taxolbin_load_list(words, 2, &over, texts, 0, first, joiner, blank, shortest), TAXOLBIN_COUNT_OVER_STORE);
+    for (i = 0; i < 2; i++) {
+        n = 9;
+        is(what, taxolbin_write_list(words, 2, i, text, SIZE, &n, first, joiner, blank, shortest), TAXOLBIN_BAD_STYLE);
+        is("its length", n, 0);
+        is(what, taxolbin_write_list(words, 2, i, text, 0, &n, first, joiner, blank, shortest), TAXOLBIN_BAD_STYLE);
+    }
+    is("the words", words[0] == 0x3B0 && words[1] == 7, 1);
+    is("the count", count, 1);
+    is("the text", text[0], 'x');
+}
+
+static void styles(void)
+{
+    printed("4-5, 7-9", TAXOLBIN_PLAIN);
+    printed("4-5, 7-9", 0, 45, 1, 2);
+    printed("5, 6, 8:10", 1, ':', 1, 3);
+    printed("4-5, 7-9", 0, '-', 2, 2);
+    printed("4-5, 7-9", 0, '-', UINT32_C(1) << 31, 2);
+    printed("4-5,7-9", 0, '-', 0, 2);
+    printed("1004,1005,1007,1008,1009", 1000, '~', 0, 9);
+    refused("joiner 256 + 45", 0, 256 + 45, 1, 2);
+    refused("joiner SIZE_MAX", 0, SIZE_MAX, 1, 2);
+    refused("a comma", 0, ',', 1, 2);
+    refused("a digit", 0, '0', 1, 2);
+    refused("a blank", 0, ' ', 1, 2);
+    refused("first 1001", 1001, '-', 1, 2);
+    refused("first SIZE_MAX", SIZE_MAX, '-', 1, 2);
+    refused("shortest 1", 0, '-', 1, 1);
+    refused("shortest 10", 0, '-', 0, 10);
+    refused("shortest SIZE_MAX", 0, '-', 0, SIZE_MAX);
+}
+
+/* An empty book of a house is loaded in its style. */
+static void empty_house(void)
+{
+    static const uint8_t line[] = {'1', ':', '3', 10}, plain[] = {'1', '-', '3'};
+    uint64_t words[2] = {0, 0};
+    size_t count = 0;
+    is("a house's list", taxolbin_load_list(words, 2, &count, line, sizeof line, 1, ':', 0, 3), 0);
+    is("its words", words[0], 7);
+    is("another's list", taxolbin_load_list(words, 2, &count, plain, sizeof plain, 1, ':', 0, 3), TAXOLBIN_NOT_LIST);
+    is("its count", count, 1);
+    is("a house's empty book", taxolbin_load_list(words, 2, &count, line + 3, 1, 1, ':', 0, 3), 0);
+    is("its words", words[0], 0);
+    is("its count", count, 0);
 }
 
 /* The least bit of what a sheet makes of the notes {4} in so many words. */
@@ -131,7 +216,7 @@ static void counts(void)
     is("{4} resized and reversed, two words", read_back(2), 123);
 }
 
-/* 12 bytes for each set bit are enough for a list, also of the longest numbers. */
+/* 12 bytes for each set bit are enough for a list, also of the longest numbers, in the plain style and in the one that takes most. */
 static void list_space(void)
 {
     static const uint64_t last[3] = {UINT64_C(1) << 63, UINT64_C(3) << 62, UINT64_C(5) << 61};
@@ -144,9 +229,13 @@ static void list_space(void)
         return;
     }
     for (i = 0; i < 3; i++) {
+        const size_t size = i == 0 ? 12 : 24;
         words[TAXOLBIN_CAPACITY_MAX - 1] = last[i];
-        is("the longest numbers", taxolbin_write_list(words, TAXOLBIN_CAPACITY_MAX, TAXOLBIN_CAPACITY_MAX, text, i == 0 ? 12 : 24, &n), 0);
+        is("the longest numbers", taxolbin_write_list(words, TAXOLBIN_CAPACITY_MAX, TAXOLBIN_CAPACITY_MAX, text, size, &n, TAXOLBIN_PLAIN), 0);
+        is("from 1,000 on", taxolbin_write_list(words, TAXOLBIN_CAPACITY_MAX, TAXOLBIN_CAPACITY_MAX, text, size, &n, 1000, '-', 1, 9), 0);
     }
+    is("the last one's text", memcmp(text, "4294968293, 4294968295", 22) == 0, 1);
+    is("its length", n, 22);
     free(words);
 }
 
@@ -163,6 +252,8 @@ int main(int argc, char **argv)
     records();
     refusals();
     empty_book();
+    styles();
+    empty_house();
     counts();
     list_space();
     return wrong;

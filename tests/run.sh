@@ -130,9 +130,10 @@ package_tidy() {
         env RUSTDOCFLAGS="-D warnings" cargo doc -q --no-deps --manifest-path "$manifest"
 }
 
-sheets() {
-    rt check sheets && python3 oracle/sheet/make.py 2 3 > "$out/sheets.list" && target/bin/sheets < "$out/sheets.list" > "$out/sheets" &&
-        tail -1 "$out/sheets" | grep "^total: [1-9][0-9]* cases, 0 mismatches"
+# listed PROGRAM FOLDER: the program answers a list of another seed as the model in the folder of oracle/ does
+listed() {
+    rt check "$1" && python3 "oracle/$2/make.py" 2 3 > "$out/$1.list" && "target/bin/$1" < "$out/$1.list" > "$out/$1" &&
+        tail -1 "$out/$1" | grep "^total: [1-9][0-9]* cases, 0 mismatches"
 }
 
 replay() {
@@ -163,7 +164,8 @@ try package-other package_other
 try package-tidy package_tidy
 try format python3 tests/format.py "$prefix/lib/libtaxolbin.so"
 try readme python3 tests/readme.py "$reader"
-try sheets sheets
+try sheets listed sheets sheet
+try styles listed styles style
 if [ -n "$src" ]; then
     try replay replay
     try boundary boundary/run.sh "$src"

@@ -4,7 +4,7 @@ use core::ops::{Deref, DerefMut};
 
 use crate::bits::{check_capacity, BitSlice, Members};
 use crate::error::{done, proved};
-use crate::{ffi, Error};
+use crate::{ffi, Error, Style};
 
 /// A bitmap in a store of words that the caller lends: the words up to the count are in use, and no call touches more words than the store has.
 ///
@@ -679,52 +679,59 @@ impl<'a> Bitmap<'a> {
     }
 }
 
-/// List text, such as `0-3, 5-7, 11`; [`BitSlice::write_list`] prints it.
+/// List text, such as `0-3, 5-7, 11`, in a publisher's [`Style`]; [`BitSlice::write_list`] prints it.
 impl Bitmap<'_> {
-    /// Becomes the set of the list; the earlier set is discarded. `NotAscii` where a byte is 128 or more, `NotList` where the text is no list, a text
-    /// of no bytes among them, `NoSpace` where the store is too short.
+    /// Becomes the set of the list, read in a style; the earlier set is discarded. `BadStyle` where the style is outside its limits, `NotAscii` where
+    /// a byte is 128 or more, `NotList` where the text is no list, a text of no bytes among them, `NoSpace` where the store is too short.
     ///
-    /// Ranges may overlap and come in any order, blanks may stand around numbers, and a comma may end the text. A number is at most 4,294,967,295.
+    /// Ranges may overlap and come in any order, blanks may stand around numbers, and a comma may end the text. A number is a bit plus the style's
+    /// first number: at least that, and at most 4,294,967,295 above it.
     ///
     /// ```
-    /// use taxolbin::{Bitmap, Error};
+    /// use taxolbin::{Bitmap, Error, Style};
     ///
     /// let mut store = [0; 2];
     /// let mut notes = Bitmap::empty(&mut store)?;
-    /// notes.from_list(" 1 - 3 , 2")?;
+    /// notes.from_list(" 1 - 3 , 2", Style::PLAIN)?;
     /// assert_eq!(notes.iter().collect::<Vec<_>>(), [1, 2, 3]);
-    /// assert_eq!(notes.from_list("5-3"), Err(Error::NotList));
-    /// assert_eq!(notes.from_list(b"1\xC2\xA0"), Err(Error::NotAscii));
-    /// assert_eq!(notes.from_list(""), Err(Error::NotList));
-    /// # Ok::<(), taxolbin::Error>(())
+    /// notes.from_list("1-3", Style { first: 1, ..Style::PLAIN })?;
+    /// assert_eq!(notes.iter().collect::<Vec<_>>(), [0, 1, 2]);
+    /// assert_eq!(notes.from_list("5-3", Style::PLAIN), Err(Error::NotList));
+    /// assert_eq!(notes.from_list(b"1\xC2\xA0", Style::PLAIN), Err(Error::NotAscii));
+    /// assert_eq!(notes.from_list("", Style::PLAIN), Err(Error::NotList));
+    /// assert_eq!(notes.from_list("", Style { shortest: 10, ..Style::PLAIN }), Err(Error::BadStyle));
+    /// # Ok::<(), Error>(())
     /// ```
     #[allow(clippy::wrong_self_convention)] // the name of the call; the store is lent before
-    pub fn from_list(&mut self, list: impl AsRef<[u8]>) -> Result<(), Error> {
+    pub fn from_list(&mut self, list: impl AsRef<[u8]>, style: Style) -> Result<(), Error> {
         let list = list.as_ref();
         let (list, length) = (list.as_ptr(), list.len());
-        done(change!(taxolbin_from_list, self, list, length))
+        let Style { first, joiner, blank, shortest } = style;
+        let blank = u32::from(blank);
+        done(change!(taxolbin_from_list, self, list, length, first, joiner, blank, shortest))
     }
 
     /// As [`from_list`](Bitmap::from_list), but a text of no bytes, or of blanks alone (bytes 9 to 13 and 32), is the empty bitmap: so it reads back
-    /// whatever [`BitSlice::write_list`] printed, also with a line end behind it.
+    /// whatever [`BitSlice::write_list`] printed in the same style, also with a line end behind it.
     ///
     /// The text does not carry the word count, on which reversals and rotations depend: see [there](crate#equal-bitmaps-of-different-lengths).
     ///
     /// ```
-    /// use taxolbin::Bitmap;
+    /// use taxolbin::{Bitmap, Error, Style};
     ///
     /// let mut store = [0b111];
     /// let mut notes = Bitmap::with_count(&mut store, 1)?;
-    /// notes.load_list("")?;
+    /// assert_eq!(notes.load_list("", Style { joiner: 0, ..Style::PLAIN }), Err(Error::BadStyle));
+    /// notes.load_list("", Style::PLAIN)?;
     /// assert_eq!(notes.count(), 0);
-    /// # Ok::<(), taxolbin::Error>(())
+    /// # Ok::<(), Error>(())
     /// ```
-    pub fn load_list(&mut self, list: impl AsRef<[u8]>) -> Result<(), Error> {
+    pub fn load_list(&mut self, list: impl AsRef<[u8]>, style: Style) -> Result<(), Error> {
         let list = list.as_ref();
-        if list.iter().all(|byte| matches!(byte, 9..=13 | 32)) {
-            return self.resize_bits(0);
+        match self.from_list(list, style) {
+            Err(Error::NotList) if list.iter().all(|byte| matches!(byte, 9..=13 | 32)) => self.resize_bits(0),
+            done => done,
         }
-        self.from_list(list)
     }
 }
 
@@ -767,7 +774,7 @@ impl PartialEq<Bitmap<'_>> for BitSlice {
     }
 }
 
-/// The list text, as of [`BitSlice`].
+/// The list text in the plain style, as of [`BitSlice`].
 impl fmt::Display for Bitmap<'_> {
     fn fmt(&self, f: &mut fmt::Formatter<'_>) -> fmt::Result {
         fmt::Display::fmt(self.as_bits(), f)

@@ -3,7 +3,7 @@ use core::fmt;
 use core::iter::FusedIterator;
 
 use crate::error::{done, proved};
-use crate::{ffi, Error, CAPACITY_MAX};
+use crate::{ffi, Error, Style, CAPACITY_MAX};
 
 /// The bits of a slice of words, of a fixed length, as `str` is the text of a slice of bytes.
 ///
@@ -309,21 +309,28 @@ impl BitSlice {
         Members { bits: self, next: 0 }
     }
 
-    /// Prints the list of the set bits, such as `0-3, 5-7, 11`, to the front of the buffer, and gives the text. `NoSpace` where the buffer is too
-    /// short, and then no byte of it changes; 12 bytes for each set bit are always enough. With no bit set the text has no bytes, which
-    /// [`load_list`](crate::Bitmap::load_list) reads back.
+    /// Prints the list of the set bits in a style, such as `0-3, 5-7, 11` in the plain one, to the front of the buffer, and gives the text.
+    /// `BadStyle` where the style is outside its limits, `NoSpace` where the buffer is too short, and then no byte of it changes; 12 bytes for each
+    /// set bit are always enough, in every style. With no bit set the text has no bytes, which [`load_list`](crate::Bitmap::load_list) reads back.
     ///
     /// ```
-    /// let bits = taxolbin::BitSlice::new(&[0b1000_1110_1111])?;
+    /// use taxolbin::{BitSlice, Error, Style};
+    ///
+    /// let bits = BitSlice::new(&[0b1000_1110_1111])?;
     /// let mut buffer = [0; 20];
-    /// assert_eq!(bits.write_list(&mut buffer), Ok("0-3, 5-7, 11"));
-    /// assert_eq!(bits.write_list(&mut buffer[..5]), Err(taxolbin::Error::NoSpace));
-    /// # Ok::<(), taxolbin::Error>(())
+    /// assert_eq!(bits.write_list(&mut buffer, Style::PLAIN), Ok("0-3, 5-7, 11"));
+    /// assert_eq!(bits.write_list(&mut buffer[..5], Style::PLAIN), Err(Error::NoSpace));
+    /// let house = Style { first: 1, joiner: usize::from(b':'), blank: false, shortest: 4 };
+    /// assert_eq!(bits.write_list(&mut buffer, house), Ok("1:4,6,7,8,12"));
+    /// assert_eq!(bits.write_list(&mut buffer, Style { first: 1001, ..house }), Err(Error::BadStyle));
+    /// # Ok::<(), Error>(())
     /// ```
-    pub fn write_list<'b>(&self, out: &'b mut [u8]) -> Result<&'b str, Error> {
+    pub fn write_list<'b>(&self, out: &'b mut [u8], style: Style) -> Result<&'b str, Error> {
         let (bits, mut length) = (&self.0, 0);
+        let Style { first, joiner, blank, shortest } = style;
+        let (to, size, blank) = (out.as_mut_ptr(), out.len(), u32::from(blank));
         // SAFETY: each slice's pointer goes with its length, and the buffer is lent to this call alone.
-        done(unsafe { ffi::taxolbin_write_list(bits.as_ptr(), bits.len(), bits.len(), out.as_mut_ptr(), out.len(), &mut length) })?;
+        done(unsafe { ffi::taxolbin_write_list(bits.as_ptr(), bits.len(), bits.len(), to, size, &mut length, first, joiner, blank, shortest) })?;
         Ok(core::str::from_utf8(&out[..length]).expect("a list is ASCII"))
     }
 }
@@ -588,7 +595,7 @@ impl PartialEq for BitSlice {
 
 impl Eq for BitSlice {}
 
-/// The list text that [`BitSlice::write_list`] prints, without a buffer of one's own.
+/// The list text that [`BitSlice::write_list`] prints in the plain style, without a buffer of one's own.
 ///
 /// ```
 /// assert_eq!(taxolbin::BitSlice::new(&[0b1000_1110_1111])?.to_string(), "0-3, 5-7, 11");

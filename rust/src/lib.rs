@@ -3,16 +3,17 @@
 //!
 //! The calls are those of an archive of formally proved code, `libtaxolbin.a`; this package makes each a method that safe Rust can call with any
 //! arguments. Nothing is allocated. A [`Bitmap`] is a store of words that the caller lends and a count of the words in use; it derefs to a
-//! [`BitSlice`], its bits within the length. A [`Sheet`] is made of [`Edit`]s in a lent buffer, and [`read`] applies one.
+//! [`BitSlice`], its bits within the length. A [`Sheet`] is made of [`Edit`]s in a lent buffer, and [`read`] applies one. List text has a
+//! publisher's [`Style`].
 //!
 //! ```
-//! use taxolbin::{read, Bitmap, Edit, Edition, Error, Sheet};
+//! use taxolbin::{read, Bitmap, Edit, Edition, Error, Sheet, Style};
 //!
 //! # fn main() -> Result<(), Box<dyn std::error::Error>> {
 //! // The book has notes at paragraphs 4, 7 and 8.
 //! let mut store = [0u64; 2];
 //! let mut notes = Bitmap::empty(&mut store)?;
-//! notes.from_list("4, 7-8")?;
+//! notes.from_list("4, 7-8", Style::PLAIN)?;
 //!
 //! // A sheet: paragraph 2 gets a note, and two paragraphs come in at 5.
 //! let mut buffer = [0u8; 64];
@@ -23,7 +24,7 @@
 //! // Edition 2 reads it. Edition 1 does not know the second record: it says so, and never skips it.
 //! let (mut result, mut text) = ([0u64; 2], [0u8; 64]);
 //! let reading = read(Edition::Two, sheet.bytes(), &notes, &mut result)?;
-//! assert_eq!(reading.bitmap.write_list(&mut text)?, "2, 4, 9-10");
+//! assert_eq!(reading.bitmap.write_list(&mut text, Style::PLAIN)?, "2, 4, 9-10");
 //!
 //! let refused = read(Edition::One, sheet.bytes(), &notes, &mut result).unwrap_err();
 //! assert_eq!((refused.error, refused.record), (Error::NewerKind, 2));
@@ -51,13 +52,13 @@
 //! therefore call [`resize_bits`](Bitmap::resize_bits) with the book's length, or the sheet begins with [`Edit::ResizeBits`].
 //!
 //! ```
-//! use taxolbin::Bitmap;
+//! use taxolbin::{Bitmap, Style};
 //!
 //! let (mut here, mut there) = ([0u64; 2], [0u64; 2]);
 //! let mut ours = Bitmap::empty(&mut here)?;
 //! let mut theirs = Bitmap::empty(&mut there)?;
-//! ours.from_list("4")?;
-//! theirs.from_list("4, 100")?;
+//! ours.from_list("4", Style::PLAIN)?;
+//! theirs.from_list("4, 100", Style::PLAIN)?;
 //! theirs.unset(100);
 //! assert_eq!(ours, theirs);
 //!
@@ -79,11 +80,13 @@ mod error;
 mod ffi;
 mod numbers;
 mod sheet;
+mod style;
 
 pub use bitmap::Bitmap;
 pub use bits::{BitSlice, Combined, Members};
 pub use numbers::Error;
 pub use sheet::{read, Direction, Edit, Edition, ReadError, Reading, Sheet};
+pub use style::Style;
 
 /// The version of this package. An archive with the same first two numbers goes with it.
 pub const VERSION: &str = env!("CARGO_PKG_VERSION");

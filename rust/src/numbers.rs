@@ -5,12 +5,12 @@
 /// The number of each is the one that the C header has; [`Error::why`] is the sentence for a user.
 ///
 /// ```
-/// use taxolbin::{Bitmap, Error};
+/// use taxolbin::{Bitmap, Error, Style};
 ///
 /// let mut store = [0u64; 2];
 /// let mut notes = Bitmap::empty(&mut store)?;
 /// assert_eq!(notes.set(128), Err(Error::NoSpace));
-/// assert_eq!(notes.from_list("5-3").unwrap_err().why(), "the text is not a list");
+/// assert_eq!(notes.from_list("5-3", Style::PLAIN).unwrap_err().why(), "the text is not a list");
 /// # Ok::<(), Error>(())
 /// ```
 #[derive(Debug, Clone, Copy, PartialEq, Eq, PartialOrd, Ord, Hash)]
@@ -58,10 +58,13 @@ pub enum Error {
     /// The edition is neither 1 nor 2.
     /// Brought about by the calling program.
     NoEdition = 14,
+    /// A style of list text is outside its limits.
+    /// Brought about by the calling program.
+    BadStyle = 15,
 }
 
 impl Error {
-    pub(crate) const ALL: [Error; 14] = [
+    pub(crate) const ALL: [Error; 15] = [
         Error::StoreTooLong,
         Error::CountOverStore,
         Error::WidthOver,
@@ -76,6 +79,7 @@ impl Error {
         Error::BadPayload,
         Error::NewerKind,
         Error::NoEdition,
+        Error::BadStyle,
     ];
 
     /// The refusal in words.
@@ -95,6 +99,7 @@ impl Error {
             Error::BadPayload => "a record's payload is wrong for its kind (length, unused bits, width or resize), or a remark is over 65,535 bytes",
             Error::NewerKind => "a record's kind is newer than the edition, or there is no such kind",
             Error::NoEdition => "the edition is neither 1 nor 2",
+            Error::BadStyle => "a style of list text is outside its limits",
         }
     }
 }

@@ -3,7 +3,7 @@
 
 use std::collections::BTreeSet;
 
-use taxolbin::{BitSlice, Bitmap, Error, CAPACITY_MAX};
+use taxolbin::{BitSlice, Bitmap, Error, Style, CAPACITY_MAX};
 
 const CASES: usize = 2000;
 
@@ -44,6 +44,25 @@ impl Random {
             2 => usize::MAX - self.below(70),
             3 => 64 * self.below(6),
             _ => self.below(length + 80),
+        }
+    }
+
+    fn pick<T: Copy>(&mut self, from: &[T]) -> T {
+        from[self.below(from.len())]
+    }
+
+    // The plain style, any allowed one, and now and then one that is not, by one part.
+    fn style(&mut self) -> Style {
+        if self.below(4) == 0 {
+            return Style::PLAIN;
+        }
+        let joiner = usize::from(self.pick(b"--::!+/;A~"));
+        let good = Style { first: self.pick(&[0, 1, 7, 999, 1000]), joiner, blank: self.below(2) == 0, shortest: 2 + self.below(8) };
+        match self.below(16) {
+            0 => Style { first: self.pick(&[1001, 1 << 32, usize::MAX]), ..good },
+            1 => Style { joiner: self.pick(&[0, 9, 32, 44, 48, 57, 127, 128, 255, 256 + 45, usize::MAX]), ..good },
+            2 => Style { shortest: self.pick(&[0, 1, 10, 256 + 2, usize::MAX]), ..good },
+            _ => good,
         }
     }
 
@@ -174,26 +193,26 @@ fn walks_end_once_and_for_all() {
 #[test]
 fn lists_are_printed_and_loaded() {
     let mut r = Random(4);
+    let mut refused = 0;
     for _ in 0..CASES {
-        let n = r.below(5);
+        let (n, style) = (r.below(5), r.style());
         let words = r.words(n);
-        let (bits, list) = (BitSlice::new(&words).unwrap(), list_of(&members(&bits_of(&words))));
-        let mut out = vec![b'#'; list.len() + 3];
-        assert_eq!(bits.write_list(&mut out), Ok(&list[..]));
-        assert_eq!(bits.to_string(), list);
-        assert_eq!(&out[list.len()..], b"###");
-        let mut exact = vec![b'#'; list.len()];
-        assert_eq!(bits.write_list(&mut exact), Ok(&list[..]));
-        if let Some((_, short)) = exact.split_first_mut() {
-            short.fill(b'#');
-            assert_eq!(bits.write_list(short), Err(Error::NoSpace));
-            assert!(short.iter().all(|&byte| byte == b'#'));
+        let (bits, set) = (BitSlice::new(&words).unwrap(), members(&bits_of(&words)));
+        assert_eq!(bits.to_string(), list_of(&set, Style::PLAIN));
+        if !allowed(style) {
+            let mut out = [b'#'; 4];
+            assert_eq!(bits.write_list(&mut out, style), Err(Error::BadStyle), "{style:?}");
+            assert_eq!(&out, b"####");
+            refused += 1;
+            continue;
         }
+        let list = list_of(&set, style);
+        printed(bits, style, &list);
         let mut store = vec![u64::MAX; n];
         let mut loaded = Bitmap::with_count(&mut store, n).unwrap();
-        loaded.load_list(&list).unwrap();
+        loaded.load_list(&list, style).unwrap();
         assert_eq!(loaded, *bits);
-        assert_eq!(loaded.to_string(), list);
+        assert_eq!(loaded.to_string(), bits.to_string());
         assert_eq!(*bits, loaded);
         let mut second = words.clone();
         let mut whole = Bitmap::with_count(&mut second, n).unwrap();
@@ -201,16 +220,40 @@ fn lists_are_printed_and_loaded() {
         whole.invert();
         assert_eq!(loaded == whole, n == 0);
     }
+    assert!(refused > CASES / 20 && refused < CASES / 4);
 }
 
-// Maximal runs, upward.
-fn list_of(set: &BTreeSet<usize>) -> String {
+// Into a buffer that is longer, one of exactly its length, and one that is a byte short.
+fn printed(bits: &BitSlice, style: Style, list: &str) {
+    let mut out = vec![b'#'; list.len() + 3];
+    assert_eq!(bits.write_list(&mut out, style), Ok(list));
+    assert_eq!(&out[list.len()..], b"###");
+    let mut exact = vec![b'#'; list.len()];
+    assert_eq!(bits.write_list(&mut exact, style), Ok(list));
+    if let Some((_, short)) = exact.split_first_mut() {
+        short.fill(b'#');
+        assert_eq!(bits.write_list(short, style), Err(Error::NoSpace));
+        assert!(short.iter().all(|&byte| byte == b'#'));
+    }
+}
+
+fn allowed(style: Style) -> bool {
+    let joins = style.joiner > 32 && style.joiner < 127 && !b",0123456789".iter().any(|&byte| usize::from(byte) == style.joiner);
+    style.first <= 1000 && joins && (2..10).contains(&style.shortest)
+}
+
+// Maximal runs, upward; a short one falls apart.
+fn list_of(set: &BTreeSet<usize>, style: Style) -> String {
+    let joiner = char::from(style.joiner as u8);
     let starts = set.iter().filter(|&&i| i == 0 || !set.contains(&(i - 1)));
-    let run = |&start: &usize| match (start..).find(|&i| !set.contains(&(i + 1))).unwrap() {
-        end if end == start => format!("{start}"),
-        end => format!("{start}-{end}"),
+    let run = |&start: &usize| {
+        let end = (start..).find(|&i| !set.contains(&(i + 1))).unwrap();
+        match end - start + 1 {
+            size if size < style.shortest => (start..=end).map(|i| format!("{}", i + style.first)).collect(),
+            _ => vec![format!("{}{joiner}{}", start + style.first, end + style.first)],
+        }
     };
-    starts.map(run).collect::<Vec<_>>().join(", ")
+    starts.flat_map(run).collect::<Vec<_>>().join(if style.blank { ", " } else { "," })
 }
 
 // ---- Changes within the length ----
@@ -622,29 +665,33 @@ fn sets_are_combined_into_another_store() {
 
 // ---- Lists ----
 
-const PIECES: [&[u8]; 18] = [
+const PIECES: [&[u8]; 22] = [
     b"0",
+    b"1",
     b"7",
     b"63",
     b"64",
     b"100",
     b"300",
     b"007",
+    b"999",
+    b"1000",
+    b"1064",
     b"4294967295",
-    b"4294967296",
+    b"4294968295",
+    b"4294968296",
     b"-",
-    b"-",
+    b":",
     b",",
     b", ",
     b",",
-    b" ",
-    b"\t\x0b",
+    b"\t\x0b ",
     b"x",
     b"\xC2\xA0",
 ];
 
 // The ranges of a list, each token by itself.
-fn ranges(text: &[u8]) -> Result<Vec<(usize, usize)>, Error> {
+fn ranges(text: &[u8], style: Style) -> Result<Vec<(usize, usize)>, Error> {
     if !text.is_ascii() {
         return Err(Error::NotAscii);
     }
@@ -653,42 +700,51 @@ fn ranges(text: &[u8]) -> Result<Vec<(usize, usize)>, Error> {
     if tokens.len() > 1 && tokens.last() == Some(&"") {
         tokens.pop();
     }
-    tokens.into_iter().map(|token| range(token).ok_or(Error::NotList)).collect()
+    tokens.into_iter().map(|token| range(token, style).ok_or(Error::NotList)).collect()
 }
 
 fn blank(c: char) -> bool {
     matches!(c, '\t'..='\r' | ' ')
 }
 
-fn range(token: &str) -> Option<(usize, usize)> {
+fn range(token: &str, style: Style) -> Option<(usize, usize)> {
     let number = |text: &str| {
         let text = text.trim_matches(blank);
         let value: u128 = text.bytes().all(|byte| byte.is_ascii_digit()).then(|| text.parse().ok())??;
-        (value <= 4_294_967_295).then_some(value as usize)
+        let bit = value.checked_sub(style.first as u128)?;
+        (bit <= 4_294_967_295).then_some(bit as usize)
     };
-    let (first, last) = token.split_once('-').unwrap_or((token, token));
+    let (first, last) = token.split_once(char::from(style.joiner as u8)).unwrap_or((token, token));
     let (first, last) = (number(first)?, number(last)?);
     (first <= last).then_some((first, last))
 }
 
 #[test]
 fn lists_are_read() {
-    changes(70, &[Error::NoSpace, Error::NotList, Error::NotAscii], |r, case| {
-        let n = r.below(7);
-        let text: Vec<u8> = (0..n).flat_map(|_| PIECES[r.below(PIECES.len())]).copied().collect();
+    changes(70, &[Error::NoSpace, Error::NotList, Error::NotAscii, Error::BadStyle], |r, case| {
+        let (n, style) = (r.below(7), r.style());
+        let mut pieces: Vec<&[u8]> = (0..n).map(|_| r.pick(&PIECES)).collect();
+        let joiner = [style.joiner as u8];
+        if n > 1 && r.below(2) == 0 {
+            pieces[n / 2] = &joiner;
+        }
+        let text = pieces.concat();
         let model = |bits: &mut Vec<bool>, capacity| {
-            let ranges = ranges(&text)?;
+            if !allowed(style) {
+                return Err(Error::BadStyle);
+            }
+            let ranges = ranges(&text, style)?;
             bits.clear();
             ranges.iter().try_for_each(|&(_, last)| grow(bits, last, capacity))?;
             ranges.iter().for_each(|&(first, last)| bits[first..=last].fill(true));
             Ok(())
         };
-        let done = case.run(|b| b.from_list(&text), model);
-        if text.iter().all(|&byte| blank(byte.into())) {
+        let done = case.run(|b| b.from_list(&text, style), model);
+        if allowed(style) && text.iter().all(|&byte| blank(byte.into())) {
             assert_eq!(done, Err(Error::NotList));
-            case.run(|b| b.load_list(&text), |bits, _| Ok(bits.clear())).unwrap();
+            case.run(|b| b.load_list(&text, style), |bits, _| Ok(bits.clear())).unwrap();
         } else {
-            assert_eq!(case.run(|b| b.load_list(&text), model), done);
+            assert_eq!(case.run(|b| b.load_list(&text, style), model), done);
         }
         done
     });
@@ -699,14 +755,67 @@ fn lists_of_the_paper() {
     let mut store = [0; 2];
     let mut b = Bitmap::empty(&mut store).unwrap();
     for text in ["", ",", "1,,", "5-3", "4294967296"] {
-        assert_eq!(b.from_list(text), Err(Error::NotList), "{text:?}");
+        assert_eq!(b.from_list(text, Style::PLAIN), Err(Error::NotList), "{text:?}");
     }
-    assert_eq!(b.from_list("4294967295"), Err(Error::NoSpace));
-    assert_eq!(b.from_list([0x31, 0xC2, 0xA0]), Err(Error::NotAscii));
+    assert_eq!(b.from_list("4294967295", Style::PLAIN), Err(Error::NoSpace));
+    assert_eq!(b.from_list([0x31, 0xC2, 0xA0], Style::PLAIN), Err(Error::NotAscii));
     for (text, set) in [("1,", vec![1]), (" 1 - 3 , 2", vec![1, 2, 3]), ("120-127", (120..128).collect())] {
-        b.from_list(text).unwrap();
+        b.from_list(text, Style::PLAIN).unwrap();
         assert_eq!(b.iter().collect::<Vec<_>>(), set, "{text:?}");
     }
+}
+
+// ---- Styles ----
+
+const COLON: Style = Style { first: 0, joiner: b':' as usize, blank: true, shortest: 2 };
+const THOUSAND: Style = Style { first: 1000, ..Style::PLAIN };
+
+// Reading looks at the first number and the joiner, and at nothing else.
+#[test]
+fn styles_are_read() {
+    let read = |text: &str, style| {
+        let mut store = [0; 2];
+        let mut b = Bitmap::empty(&mut store).unwrap();
+        b.from_list(text, style).map(|()| b.iter().collect::<Vec<_>>())
+    };
+    let three = Style { shortest: 3, ..Style::PLAIN };
+    let close = Style { blank: false, ..Style::PLAIN };
+    assert_eq!(read("4-5", three), Ok(vec![4, 5]));
+    assert_eq!(read("1, 2", close), Ok(vec![1, 2]));
+    assert_eq!(read("1 : 2", COLON), Ok(vec![1, 2]));
+    assert_eq!(read("01000", THOUSAND), Ok(vec![0]));
+    assert_eq!(read("1000-1002, 1127", THOUSAND), Ok(vec![0, 1, 2, 127]));
+    assert_eq!(read("1A2", Style { joiner: 65, ..Style::PLAIN }), Ok(vec![1, 2]));
+    for (text, style) in [("1-2", COLON), ("1:2:3", COLON), ("0999", THOUSAND), ("999-1001", THOUSAND), ("4294968296", THOUSAND), ("", THOUSAND)] {
+        assert_eq!(read(text, style), Err(Error::NotList), "{text:?} {style:?}");
+    }
+    for (text, style) in [("4294968295", THOUSAND), ("1128", THOUSAND), ("128", COLON)] {
+        assert_eq!(read(text, style), Err(Error::NoSpace), "{text:?} {style:?}");
+    }
+}
+
+// A bad style comes before everything that is wrong with the text or the buffer.
+#[test]
+fn styles_are_looked_at() {
+    let mut store = [0b110000, 7];
+    let mut b = Bitmap::with_count(&mut store, 1).unwrap();
+    let plain = Style::PLAIN;
+    let firsts = [1001, 1 << 32, usize::MAX].map(|first| Style { first, ..plain });
+    let joiners = [0, 32, 44, 48, 57, 127, 256 + 45, usize::MAX].map(|joiner| Style { joiner, ..plain });
+    let shortests = [0, 1, 10, usize::MAX].map(|shortest| Style { shortest, ..plain });
+    for style in firsts.into_iter().chain(joiners).chain(shortests) {
+        for text in [&b"1"[..], b"", b" ", b"x", b"\xFF", b"128"] {
+            assert_eq!(b.from_list(text, style), Err(Error::BadStyle), "{text:?} {style:?}");
+            assert_eq!(b.load_list(text, style), Err(Error::BadStyle), "{text:?} {style:?}");
+        }
+        assert_eq!(b.write_list(&mut [], style), Err(Error::BadStyle), "{style:?}");
+        assert_eq!(BitSlice::new(&[0]).unwrap().write_list(&mut [0; 9], style), Err(Error::BadStyle), "{style:?}");
+    }
+    assert_eq!((b.count(), b.store()), (1, &[0b110000, 7][..]));
+    for (shortest, text) in [(2, "4-5"), (3, "4, 5"), (9, "4, 5")] {
+        assert_eq!(b.write_list(&mut [0; 9], Style { shortest, ..plain }), Ok(text));
+    }
+    assert_eq!(Style::default(), plain);
 }
 
 // ---- Stores ----

@@ -1,7 +1,9 @@
 // Sheets: the bytes of each edit as the paper's table has them, readings in both editions, and what each refusal says.
 use std::error::Error as _;
 
-use taxolbin::{read, BitSlice, Bitmap, Direction, Edit, Edition, Error, ReadError, Sheet, CAPACITY_MAX, PAYLOAD_MAX, RECORDS_MAX, RESIZE_MAX};
+use taxolbin::{
+    read, BitSlice, Bitmap, Direction, Edit, Edition, Error, ReadError, Sheet, Style, CAPACITY_MAX, PAYLOAD_MAX, RECORDS_MAX, RESIZE_MAX,
+};
 
 const NONE: &[u64] = &[];
 
@@ -136,7 +138,7 @@ fn the_paper_s_sheet() {
     assert_eq!((refused.error, refused.record), (Error::NewerKind, 3));
     let reading = read(Edition::Two, &sheet, bits(NONE), &mut store).unwrap();
     assert_eq!((reading.records, reading.bitmap.count()), (3, 1));
-    assert_eq!(reading.bitmap.write_list(&mut text), Ok("4, 7-8"));
+    assert_eq!(reading.bitmap.write_list(&mut text, Style::PLAIN), Ok("4, 7-8"));
 }
 
 #[test]
@@ -246,20 +248,20 @@ fn a_sheet_may_be_full() {
 fn an_empty_book_is_saved_and_loaded() {
     let (mut store, mut text) = ([0b111], [0; 8]);
     let empty = Bitmap::empty(&mut store).unwrap();
-    let saved = empty.write_list(&mut text).unwrap();
+    let saved = empty.write_list(&mut text, Style::PLAIN).unwrap();
     assert_eq!(saved, "");
     let mut second = [0b111, 0b1];
     let mut loaded = Bitmap::with_count(&mut second, 2).unwrap();
-    assert_eq!(loaded.from_list(saved), Err(Error::NotList));
+    assert_eq!(loaded.from_list(saved, Style::PLAIN), Err(Error::NotList));
     assert_eq!(loaded.count(), 2);
-    loaded.load_list(saved).unwrap();
+    loaded.load_list(saved, Style::PLAIN).unwrap();
     assert_eq!((loaded.count(), loaded.store()), (0, &[0, 0][..]));
     for (text, notes) in [("4\n", 1), ("\n", 0), ("\t\n\x0b\x0c\r ", 0)] {
-        loaded.load_list(text).unwrap();
+        loaded.load_list(text, Style::PLAIN).unwrap();
         assert_eq!(loaded.count_set_bits(), notes, "{text:?}");
     }
     for text in ["\x08", "\x0e"] {
-        assert_eq!(loaded.load_list(text), Err(Error::NotList), "{text:?}");
+        assert_eq!(loaded.load_list(text, Style::PLAIN), Err(Error::NotList), "{text:?}");
     }
 }
 
@@ -291,8 +293,8 @@ fn equal_bitmaps_are_reversed_by_their_lengths() {
 fn each_error_has_its_number_name_and_sentence() {
     let rows: Vec<Vec<&str>> =
         include_str!("../../include/numbers.txt").lines().filter(|line| !line.starts_with('#')).map(|line| line.split('\t').collect()).collect();
-    assert_eq!(rows.len(), 15);
-    assert_eq!((Error::from_number(0), Error::from_number(15), Error::from_number(u32::MAX)), (None, None, None));
+    assert_eq!(rows.len(), 16);
+    assert_eq!((Error::from_number(0), Error::from_number(16), Error::from_number(u32::MAX)), (None, None, None));
     for row in &rows[1..] {
         let number: u32 = row[0].parse().unwrap();
         let error = Error::from_number(number).unwrap();
