@@ -113,7 +113,8 @@ def page():
     calls = re.findall(r"^TAXOLBIN_MUST_USE uint32_t taxolbin_", (ROOT / "include/taxolbin.h").read_text(), re.M)
     replayed = (CRATES / "replay/stdout").read_text().splitlines()
     sheets = (CRATES / "sheets/stdout").read_text().splitlines()
-    starred = re.findall(r"^\s*(?:∷ )?sample \(", (CRATES / "cases/specs/Cases.antt").read_text(), re.M)
+    styles = (CRATES / "styles/stdout").read_text().splitlines()
+    rows = re.findall(r"^\s*(?:∷ )?sample \(", (CRATES / "cases/specs/Cases.antt").read_text(), re.M)
     bent = sum(1 for p in CRATES.glob("*/must-fail/def_*.edit"))
     way = list(short_way())
 
@@ -126,8 +127,9 @@ def page():
             ["crates", len(crates)],
             ["exported calls (include/taxolbin.h)", len(calls)],
             ["calls that `replay` compares, and its cases with the rules of 01", f"{sum('::' in line for line in replayed)}, {number(int(replayed[-1].split()[1]))}"],
-            ["readings and writer calls that `sheets` compares", number(sheet_calls(sheets))],
-            ["rows of starred cases (cases/specs/Cases)", len(starred)],
+            ["readings and writer calls that `sheets` compares", number(cases(sheets))],
+            ["texts and sets in house styles that `styles` compares", number(cases(styles))],
+            ["rows of starred cases and of a request's (cases/specs/Cases)", len(rows)],
             ["must-fail edits, of them of definitions", f"{sums['edits']}, {bent}"],
             ["lines of READING's short way", number(sum(n for _, _, n in way))],
         ],
@@ -167,7 +169,7 @@ def page():
     return "\n".join(out).rstrip("\n") + "\n"
 
 
-def sheet_calls(stdout):
+def cases(stdout):
     return int(re.search(r"\d+", stdout[-1]).group())
 
 
