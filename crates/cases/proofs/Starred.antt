@@ -37,7 +37,8 @@ use Rattle.style.specs.Styles.{plainStyle}
 use Rattle.sheet.specs.Reads.{readAnswer, readStore, readingCount}
 use Rattle.shapes.specs.declared.Split.{Split}
 use Rattle.sheet.specs.declared.Reading.{Reading}
-use Rattle.cases.specs.Cases.{Question, from-list, from-list-in, write-list-in, next-clear, first-clear, get-field, select, eq, rotate-right, xori, split-off, read, zeros, whole, changed, found, counted, fielded}
+use Rattle.cases.specs.Cases.{from-list-in, write-list-in}
+use Rattle.cases.specs.Cases.{Question, from-list, next-clear, first-clear, get-field, select, eq, rotate-right, xori, split-off, read, zeros, whole, changed, found, counted, fielded}
 use Rattle.cases.specs.Cases.{tested, parted, sheeted, listed, Comes, Sample, sample, Hold, starred, StarredHold, styled, StyledHold}
 
 -- a reading's answer, and its result printed

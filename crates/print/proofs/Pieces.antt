@@ -10,7 +10,7 @@ use Rattle.style.specs.Promises.{Allowed}
 use Rattle.style.specs.declared.Style.{Style}
 use Rattle.text.specs.Lists.{comma, space, listLimit, Range, range}
 use Rattle.print.specs.Texts.{decimal, sizeOf, singles, cut, printed, gap, others, text}
-use Rattle.print.specs.Kernels.{separator, after, Puts}
+use Rattle.print.specs.Kernels.{separator, piecesAt, Puts}
 use Rattle.print.proofs.Decimals.{digits-most, digits-some}
 use Rattle.print.proofs.Printed.{printed-one, printed-two, cut-short, cut-long, others-append}
 use Rattle.print.proofs.Buffer.{puts-none, puts-one, puts-then, puts-is, puts-long}
@@ -93,48 +93,48 @@ printed-length y ok a b h l =
 
 -- ---- pieces after pieces
 
-pub after-none : (y : Style) (at : ℕ) → after y at [] ≡ []
+pub pieces-none : (y : Style) (at : ℕ) → piecesAt y at [] ≡ []
 unfolding text others
-after-none y zero = refl
-after-none y (suc at) = refl
+pieces-none y zero = refl
+pieces-none y (suc at) = refl
 
-after-more : (y : Style) (at : ℕ) (r : Range) (ps : List Range) → after y at (r ∷ ps) ≡ (separator (y .blank) at ++ printed y r) ++ others y ps
+pieces-more : (y : Style) (at : ℕ) (r : Range) (ps : List Range) → piecesAt y at (r ∷ ps) ≡ (separator (y .blank) at ++ printed y r) ++ others y ps
 unfolding text others
-after-more y zero r ps = refl
-after-more y (suc at) r ps = sym (append-assoc (gap (y .blank)) (printed y r) (others y ps))
+pieces-more y zero r ps = refl
+pieces-more y (suc at) r ps = sym (append-assoc (gap (y .blank)) (printed y r) (others y ps))
 
-after-others : (y : Style) (at : ℕ) (ps : List Range) → 0 < at → after y at ps ≡ others y ps
-after-others y zero ps h = absurd (omega arith)
-after-others y (suc at) ps h = refl
+pieces-others : (y : Style) (at : ℕ) (ps : List Range) → 0 < at → piecesAt y at ps ≡ others y ps
+pieces-others y zero ps h = absurd (omega arith)
+pieces-others y (suc at) ps h = refl
 
-pub after-one : (y : Style) (at : ℕ) (r : Range) → after y at (r ∷ []) ≡ separator (y .blank) at ++ printed y r
+pub pieces-one : (y : Style) (at : ℕ) (r : Range) → piecesAt y at (r ∷ []) ≡ separator (y .blank) at ++ printed y r
 unfolding others
-after-one y at r = after-more y at r [] ∙ append-nil (separator (y .blank) at ++ printed y r)
+pieces-one y at r = pieces-more y at r [] ∙ append-nil (separator (y .blank) at ++ printed y r)
 
-after-some : (y : Style) (at : ℕ) (r : Range) (ps : List Range) → 0 < length (after y at (r ∷ ps))
-after-some y at r ps =
+pieces-some : (y : Style) (at : ℕ) (r : Range) (ps : List Range) → 0 < length (piecesAt y at (r ∷ ps))
+pieces-some y at r ps =
     omega (
       arith,
-      ap length (after-more y at r ps),
+      ap length (pieces-more y at r ps),
       length-append (separator (y .blank) at ++ printed y r) (others y ps),
       length-append (separator (y .blank) at) (printed y r),
       printed-some y r,
     )
 
-pub after-append : (y : Style) (at : ℕ) (ps qs : List Range) → after y at (ps ++ qs) ≡ after y at ps ++ after y (at + length (after y at ps)) qs
-after-append y at [] qs =
-    let e : at + length (after y at []) ≡ at = omega (arith, ap length (after-none y at)) in
-    sym (ap (λ (t : List ℕ). t ++ after y (at + length (after y at [])) qs) (after-none y at) ∙ ap (λ (k : ℕ). after y k qs) e)
-after-append y at (r ∷ ps) qs =
-    after-more y at r (ps ++ qs)
+pub pieces-append : (y : Style) (at : ℕ) (ps qs : List Range) → piecesAt y at (ps ++ qs) ≡ piecesAt y at ps ++ piecesAt y (at + length (piecesAt y at ps)) qs
+pieces-append y at [] qs =
+    let e : at + length (piecesAt y at []) ≡ at = omega (arith, ap length (pieces-none y at)) in
+    sym (ap (λ (t : List ℕ). t ++ piecesAt y (at + length (piecesAt y at [])) qs) (pieces-none y at) ∙ ap (λ (k : ℕ). piecesAt y k qs) e)
+pieces-append y at (r ∷ ps) qs =
+    pieces-more y at r (ps ++ qs)
     ∙ ap (λ (t : List ℕ). (separator (y .blank) at ++ printed y r) ++ t) (others-append y ps qs)
     ∙ sym (append-assoc (separator (y .blank) at ++ printed y r) (others y ps) (others y qs))
-    ∙ ap (λ (t : List ℕ). t ++ others y qs) (sym (after-more y at r ps))
-    ∙ ap (λ (t : List ℕ). after y at (r ∷ ps) ++ t) (sym (after-others y (at + length (after y at (r ∷ ps))) qs (omega (arith, after-some y at r ps))))
+    ∙ ap (λ (t : List ℕ). t ++ others y qs) (sym (pieces-more y at r ps))
+    ∙ ap (λ (t : List ℕ). piecesAt y at (r ∷ ps) ++ t) (sym (pieces-others y (at + length (piecesAt y at (r ∷ ps))) qs (omega (arith, pieces-some y at r ps))))
 
-pub after-length : (y : Style) (at : ℕ) (ps qs : List Range)
-    → length (after y at (ps ++ qs)) ≡ length (after y at ps) + length (after y (at + length (after y at ps)) qs)
-after-length y at ps qs = ap length (after-append y at ps qs) ∙ length-append (after y at ps) (after y (at + length (after y at ps)) qs)
+pub pieces-length : (y : Style) (at : ℕ) (ps qs : List Range)
+    → length (piecesAt y at (ps ++ qs)) ≡ length (piecesAt y at ps) + length (piecesAt y (at + length (piecesAt y at ps)) qs)
+pieces-length y at ps qs = ap length (pieces-append y at ps qs) ∙ length-append (piecesAt y at ps) (piecesAt y (at + length (piecesAt y at ps)) qs)
 
 -- ---- the numbers of a run, one by one
 
@@ -149,7 +149,7 @@ singles-split (suc m) n a =
     let f : suc m + n ≡ suc (m + n) = omega arith in
     ap (singles a) f ∙ ap (λ (ps : List Range). range a a ∷ ps) (singles-split m n (suc a) ∙ ap (λ (k : ℕ). singles (suc a) m ++ singles k n) e)
 
-one-single : (a : ℕ) → singles a 1 ≡ range a a ∷ []
+pub one-single : (a : ℕ) → singles a 1 ≡ range a a ∷ []
 unfolding singles
 one-single a = refl
 
@@ -160,22 +160,22 @@ no-single a = refl
 module _ (y : Style) (at a : ℕ) where
   -- what is printed of the numbers from a up to x
   abbrev upTo : ℕ → List ℕ
-  upTo x = after y at (singles a (x - a))
+  upTo x = piecesAt y at (singles a (x - a))
 
   pub upto-none : (x : ℕ) → x ≡ a → upTo x ≡ []
   upto-none x e =
       let k : x - a ≡ 0 = omega arith in
-      ap (λ (n : ℕ). after y at (singles a n)) k ∙ ap (after y at) (no-single a) ∙ after-none y at
+      ap (λ (n : ℕ). piecesAt y at (singles a n)) k ∙ ap (piecesAt y at) (no-single a) ∙ pieces-none y at
 
   -- one number more
   pub upto-next : (x : ℕ) → a ≤ x → upTo (x + 1) ≡ upTo x ++ (separator (y .blank) (at + length (upTo x)) ++ printed y (range x x))
   upto-next x h =
       let k : x + 1 - a ≡ x - a + 1 = omega arith in
       let l : a + (x - a) ≡ x = omega arith in
-      ap (λ (n : ℕ). after y at (singles a n)) k
-      ∙ ap (after y at) (singles-split (x - a) 1 a ∙ ap (λ (ps : List Range). singles a (x - a) ++ ps) (ap (λ (n : ℕ). singles n 1) l ∙ one-single x))
-      ∙ after-append y at (singles a (x - a)) (range x x ∷ [])
-      ∙ ap (λ (t : List ℕ). upTo x ++ t) (after-one y (at + length (upTo x)) (range x x))
+      ap (λ (n : ℕ). piecesAt y at (singles a n)) k
+      ∙ ap (piecesAt y at) (singles-split (x - a) 1 a ∙ ap (λ (ps : List Range). singles a (x - a) ++ ps) (ap (λ (n : ℕ). singles n 1) l ∙ one-single x))
+      ∙ pieces-append y at (singles a (x - a)) (range x x ∷ [])
+      ∙ ap (λ (t : List ℕ). upTo x ++ t) (pieces-one y (at + length (upTo x)) (range x x))
 
   pub upto-length : (x : ℕ) → a ≤ x → length (upTo (x + 1)) ≡ length (upTo x) + (length (separator (y .blank) (at + length (upTo x))) + length (printed y (range x x)))
   upto-length x h =
@@ -187,37 +187,37 @@ module _ (y : Style) (at a : ℕ) where
   upto-most x e h l =
       let k : x - a + (e - x) ≡ e - a = omega arith in
       let q : singles a (e - a) ≡ singles a (x - a) ++ singles (a + (x - a)) (e - x) = ap (singles a) (sym k) ∙ singles-split (x - a) (e - x) a in
-      omega (arith, ap (λ (ps : List Range). length (after y at ps)) q, after-length y at (singles a (x - a)) (singles (a + (x - a)) (e - x)))
+      omega (arith, ap (λ (ps : List Range). length (piecesAt y at ps)) q, pieces-length y at (singles a (x - a)) (singles (a + (x - a)) (e - x)))
 
 -- ---- a run
 
-pub cut-each : (y : Style) (at a e : ℕ) → a < e → e - a < y .shortest → after y at (singles a (e - a)) ≡ after y at (cut (y .shortest) (range a (e - 1)))
+pub cut-each : (y : Style) (at a e : ℕ) → a < e → e - a < y .shortest → piecesAt y at (singles a (e - a)) ≡ piecesAt y at (cut (y .shortest) (range a (e - 1)))
 cut-each y at a e h l =
     let k : sizeOf (range a (e - 1)) ≡ e - a = omega arith in
-    ap (after y at) (sym (cut-short (y .shortest) (range a (e - 1)) (omega arith) ∙ ap (singles a) k))
+    ap (piecesAt y at) (sym (cut-short (y .shortest) (range a (e - 1)) (omega arith) ∙ ap (singles a) k))
 
 pub cut-whole : (y : Style) (at a e : ℕ) → a < e → y .shortest ≤ e - a
-    → separator (y .blank) at ++ printed y (range a (e - 1)) ≡ after y at (cut (y .shortest) (range a (e - 1)))
-cut-whole y at a e h l = sym (ap (after y at) (cut-long (y .shortest) (range a (e - 1)) (omega arith)) ∙ after-one y at (range a (e - 1)))
+    → separator (y .blank) at ++ printed y (range a (e - 1)) ≡ piecesAt y at (cut (y .shortest) (range a (e - 1)))
+cut-whole y at a e h l = sym (ap (piecesAt y at) (cut-long (y .shortest) (range a (e - 1)) (omega arith)) ∙ pieces-one y at (range a (e - 1)))
 
 -- a run takes at most 23 bytes a number
-singles-most : (y : Style) → Allowed y → (n at a : ℕ) → a + n ≤ listLimit + 1 → length (after y at (singles a n)) ≤ 23 * n
-singles-most y ok zero at a h = omega (arith, ap (λ (ps : List Range). length (after y at ps)) (no-single a), ap length (after-none y at))
+singles-most : (y : Style) → Allowed y → (n at a : ℕ) → a + n ≤ listLimit + 1 → length (piecesAt y at (singles a n)) ≤ 23 * n
+singles-most y ok zero at a h = omega (arith, ap (λ (ps : List Range). length (piecesAt y at ps)) (no-single a), ap length (pieces-none y at))
 singles-most y ok (suc n) at a h =
     let k : suc n ≡ 1 + n = omega arith in
     let q : singles a (suc n) ≡ (range a a ∷ []) ++ singles (a + 1) n = ap (singles a) k ∙ singles-split 1 n a ∙ ap (λ (ps : List Range). ps ++ singles (a + 1) n) (one-single a) in
     omega (
       arith,
-      ap (λ (ps : List Range). length (after y at ps)) q,
-      after-length y at (range a a ∷ []) (singles (a + 1) n),
-      ap length (after-one y at (range a a)),
+      ap (λ (ps : List Range). length (piecesAt y at ps)) q,
+      pieces-length y at (range a a ∷ []) (singles (a + 1) n),
+      ap length (pieces-one y at (range a a)),
       length-append (separator (y .blank) at) (printed y (range a a)),
       gap-length (y .blank) at,
       printed-length y ok a a (omega arith) (omega arith),
-      singles-most y ok n (at + length (after y at (range a a ∷ []))) (a + 1) (omega arith),
+      singles-most y ok n (at + length (piecesAt y at (range a a ∷ []))) (a + 1) (omega arith),
     )
 
-pub run-most : (y : Style) → Allowed y → (at a e : ℕ) → a < e → e ≤ listLimit + 1 → length (after y at (cut (y .shortest) (range a (e - 1)))) ≤ 23 * (e - a)
+pub run-most : (y : Style) → Allowed y → (at a e : ℕ) → a < e → e ≤ listLimit + 1 → length (piecesAt y at (cut (y .shortest) (range a (e - 1)))) ≤ 23 * (e - a)
 run-most y ok at a e h l =
     by-lt (e - a) (y .shortest)
     (λ s. omega (arith, ap length (cut-each y at a e h s), singles-most y ok (e - a) at a (omega arith)))
@@ -235,13 +235,13 @@ run-most y ok at a e h l =
 pub record Counting (y : Style) (at a e x p : ℕ) : Type 0 where
   pub low : a ≤ x
   pub high : x ≤ e
-  pub place : p ≡ at + length (after y at (singles a (x - a)))
+  pub place : p ≡ at + length (piecesAt y at (singles a (x - a)))
   pub short : p ≤ 23 * x
 
 module _ (y : Style) (ok : Allowed y) (at a e : ℕ) (h : a < e) (l : e ≤ listLimit + 1) where
   -- one piece, of u and v bytes
   module _ (s : y .shortest ≤ e - a) (u v : ℕ) (eu : u ≡ length (separator (y .blank) at)) (ev : v ≡ length (printed y (range a (e - 1)))) where
-    pub whole-place : at + u + v ≡ at + length (after y at (cut (y .shortest) (range a (e - 1))))
+    pub whole-place : at + u + v ≡ at + length (piecesAt y at (cut (y .shortest) (range a (e - 1))))
     whole-place = omega (arith, ap length (cut-whole y at a e h s), length-append (separator (y .blank) at) (printed y (range a (e - 1))))
 
     pub whole-short : u + v ≤ 23
@@ -251,10 +251,10 @@ module _ (y : Style) (ok : Allowed y) (at a e : ℕ) (h : a < e) (l : e ≤ list
   counting-start s = record { low = omega arith; high = omega arith; place = omega (arith, ap length (upto-none y at a a refl)); short = s }
 
   module _ (x p : ℕ) (g : Counting y at a e x p) where
-    pub counting-end : e - a < y .shortest → e ≤ x → p ≡ at + length (after y at (cut (y .shortest) (range a (e - 1))))
+    pub counting-end : e - a < y .shortest → e ≤ x → p ≡ at + length (piecesAt y at (cut (y .shortest) (range a (e - 1))))
     counting-end s m =
         let k : x ≡ e = omega (arith, g .high) in
-        g .place ∙ ap (λ (n : ℕ). at + length (after y at (singles a (n - a)))) k ∙ ap (λ (t : List ℕ). at + length t) (cut-each y at a e h s)
+        g .place ∙ ap (λ (n : ℕ). at + length (piecesAt y at (singles a (n - a)))) k ∙ ap (λ (t : List ℕ). at + length t) (cut-each y at a e h s)
 
     -- one number more, of u and v bytes
     module _ (m : x < e) (u v : ℕ) (eu : u ≡ length (separator (y .blank) p)) (ev : v ≡ length (printed y (range x x))) where
@@ -274,43 +274,43 @@ module _ (y : Style) (ok : Allowed y) (at a e : ℕ) (h : a < e) (l : e ≤ list
 pub record Putting (y : Style) (at a e : ℕ) (out : List ℕ) (x p : ℕ) (out' : List ℕ) : Type 0 where
   pub low : a ≤ x
   pub high : x ≤ e
-  pub puts : Puts at (after y at (singles a (x - a))) p out out'
+  pub puts : Puts at (piecesAt y at (singles a (x - a))) p out out'
 
-module _ (y : Style) (at a e : ℕ) (h : a < e) (out : List ℕ) (room : at + length (after y at (cut (y .shortest) (range a (e - 1)))) ≤ length out) where
+module _ (y : Style) (at a e : ℕ) (h : a < e) (out : List ℕ) (room : at + length (piecesAt y at (cut (y .shortest) (range a (e - 1)))) ≤ length out) where
   -- one piece
   module _ (s : y .shortest ≤ e - a) where
     pub whole-room : at + (length (separator (y .blank) at) + length (printed y (range a (e - 1)))) ≤ length out
     whole-room = omega (arith, ap length (cut-whole y at a e h s), length-append (separator (y .blank) at) (printed y (range a (e - 1))))
 
     pub whole-puts : (r : ℕ) (out' : List ℕ) → Puts at (separator (y .blank) at ++ printed y (range a (e - 1))) r out out'
-        → Puts at (after y at (cut (y .shortest) (range a (e - 1)))) r out out'
-    whole-puts r out' q = puts-is at r _ (after y at (cut (y .shortest) (range a (e - 1)))) out out' (cut-whole y at a e h s) q
+        → Puts at (piecesAt y at (cut (y .shortest) (range a (e - 1)))) r out out'
+    whole-puts r out' q = puts-is at r _ (piecesAt y at (cut (y .shortest) (range a (e - 1)))) out out' (cut-whole y at a e h s) q
 
   pub putting-first : Putting y at a e out a at out
-  putting-first = record { low = omega arith; high = omega arith; puts = puts-is at at [] (after y at (singles a (a - a))) out out (sym (upto-none y at a a refl)) (puts-none at out) }
+  putting-first = record { low = omega arith; high = omega arith; puts = puts-is at at [] (piecesAt y at (singles a (a - a))) out out (sym (upto-none y at a a refl)) (puts-none at out) }
 
   module _ (s : e - a < y .shortest) (x p : ℕ) (out' : List ℕ) (g : Putting y at a e out x p out') where
     abbrev front : List ℕ
-    front = after y at (singles a (x - a))
+    front = piecesAt y at (singles a (x - a))
 
-    fits : at + length (after y at (singles a (e - a))) ≤ length out
+    fits : at + length (piecesAt y at (singles a (e - a))) ≤ length out
     fits = omega (arith, ap length (cut-each y at a e h s))
 
     pub putting-size : length out' ≡ length out
     putting-size = puts-long at p front out out' (omega (arith, fits, upto-most y at a x e (g .low) (g .high))) (g .puts)
 
-    pub putting-done : e ≤ x → Puts at (after y at (cut (y .shortest) (range a (e - 1)))) p out out'
+    pub putting-done : e ≤ x → Puts at (piecesAt y at (cut (y .shortest) (range a (e - 1)))) p out out'
     putting-done m =
         let k : x ≡ e = omega (arith, g .high) in
-        puts-is at p front (after y at (cut (y .shortest) (range a (e - 1)))) out out'
-        (ap (λ (n : ℕ). after y at (singles a (n - a))) k ∙ cut-each y at a e h s) (g .puts)
+        puts-is at p front (piecesAt y at (cut (y .shortest) (range a (e - 1)))) out out'
+        (ap (λ (n : ℕ). piecesAt y at (singles a (n - a))) k ∙ cut-each y at a e h s) (g .puts)
 
     module _ (m : x < e) where
       -- the bytes of the next number
       abbrev more : List ℕ
       more = separator (y .blank) p ++ printed y (range x x)
 
-      next-is : after y at (singles a (x + 1 - a)) ≡ front ++ more
+      next-is : piecesAt y at (singles a (x + 1 - a)) ≡ front ++ more
       next-is = upto-next y at a x (g .low) ∙ ap (λ (n : ℕ). front ++ (separator (y .blank) n ++ printed y (range x x))) (sym (g .puts .next))
 
       total : at + (length front + length more) ≤ length out
@@ -323,7 +323,7 @@ module _ (y : Style) (at a e : ℕ) (h : a < e) (out : List ℕ) (room : at + le
       putting-number r out'' q = record {
         low = omega (arith, g .low);
         high = omega arith;
-        puts = puts-is at r (front ++ more) (after y at (singles a (x + 1 - a))) out out'' (sym next-is) (puts-then at p r front more out out' out'' total (g .puts) q);
+        puts = puts-is at r (front ++ more) (piecesAt y at (singles a (x + 1 - a))) out out'' (sym next-is) (puts-then at p r front more out out' out'' total (g .puts) q);
       }
 
 -- ---- a piece after what stands before it

@@ -1,17 +1,24 @@
 -- The plain style is printed as document 01 says.
-use mathlib.Core.Path.{_≡_, refl, sym, subst}
+use mathlib.Core.Path.{_≡_, refl, sym, ap, ap₂, _∙_, subst}
+use mathlib.Core.Bool.{Bool}
 use mathlib.Core.List.{List, [], _∷_, _++_}
 use Prim.Native.Nat.{ℕ, _+_, _≤_, _<_}
 use native.Mathlib.Omega.{arith}
-use Rattle.word.proofs.Cases.{zero-one}
+use Rattle.word.proofs.Cases.{zero-one, by-lt}
 use Rattle.storage.proofs.Promises.{guarded-map}
 use Rattle.style.specs.Styles.{plainStyle}
-use Rattle.text.specs.Lists.{Range}
-use Rattle.text.proofs.Plain.{plain-allowed, plain-reads}
+use Rattle.text.specs.Lists.{Range, range}
+use Rattle.text.specs.Plain as base-text
+use Rattle.text.proofs.Plain.{plain-allowed, listed-base, plain-reads}
 use Rattle.print.specs.Forms as form
 use Rattle.print.specs.Forms.{Figures}
 use Rattle.print.specs.Plain as base
+use Rattle.print.specs.Texts.{runs, sizeOf, singles, cut, pieces, textOf}
 use Rattle.print.specs.Promises.{PlainAsBefore}
+use Rattle.print.proofs.Printed.{cut-short, cut-long}
+use Rattle.print.proofs.Pieces.{one-single}
+use Rattle.print.proofs.Runs.{runs-are}
+use Rattle.print.proofs.ReadBack.{text-is-list}
 use Rattle.print.proofs.Promises.{prints-one, prints-text}
 
 -- ---- the two forms
@@ -50,6 +57,22 @@ base-runs base.nothing = form.nothing
 base-runs (base.last x) = form.last (base-run x)
 base-runs (base.next x z) = form.next {m = 44 ∷ 32 ∷ []} (base-run x) (form.spaced refl) (base-runs z)
 
+-- a run is one piece
+plain-cut : (r : Range) → r .low ≤ r .high → cut 2 r ≡ r ∷ []
+plain-cut r h =
+    by-lt (sizeOf r) 2
+    (λ l.
+    let n : sizeOf r ≡ 1 = omega arith in
+    let e : r .low ≡ r .high = omega (arith, n) in
+    cut-short 2 r l ∙ ap (singles (r .low)) n ∙ one-single (r .low) ∙ ap (λ (k : ℕ). range (r .low) k ∷ []) e)
+    (λ l. cut-long 2 r l)
+
+plain-pieces : (s : ℕ → Bool) (i : ℕ) (rs : List Range) → form.Runs s i rs → pieces 2 rs ≡ rs
+unfolding pieces
+plain-pieces s i [] (form.none f) = refl
+plain-pieces s i (r ∷ rs) (form.more a b f m z x) =
+    ap₂ (λ (ps qs : List Range). ps ++ qs) (plain-cut r b) (plain-pieces s (r .high + 1) rs x)
+
 pub plain-as-before : PlainAsBefore
 plain-as-before = record {
   reads = plain-reads;
@@ -57,6 +80,9 @@ plain-as-before = record {
     λ x. prints-one plainStyle plain-allowed b h t .0 (x .0, x .1, base-runs (x .2)),
     λ e. let x = prints-one plainStyle plain-allowed b h t .1 e in (x .0, x .1, runs-base (x .2)),
   );
+  lists = λ b h small i e.
+      subst (base-text.Listed (textOf plainStyle b)) (plain-pieces (b .members) 0 (runs b) (runs-are b h))
+      (listed-base (text-is-list plainStyle plain-allowed b h small i e));
   prints = λ ws b out r out' p.
       guarded-map
       (λ q s. let x = s .rest plain-allowed in (x .0, (x .1 .0, x .1 .1, runs-base (x .1 .2)), x .2))

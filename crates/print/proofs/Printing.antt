@@ -22,12 +22,12 @@ use Rattle.style.specs.Promises.{Allowed}
 use Rattle.style.specs.declared.Style.{Style}
 use Rattle.text.specs.Lists.{listLimit, Range, range}
 use Rattle.print.specs.Texts.{runs, cut, pieces, textOf, fitted, replaced, listAnswer, listBuffer, Prints}
-use Rattle.print.specs.Kernels.{NextRun, Printable, rangeOf, after, putAt, Puts}
+use Rattle.print.specs.Kernels.{NextRun, Printable, rangeOf, piecesAt, putAt, Puts}
 use Rattle.print.specs.Forms.{Runs}
 use Rattle.print.specs.declared.Run.{Run}
 use Rattle.print.proofs.Buffer.{length-put, put-then, puts-none}
 use Rattle.print.proofs.Runs.{runs-are, next-none, next-some}
-use Rattle.print.proofs.Pieces.{after-none, after-append, run-most}
+use Rattle.print.proofs.Pieces.{pieces-none, pieces-append, run-most}
 
 -- ---- the text's front is printed, and the run is the first of those left
 
@@ -37,7 +37,7 @@ pub record PrintingTo (y : Style) (b : Bits) (e at : ℕ) (run : Run) : Type 0 w
   rest : List Range
   next : NextRun (b .members) e i run
   left : Runs (b .members) i rest
-  parts : textOf y b ≡ front ++ after y at (pieces (y .shortest) rest)
+  parts : textOf y b ≡ front ++ piecesAt y at (pieces (y .shortest) rest)
   pub at-is : at ≡ length front
   pub short : at ≤ 23 * i
 
@@ -61,13 +61,13 @@ module _ (y : Style) (ok : Allowed y) (b : Bits) (e : ℕ) (past : (j : ℕ) →
   pub going-end : run .end ≤ run .low → textOf y b ≡ g .front
   going-end l =
       g .parts
-      ∙ ap (λ (rs : List Range). g .front ++ after y at (pieces k rs)) (next-none (b .members) e (g .i) run (g .rest) past (g .next) l (g .left))
-      ∙ ap (λ (t : List ℕ). g .front ++ t) (ap (after y at) (no-pieces k) ∙ after-none y at) ∙ append-nil (g .front)
+      ∙ ap (λ (rs : List Range). g .front ++ piecesAt y at (pieces k rs)) (next-none (b .members) e (g .i) run (g .rest) past (g .next) l (g .left))
+      ∙ ap (λ (t : List ℕ). g .front ++ t) (ap (piecesAt y at) (no-pieces k) ∙ pieces-none y at) ∙ append-nil (g .front)
 
   module _ (l : run .low < run .end) where
     -- what the run prints
     abbrev out : List ℕ
-    out = after y at (cut k (rangeOf run))
+    out = piecesAt y at (cut k (rangeOf run))
 
     pub printable : Printable run
     printable = record { some = l; limit = omega (arith, g .next .within) }
@@ -81,12 +81,12 @@ module _ (y : Style) (ok : Allowed y) (b : Bits) (e : ℕ) (past : (j : ℕ) →
     found : (qs : List Range) × (g .rest ≡ rangeOf run ∷ qs) × Runs (b .members) (run .end) qs
     found = next-some (b .members) e (g .i) run (g .rest) (g .next) l (g .left)
 
-    whole : textOf y b ≡ (g .front ++ out) ++ after y (at + length out) (pieces k (found .0))
+    whole : textOf y b ≡ (g .front ++ out) ++ piecesAt y (at + length out) (pieces k (found .0))
     whole =
         g .parts
-        ∙ ap (λ (rs : List Range). g .front ++ after y at rs) (ap (pieces k) (found .1) ∙ more-pieces k (rangeOf run) (found .0))
-        ∙ ap (λ (t : List ℕ). g .front ++ t) (after-append y at (cut k (rangeOf run)) (pieces k (found .0)))
-        ∙ sym (append-assoc (g .front) out (after y (at + length out) (pieces k (found .0))))
+        ∙ ap (λ (rs : List Range). g .front ++ piecesAt y at rs) (ap (pieces k) (found .1) ∙ more-pieces k (rangeOf run) (found .0))
+        ∙ ap (λ (t : List ℕ). g .front ++ t) (pieces-append y at (cut k (rangeOf run)) (pieces k (found .0)))
+        ∙ sym (append-assoc (g .front) out (piecesAt y (at + length out) (pieces k (found .0))))
 
     -- it lies within the text
     pub run-fits : at + length out ≤ length (textOf y b)
@@ -94,7 +94,7 @@ module _ (y : Style) (ok : Allowed y) (b : Bits) (e : ℕ) (past : (j : ℕ) →
         omega (
           arith,
           ap length whole,
-          length-append (g .front ++ out) (after y (at + length out) (pieces k (found .0))),
+          length-append (g .front ++ out) (piecesAt y (at + length out) (pieces k (found .0))),
           length-append (g .front) out,
           g .at-is,
         )
@@ -106,7 +106,7 @@ module _ (y : Style) (ok : Allowed y) (b : Bits) (e : ℕ) (past : (j : ℕ) →
       rest = found .0;
       next = n;
       left = found .2;
-      parts = whole ∙ ap (λ (m : ℕ). (g .front ++ out) ++ after y m (pieces k (found .0))) (sym q);
+      parts = whole ∙ ap (λ (m : ℕ). (g .front ++ out) ++ piecesAt y m (pieces k (found .0))) (sym q);
       at-is = q ∙ omega (arith, length-append (g .front) out, g .at-is);
       short = omega (arith, q, run-short, run-most y ok at (run .low) (run .end) l (printable .limit));
     }
@@ -128,7 +128,7 @@ module _ (y : Style) (ok : Allowed y) (b : Bits) (e : ℕ) (past : (j : ℕ) →
 
   module _ (l : run .low < run .end) where
     abbrev piece : List ℕ
-    piece = after y at (cut (y .shortest) (rangeOf run))
+    piece = piecesAt y at (cut (y .shortest) (rangeOf run))
 
     -- the front and the run lie within the buffer
     fits : length (g .front) + length piece ≤ length out

@@ -34,9 +34,9 @@ separator b zero = []
 separator b (suc at) = gap b
 
 -- what is printed of pieces, where `at` bytes came before
-abbrev pub after : Style → ℕ → List Range → List ℕ
-after y zero ps = text y ps
-after y (suc at) ps = others y ps
+abbrev pub piecesAt : Style → ℕ → List Range → List ℕ
+piecesAt y zero ps = text y ps
+piecesAt y (suc at) ps = others y ps
 
 -- the bytes t at a place
 unfoldable pub putAt : ℕ → List ℕ → List ℕ → List ℕ

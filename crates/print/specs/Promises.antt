@@ -14,10 +14,11 @@ use Rattle.storage.specs.declared.Refusal.{Refusal}
 use Rattle.storage.specs.declared.Change.{Change}
 use Rattle.storage.specs.declared.Amount.{Amount}
 use Rattle.style.specs.Styles.{plainStyle}
-use Rattle.style.specs.Promises.{Allowed, Styled}
+use Rattle.style.specs.Promises.{Allowed, GuardedStyle}
 use Rattle.style.specs.declared.Style.{Style}
 use Rattle.text.specs.Lists.{Range}
 use Rattle.text.specs.Grammar.{Digits, Listed}
+use Rattle.text.specs.Plain as base-text
 use Rattle.text.specs.Readings.{readingList}
 use Rattle.text.specs.Promises.{Within, PlainReads}
 use Rattle.print.specs.Forms.{Runs, IsText}
@@ -70,7 +71,7 @@ PutOrShort form out x v out' =
 abbrev pub PrintsText : Style → List ℕ → Bitmap → List ℕ → ℕ → ℕ → List ℕ → Type 0
 PrintsText y ws b out x v out' =
     Guarded ws b (NotPrinted out x v out')
-    (Styled y (NotPrinted out x v out' 15) (PutOrShort (IsText y (held ws b .members)) out x v out'))
+    (GuardedStyle y (NotPrinted out x v out' 15) (PutOrShort (IsText y (held ws b .members)) out x v out'))
 
 -- `write_list`, from its contract
 abbrev pub WriteListMeans : Type 0
@@ -104,10 +105,11 @@ ReadsBack =
     → Changes (readingList y (take (amountValue a) out')) us o r us'
     → (changeNumber r ≡ 0) × (changeRecord r .count ≡ m) × ((j : ℕ) → view us' m .members j ≡ held ws b .members j)
 
--- the plain style is read and printed as document 01 says: the one text of its printed form, by the call too
+-- the plain style is read and printed as document 01 says: the one text of its printed form, a list of the runs, by the call too
 pub record PlainAsBefore : Type 0 where
   pub reads : PlainReads
   pub text : (b : Bits) → Bounded b → (t : List ℕ) → base.IsText (b .members) t ↔ (t ≡ textOf plainStyle b)
+  pub lists : (b : Bits) → Bounded b → b .count ≤ mostWords → (i : ℕ) → b .members i ≡ true → base-text.Listed (textOf plainStyle b) (runs b)
   pub prints : (ws : List ℕ) (b : Bitmap) (out : List ℕ) (r : Amount) (out' : List ℕ) → Prints plainStyle ws b out r out'
       → Guarded ws b (NotPrinted out (amountNumber r) (amountValue r) out')
       (PutOrShort (base.IsText (held ws b .members)) out (amountNumber r) (amountValue r) out')

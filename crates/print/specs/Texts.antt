@@ -67,7 +67,7 @@ unfoldable pub pieces : ℕ → List Range → List Range
 pieces k [] = []
 pieces k (r ∷ rs) = cut k r ++ pieces k rs
 
--- one piece: `a` or `a-b`, counted from the first number
+-- one piece: one number, or two at the joiner, each a bit plus the first number
 unfoldable pub printed : Style → Range → List ℕ
 printed y r =
     let pair = decimal (r .low + y .first) ++ y .joiner ∷ decimal (r .high + y .first) in

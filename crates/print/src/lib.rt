@@ -1,5 +1,5 @@
-// A bitmap printed as list text in a style: its runs upward, as `0-3, 5-7, 11`. A run is one piece, or one for each number. The call measures first and
-// writes only what fits.
+// A bitmap printed as list text in a style: its runs upward, in the plain style as `0-3, 5-7, 11`. A run is one piece, or one for each number. The call
+// measures first and writes only what fits.
 use storage::Amount;
 use storage::Bitmap;
 use storage::Found;
@@ -18,7 +18,7 @@ ghost use Rattle.storage.specs.Guards.{Passed};
 ghost use Rattle.text.specs.Lists.{listLimit, range};
 ghost use Rattle.style.specs.Promises.{Allowed};
 ghost use Rattle.print.specs.Texts.{decimal, cut, printed, textOf, Prints};
-ghost use Rattle.print.specs.Kernels.{NextRun, Printable, rangeOf, separator, after, putAt, Puts};
+ghost use Rattle.print.specs.Kernels.{NextRun, Printable, rangeOf, separator, piecesAt, putAt, Puts};
 
 const SPACE: u8 = 32;
 
@@ -111,7 +111,7 @@ fn is_range(run: Run, style: Style) -> bool
 // The place after a run that begins at a place, with what stands before it.
 fn run_end(at: usize, run: Run, style: Style) -> usize
     requires { ⌜ Allowed style × Printable run × (at ≤ 23 * run .low) ⌝ }
-    ensures { λ r. ⌜ r ≡ at + length (after style at (cut (style .shortest) (rangeOf run))) ⌝ }
+    ensures { λ r. ⌜ r ≡ at + length (piecesAt style at (cut (style .shortest) (rangeOf run))) ⌝ }
 {
     if is_range(run, style) {
         return at + gap_len(at, style.blank) + piece_len(run.low, run.end - 1, style);
@@ -192,8 +192,8 @@ fn put_piece(out: &mut [u8], at: usize, a: usize, b: usize, style: Style) -> usi
 
 // Puts a run, after what stands before it; the place after it.
 fn put_run(out: &mut [u8], at: usize, run: Run, style: Style) -> usize
-    requires { ⌜ Allowed style × Printable run × (at + length (after style at (cut (style .shortest) (rangeOf run))) ≤ length (now out)) ⌝ }
-    ensures { λ r. ⌜ Puts at (after style at (cut (style .shortest) (rangeOf run))) r (now (out .entry)) (now (out .exit)) ⌝ }
+    requires { ⌜ Allowed style × Printable run × (at + length (piecesAt style at (cut (style .shortest) (rangeOf run))) ≤ length (now out)) ⌝ }
+    ensures { λ r. ⌜ Puts at (piecesAt style at (cut (style .shortest) (rangeOf run))) r (now (out .entry)) (now (out .exit)) ⌝ }
 {
     if is_range(run, style) {
         return put_piece(out, at, run.low, run.end - 1, style);
@@ -221,7 +221,7 @@ fn print(words: &[u64], b: Bitmap, out: &mut [u8], style: Style)
 }
 
 // Prints the bitmap as a list in a style; the text's length. 15 if the style is not allowed, then 6 if the buffer is shorter, before a byte is written;
-// bytes past the text are untouched.
+// bytes past the text are untouched. From 1, with `:` and shortest run 3, {0, 1, 2, 4, 5} is `1:3, 5, 6`.
 pub fn write_list(words: &[u64], b: Bitmap, out: &mut [u8], style: Style) -> Amount
     ensures { λ r. ⌜ Prints style (now (words .entry)) b (now (out .entry)) r (now (out .exit)) ⌝ }
 {

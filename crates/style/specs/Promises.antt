@@ -19,7 +19,7 @@ pub record Allowed (y : Style) : Type 0 where
   pub shortest : (2 ≤ y .shortest) × (y .shortest ≤ 9)
 
 -- `No` holds where the style is not allowed, `Rest` where it is
-pub record Styled (y : Style) (No : Type 0) (Rest : Type 0) : Type 0 where
+pub record GuardedStyle (y : Style) (No : Type 0) (Rest : Type 0) : Type 0 where
   pub stop : (Allowed y → ⊥) → No
   pub rest : Allowed y → Rest
 

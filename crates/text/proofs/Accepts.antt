@@ -12,8 +12,9 @@ use Rattle.style.specs.Promises.{Allowed}
 use Rattle.style.specs.declared.Style.{Style}
 use Rattle.text.specs.Lists.{comma, listLimit, blank, digit, Range, zeroDigit}
 use Rattle.text.specs.Grammar as g
-use Rattle.text.specs.Readings.{kind, tooLarge, bitOf, NumberSoFar, Unread, Open, Closed, Part, part, fresh, value, unread, empty, ranged, token, byJoiner, byKind, TextSoFar, reading, tokenEnds, after, next, reads}
-use Rattle.text.specs.Readings.{ranges, textEnds, parsed, parse}
+use Rattle.text.specs.Readings.{tooLarge, bitOf}
+use Rattle.text.specs.Readings.{kind, NumberSoFar, Unread, Open, Closed, Part, part, fresh, value, unread, empty, ranged, token, byJoiner, byKind, TextSoFar, reading, tokenEnds, after, next, reads}
+use Rattle.text.specs.Readings.{notList, ranges, textEnds, parsed, parse}
 use Rattle.text.specs.declared.Kind.{Kind}
 use Rattle.text.specs.declared.Value.{Value}
 use Rattle.text.specs.declared.Value.the-variants.{Of, Missing}
@@ -187,7 +188,8 @@ module _ (st : Style) (ok : Allowed st) where
   joiner-read : (rs : List Range) (n : NumberSoFar) {a : ℕ} → value (st .first) n ≡ Of a → next st (reading rs (part Missing n)) (st .joiner) ≡ reading rs (part (Of a) Unread)
   unfolding byKind
   joiner-read rs n e =
-      next-at rs (part Missing n) (st .joiner) (kind-joiner (st .joiner) (st .joiner) (apart .digit) (apart .blank) refl) ∙ ap (λ (x : Value). after (st .first) rs (part Missing n) (byJoiner Missing x)) e
+      next-at rs (part Missing n) (st .joiner) (kind-joiner (st .joiner) (st .joiner) (apart .digit) (apart .blank) refl)
+      ∙ ap (λ (x : Value). after (st .first) rs (part Missing n) (byJoiner Missing x)) e
 
   comma-read : (rs : List Range) (p : Part) → next st (reading rs p) comma ≡ tokenEnds rs (token (st .first) p)
   unfolding byKind
@@ -234,3 +236,8 @@ module _ (st : Style) (ok : Allowed st) where
   pub complete : {t : List ℕ} {rs : List Range} → g.Listed st t rs → parse st t ≡ ranges rs
   unfolding parse
   complete x = list-read [] x
+
+  -- digits that are no number of the style
+  pub no-number : {d : List ℕ} {v : ℕ} → g.Digits d v → bitOf (st .first) (min tooLarge v) ≡ Missing → parse st d ≡ notList
+  unfolding parse parsed token empty value
+  no-number x e = ap (parsed (st .first)) (digits-read [] Missing x) ∙ ap (λ (z : Value). textEnds [] (ranged Missing z)) e

@@ -13,7 +13,8 @@ use Rattle.style.specs.Promises.{Allowed}
 use Rattle.style.specs.declared.Style.{Style}
 use Rattle.text.specs.Lists.{comma, zeroDigit, Range, range}
 use Rattle.text.specs.Grammar as g
-use Rattle.text.specs.Readings.{kind, tooLarge, grown, bitOf, NumberSoFar, Unread, Open, Closed, Part, part, fresh, value, unread, empty, ranged, token, Step, Go, Ends, Stop, byDigit, byBlank, byJoiner, byKind}
+use Rattle.text.specs.Readings.{tooLarge, bitOf}
+use Rattle.text.specs.Readings.{kind, grown, NumberSoFar, Unread, Open, Closed, Part, part, fresh, value, unread, empty, ranged, token, Step, Go, Ends, Stop, byDigit, byBlank, byJoiner, byKind}
 use Rattle.text.specs.Readings.{TextSoFar, bad, reading, tokenEnds, after, reads, notList, ranges, textEnds, parsed, parse}
 use Rattle.text.specs.declared.Kind.{Kind}
 use Rattle.text.specs.declared.Value.{Value}
@@ -240,7 +241,8 @@ module _ (st : Style) (ok : Allowed st) where
   bad-none t qs e = no-ranges (sym (ap (parsed (st .first)) (reads-bad st t)) ∙ e)
 
   -- the text's end
-  end-correct : (f y : List ℕ) (rs : List Range) (l : Value) (n : NumberSoFar) (k : Token) → Front f rs → Part-of l n y → token (st .first) (part l n) ≡ k → (qs : List Range) → textEnds rs k ≡ ranges qs
+  end-correct : (f y : List ℕ) (rs : List Range) (l : Value) (n : NumberSoFar) (k : Token) → Front f rs → Part-of l n y → token (st .first) (part l n) ≡ k
+      → (qs : List Range) → textEnds rs k ≡ ranges qs
       → g.Listed st (f ++ y) qs
   end-correct f y rs l n (Ranging a b) x p e qs h =
       subst (g.Listed st (f ++ y)) (same-ranges h) (x .on y (range a b ∷ []) (g.last (token-correct l n y p a b e)))
@@ -257,7 +259,8 @@ module _ (st : Style) (ok : Allowed st) where
   comma-correct f y t rs l n Empty x p e qs ih h = absurd (bad-none t qs h)
   comma-correct f y t rs l n NoRange x p e qs ih h = absurd (bad-none t qs h)
 
-  list-correct : (t f y : List ℕ) (rs : List Range) (l : Value) (n : NumberSoFar) → Front f rs → Part-of l n y → (qs : List Range) → parsed (st .first) (reads st (reading rs (part l n)) t) ≡ ranges qs
+  list-correct : (t f y : List ℕ) (rs : List Range) (l : Value) (n : NumberSoFar) → Front f rs → Part-of l n y
+      → (qs : List Range) → parsed (st .first) (reads st (reading rs (part l n)) t) ≡ ranges qs
       → g.Listed st (f ++ y ++ t) qs
   unfolding reads parsed
   list-correct [] f y rs l n x p qs e = subst (λ (z : List ℕ). g.Listed st z qs) (sym (append-nil (f ++ y))) (end-correct f y rs l n (token (st .first) (part l n)) x p refl qs e)

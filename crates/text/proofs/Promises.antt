@@ -2,8 +2,8 @@
 use mathlib.Core.Path.{_≡_, refl, sym, ap, _∙_, subst}
 use mathlib.Core.Logic.{inl, inr}
 use mathlib.Core.Bool.{Bool, true, false, _&&_, _||_, false≢true}
-use mathlib.Core.List.{List, [], _∷_}
-use Prim.Native.Nat.{ℕ, zero, suc, _≤_, max}
+use mathlib.Core.List.{List, [], _∷_, append-nil}
+use Prim.Native.Nat.{ℕ, zero, suc, _+_, _≤_, min, max}
 use native.Mathlib.Omega.{arith}
 use lib.Dec.{ltb, leb}
 use lib.ListN.{length}
@@ -20,9 +20,10 @@ use Rattle.style.specs.declared.Style.{Style}
 use Rattle.style.proofs.Promises.{styles-mean}
 use Rattle.text.specs.Lists.{plain, Range, covers, highest}
 use Rattle.text.specs.Grammar as g
-use Rattle.text.specs.Readings.{Parsed, notList, ranges, parse, union, readingList}
-use Rattle.text.specs.Promises.{ReadsGrammar, Within, Union, High, ListRead, ListRefused, ReadsList, RefusesStyle}
-use Rattle.text.proofs.Accepts.{complete}
+use Rattle.text.specs.Readings.{Parsed, tooLarge, notList, ranges, parse, union, readingList}
+use Rattle.text.specs.Promises.{ReadsGrammar, ReadsNumbers, Within, Union, High, ListRead, ListRefused, ReadsList, RefusesStyle}
+use Rattle.text.proofs.Steps.{bit-below, bit-over}
+use Rattle.text.proofs.Accepts.{complete, no-number}
 use Rattle.text.proofs.Grammar.{correct, reads-exactly}
 use Rattle.text.proofs.Marks.{betweenMarks, between-in}
 use Rattle.text.proofs.Taken.{list-no-style, list-not-plain, list-is}
@@ -41,6 +42,19 @@ reads-grammar = record {
     go : (y : Style) → Allowed y → (t : List ℕ) → ((rs : List Range) → g.Listed y t rs → ⊥) → (p : Parsed) → parse y t ≡ p → parse y t ≡ notList
     go y ok t f notList e = e
     go y ok t f (ranges rs) e = absurd (f rs (correct y ok t rs e))
+
+-- ---- a number by itself
+
+-- a number without blanks
+bare : {y : Style} {d : List ℕ} {a : ℕ} → g.Digits d (a + y .first) → a ≤ 4_294_967_295 → g.Numeral y d a
+bare {y} {d} {a} x h = subst (λ (t : List ℕ). g.Numeral y t a) (append-nil d) (g.number {u = []} {w = []} g.nil x g.nil h)
+
+pub reads-numbers : ReadsNumbers
+reads-numbers = record {
+  bit = λ y ok x h. complete y ok (g.last (g.single (bare x h)));
+  below = λ y ok {d} {v} x l. no-number y ok x (bit-below (y .first) (min tooLarge v) (omega (arith, l)));
+  above = λ y ok {d} {v} x l. no-number y ok x (bit-over (y .first) (min tooLarge v) (omega (arith, l)) (omega (arith, l, ok .first)));
+}
 
 -- ---- the ranges as a set
 

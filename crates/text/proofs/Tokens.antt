@@ -47,7 +47,8 @@ pub inside-start : (st : Style) (t : List ℕ) (a : ℕ) → a ≤ length t → 
 inside-start st t a h = record { from = omega arith; within = h; same = λ rs. refl }
 
 -- one byte
-module _ (st : Style) (t : List ℕ) (a i : ℕ) (p : Part) (k : Kind) (r : Step) (x : Inside st t a i p) (h : i < length t) (ek : k ≡ kind (st .joiner) (getD t i 0)) (er : r ≡ byKind (st .first) p k) where
+module _ (st : Style) (t : List ℕ) (a i : ℕ) (p : Part) (k : Kind) (r : Step) (x : Inside st t a i p) (h : i < length t)
+    (ek : k ≡ kind (st .joiner) (getD t i 0)) (er : r ≡ byKind (st .first) p k) where
   at-byte : {s : Step} → r ≡ s → byKind (st .first) p (kind (st .joiner) (getD t i 0)) ≡ s
   at-byte e = sym (er ∙ ap (byKind (st .first) p) ek) ∙ e
 
@@ -67,7 +68,8 @@ module _ (st : Style) (t : List ℕ) (a i : ℕ) (p : Part) (k : Kind) (r : Step
 -- how the token's walk ended: at the text's end, or past a comma
 pub data Ended (st : Style) (t : List ℕ) (a : ℕ) (p : Part) : ℕ → Bool → Type 0 where
   atEnd : {i : ℕ} {m : Bool} → m ≡ false → ((rs : List Range) → reads st (reading rs fresh) (drop a t) ≡ reading rs p) → Ended st t a p i m
-  atComma : {i : ℕ} {m : Bool} → m ≡ true → a < i → i ≤ length t → ((rs : List Range) → reads st (reading rs fresh) (drop a t) ≡ reads st (tokenEnds rs (token (st .first) p)) (drop i t)) → Ended st t a p i m
+  atComma : {i : ℕ} {m : Bool} → m ≡ true → a < i → i ≤ length t
+      → ((rs : List Range) → reads st (reading rs fresh) (drop a t) ≡ reads st (tokenEnds rs (token (st .first) p)) (drop i t)) → Ended st t a p i m
 
 pub ended-left : (st : Style) (t : List ℕ) (a i : ℕ) (p : Part) (m : Bool) → Inside st t a i p → length t ≤ i → m ≡ false → (j : ℕ) → Ended st t a p j m
 unfolding reads

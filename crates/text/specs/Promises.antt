@@ -1,5 +1,5 @@
 -- What reading list text promises, in words of its own. Each is proved in proofs/Promises, `ReadsListExact` in proofs/Once, `PlainReads` in proofs/Plain.
-use Prim.Native.Nat.{ℕ, _/_, _≤_, _<_}
+use Prim.Native.Nat.{ℕ, _+_, _/_, _≤_, _<_}
 use mathlib.Core.Path.{_≡_}
 use mathlib.Core.Bool.{true}
 use mathlib.Core.List.{List, [], _∷_}
@@ -15,7 +15,7 @@ use Rattle.style.specs.Styles.{plainStyle}
 use Rattle.style.specs.Promises.{Allowed}
 use Rattle.style.specs.declared.Style.{Style}
 use Rattle.text.specs.Lists.{Range}
-use Rattle.text.specs.Grammar.{Listed}
+use Rattle.text.specs.Grammar.{Digits, Listed}
 use Rattle.text.specs.Plain as base
 use Rattle.text.specs.Readings.{notList, ranges, parse, readingList}
 
@@ -23,6 +23,12 @@ use Rattle.text.specs.Readings.{notList, ranges, parse, readingList}
 pub record ReadsGrammar : Type 0 where
   pub accepted : (y : Style) → Allowed y → (t : List ℕ) (rs : List Range) → Listed y t rs ↔ (parse y t ≡ ranges rs)
   pub refused : (y : Style) → Allowed y → (t : List ℕ) → ((rs : List Range) → Listed y t rs → ⊥) ↔ (parse y t ≡ notList)
+
+-- digits by themselves: the bit is the number less the first one; a number below the first is none, and the limit rises by as much
+pub record ReadsNumbers : Type 0 where
+  pub bit : (y : Style) → Allowed y → {d : List ℕ} {a : ℕ} → Digits d (a + y .first) → a ≤ 4_294_967_295 → parse y d ≡ ranges (record { low = a; high = a } ∷ [])
+  pub below : (y : Style) → Allowed y → {d : List ℕ} {v : ℕ} → Digits d v → v < y .first → parse y d ≡ notList
+  pub above : (y : Style) → Allowed y → {d : List ℕ} {v : ℕ} → Digits d v → 4_294_967_295 + y .first < v → parse y d ≡ notList
 
 -- i lies in one of the ranges
 abbrev pub Within : List Range → ℕ → Type 0

@@ -1,4 +1,4 @@
-// List text read, as `0-3, 5-7, 11`: a token is followed byte by byte. The call measures first and writes only what fits.
+// List text read, in the plain style as `0-3, 5-7, 11`: a token is followed byte by byte. The call measures first and writes only what fits.
 mod bytes;
 
 use storage::Bitmap;
@@ -265,7 +265,7 @@ fn walk(words: &mut [u64], text: &[u8], style: Style) -> Measured
 }
 
 // The bitmap becomes the set that the text lists in a style, in the words up to its largest number's. 15, then 8, then 7, then 6, each before a word
-// is written. Of the style the reader looks at the first number and the joiner.
+// is written. Of the style the reader looks at the first number and the joiner: from 1, with `:`, `1:3, 5` is {0, 1, 2, 4}.
 pub fn from_list(words: &mut [u64], b: Bitmap, text: &[u8], style: Style) -> Change
     ensures { λ r. ⌜ Changes (readingList style (now (text .entry))) (now (words .entry)) b r (now (words .exit)) ⌝ }
 {

@@ -43,7 +43,13 @@ add-result-2 c =
     )
 
 returns-2 : tie.Need-returns-2
-returns-2 c = omega (arith, c .before .before .digits2 .ensures, c .digits3 .ensures, two-length (c .before .before .before .before .before .args .style) _ _ (c .before .before .before .before .if1 .left))
+returns-2 c =
+    omega (
+      arith,
+      c .before .before .digits2 .ensures,
+      c .digits3 .ensures,
+      two-length (c .before .before .before .before .before .args .style) _ _ (c .before .before .before .before .if1 .left),
+    )
 
 pub piece-len-spec : {M : Type 1} → statement M
 piece-len-spec =

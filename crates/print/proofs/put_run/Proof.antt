@@ -32,14 +32,20 @@ put-piece-requires c κs = (
   c .before .before .before .before .before .pre .0,
   omega (arith, c .before .before .before .before .before .pre .1 .some, c .before .before .before .before .before .pre .1 .limit),
   omega (arith, c .before .before .before .before .before .pre .1 .limit),
-  whole-room _ _ _ _ (c .before .before .before .before .before .pre .1 .some) (c .before .before .before .before .before .args .out .now) (c .before .before .before .before .before .pre .2) (long (c .before .before)),
+  whole-room _ _ _ _ (c .before .before .before .before .before .pre .1 .some) (c .before .before .before .before .before .args .out .now)
+      (c .before .before .before .before .before .pre .2) (long (c .before .before)),
 )
 
 same-length : tie.Need-same-length Inv-loop μ-loop
-same-length c = puts-long _ _ _ _ _ (c .before .before .before .before .before .before .before .before .pre .2) (whole-puts _ _ _ _ (c .before .before .before .before .before .before .before .before .pre .1 .some) _ (c .before .before .before .before .before .before .before .before .pre .2) (long (c .before .before .before .before .before)) _ _ (c .before .before .put-piece .ensures))
+same-length c =
+    puts-long _ _ _ _ _ (c .before .before .before .before .before .before .before .before .pre .2)
+    (whole-puts _ _ _ _ (c .before .before .before .before .before .before .before .before .pre .1 .some) _ (c .before .before .before .before .before .before .before .before .pre .2)
+    (long (c .before .before .before .before .before)) _ _ (c .before .before .put-piece .ensures))
 
 returns : tie.Need-returns Inv-loop μ-loop
-returns c = whole-puts _ _ _ _ (c .before .before .before .before .before .before .before .before .pre .1 .some) _ (c .before .before .before .before .before .before .before .before .pre .2) (long (c .before .before .before .before .before)) _ _ (c .before .before .put-piece .ensures)
+returns c =
+    whole-puts _ _ _ _ (c .before .before .before .before .before .before .before .before .pre .1 .some) _
+    (c .before .before .before .before .before .before .before .before .pre .2) (long (c .before .before .before .before .before)) _ _ (c .before .before .put-piece .ensures)
 
 loop-holds : tie.Need-loop-holds Inv-loop μ-loop
 loop-holds c = putting-first _ _ _ _ (c .before .before .before .pre .1 .some) _ (c .before .before .before .pre .2)
@@ -49,7 +55,8 @@ put-piece-requires-2 c κs = (
   c .before .before .before .before .before .before .before .pre .0,
   omega (arith, c .before .before .before .before .before .before .before .pre .1 .limit, c .before .if2 .taken),
   omega (arith, c .before .before .before .before .before .before .before .pre .1 .limit, c .before .if2 .taken),
-  number-room _ _ _ _ (c .before .before .before .before .before .before .before .pre .1 .some) _ (c .before .before .before .before .before .before .before .pre .2) (few (c .before .before .before .before)) _ _ _ (c .before .before .before .loop .inv) (c .before .if2 .taken),
+  number-room _ _ _ _ (c .before .before .before .before .before .before .before .pre .1 .some) _ (c .before .before .before .before .before .before .before .pre .2)
+      (few (c .before .before .before .before)) _ _ _ (c .before .before .before .loop .inv) (c .before .if2 .taken),
 )
 
 add-x : tie.Need-add-x Inv-loop μ-loop
@@ -59,13 +66,20 @@ loop-less : tie.Need-loop-less Inv-loop μ-loop
 loop-less c = omega (arith, c .before .before .before .before .if2 .taken)
 
 loop-again : tie.Need-loop-again Inv-loop μ-loop
-loop-again c = putting-number _ _ _ _ (c .before .before .before .before .before .before .before .before .before .before .pre .1 .some) _ (c .before .before .before .before .before .before .before .before .before .before .pre .2) (few (c .before .before .before .before .before .before .before)) _ _ _ (c .before .before .before .before .before .before .loop .inv) (c .before .before .before .before .if2 .taken) _ _ (c .before .before .put-piece2 .ensures)
+loop-again c =
+    putting-number _ _ _ _ (c .before .before .before .before .before .before .before .before .before .before .pre .1 .some) _
+    (c .before .before .before .before .before .before .before .before .before .before .pre .2) (few (c .before .before .before .before .before .before .before)) _ _ _
+    (c .before .before .before .before .before .before .loop .inv) (c .before .before .before .before .if2 .taken) _ _ (c .before .before .put-piece2 .ensures)
 
 same-length-2 : tie.Need-same-length-2 Inv-loop μ-loop
-same-length-2 c = putting-size _ _ _ _ (c .before .before .before .before .before .before .pre .1 .some) _ (c .before .before .before .before .before .before .pre .2) (few (c .before .before .before)) _ _ _ (c .before .before .loop .inv)
+same-length-2 c =
+    putting-size _ _ _ _ (c .before .before .before .before .before .before .pre .1 .some) _ (c .before .before .before .before .before .before .pre .2)
+    (few (c .before .before .before)) _ _ _ (c .before .before .loop .inv)
 
 returns-2 : tie.Need-returns-2 Inv-loop μ-loop
-returns-2 c = putting-done _ _ _ _ (c .before .before .before .before .before .before .pre .1 .some) _ (c .before .before .before .before .before .before .pre .2) (few (c .before .before .before)) _ _ _ (c .before .before .loop .inv) (c .if2 .left)
+returns-2 c =
+    putting-done _ _ _ _ (c .before .before .before .before .before .before .pre .1 .some) _ (c .before .before .before .before .before .before .pre .2)
+    (few (c .before .before .before)) _ _ _ (c .before .before .loop .inv) (c .if2 .left)
 
 pub put-run-spec : {M : Type 1} → statement M
 put-run-spec =

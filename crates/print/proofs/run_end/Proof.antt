@@ -27,13 +27,25 @@ gap-len-requires : tie.Need-gap-len-requires Inv-loop μ-loop
 gap-len-requires c κs = tt
 
 add-result : tie.Need-add-result Inv-loop μ-loop
-add-result c = omega (arith, c .before .before .before .pre .1 .some, c .before .before .before .pre .1 .limit, c .before .before .before .pre .2, whole-short _ (c .before .before .before .pre .0) (c .before .before .before .args .at) _ _ (c .before .before .before .pre .1 .some) (c .before .before .before .pre .1 .limit) (long (c .before)) _ _ (c .gap-len .ensures) refl)
+add-result c =
+    omega (
+      arith,
+      c .before .before .before .pre .1 .some,
+      c .before .before .before .pre .1 .limit,
+      c .before .before .before .pre .2,
+      whole-short _ (c .before .before .before .pre .0) (c .before .before .before .args .at) _ _ (c .before .before .before .pre .1 .some)
+          (c .before .before .before .pre .1 .limit) (long (c .before)) _ _ (c .gap-len .ensures) refl,
+    )
 
 sub-piece-len : tie.Need-sub-piece-len Inv-loop μ-loop
 sub-piece-len c = omega (arith, c .before .before .before .before .pre .1 .some)
 
 piece-len-requires : tie.Need-piece-len-requires Inv-loop μ-loop
-piece-len-requires c κs = (c .before .before .before .before .pre .0, omega (arith, c .before .before .before .before .pre .1 .some, c .before .before .before .before .pre .1 .limit), omega (arith, c .before .before .before .before .pre .1 .limit))
+piece-len-requires c κs = (
+  c .before .before .before .before .pre .0,
+  omega (arith, c .before .before .before .before .pre .1 .some, c .before .before .before .before .pre .1 .limit),
+  omega (arith, c .before .before .before .before .pre .1 .limit),
+)
 
 add-result-2 : tie.Need-add-result-2 Inv-loop μ-loop
 add-result-2 c =
@@ -42,13 +54,15 @@ add-result-2 c =
       c .before .before .before .before .before .pre .1 .some,
       c .before .before .before .before .before .pre .1 .limit,
       c .before .before .before .before .before .pre .2,
-      whole-short _ (c .before .before .before .before .before .pre .0) (c .before .before .before .before .before .args .at) _ _ (c .before .before .before .before .before .pre .1 .some) (c .before .before .before .before .before .pre .1 .limit) (long (c .before .before .before)) _ _
+      whole-short _ (c .before .before .before .before .before .pre .0) (c .before .before .before .before .before .args .at) _ _
+          (c .before .before .before .before .before .pre .1 .some) (c .before .before .before .before .before .pre .1 .limit) (long (c .before .before .before)) _ _
           (c .before .before .gap-len .ensures) (c .piece-len .ensures),
     )
 
 returns : tie.Need-returns Inv-loop μ-loop
 returns c =
-    whole-place _ (c .before .before .before .before .before .pre .0) _ _ _ (c .before .before .before .before .before .pre .1 .some) (c .before .before .before .before .before .pre .1 .limit) (long (c .before .before .before)) _ _ (c .before .before .gap-len .ensures) (c .piece-len .ensures)
+    whole-place _ (c .before .before .before .before .before .pre .0) _ _ _ (c .before .before .before .before .before .pre .1 .some)
+    (c .before .before .before .before .before .pre .1 .limit) (long (c .before .before .before)) _ _ (c .before .before .gap-len .ensures) (c .piece-len .ensures)
 
 loop-holds : tie.Need-loop-holds Inv-loop μ-loop
 loop-holds c = counting-start _ (c .before .before .pre .0) _ _ _ (c .before .before .pre .1 .some) (c .before .before .pre .1 .limit) (c .before .before .pre .2)
@@ -63,7 +77,9 @@ add-p c =
       c .before .before .before .before .before .before .pre .1 .limit,
       c .before .if2 .taken,
       c .before .before .before .loop .inv .short,
-      counting-short _ (c .before .before .before .before .before .before .pre .0) (c .before .before .before .before .before .before .args .at) _ _ (c .before .before .before .before .before .before .pre .1 .some) (c .before .before .before .before .before .before .pre .1 .limit) _ _ (c .before .before .before .loop .inv) (c .before .if2 .taken) _ _
+      counting-short _ (c .before .before .before .before .before .before .pre .0) (c .before .before .before .before .before .before .args .at) _ _
+          (c .before .before .before .before .before .before .pre .1 .some) (c .before .before .before .before .before .before .pre .1 .limit) _ _
+          (c .before .before .before .loop .inv) (c .before .if2 .taken) _ _
           (c .gap-len2 .ensures) refl,
     )
 
@@ -81,7 +97,9 @@ add-p-2 c =
       c .before .before .before .before .before .before .before .pre .1 .limit,
       c .before .before .if2 .taken,
       c .before .before .before .before .loop .inv .short,
-      counting-short _ (c .before .before .before .before .before .before .before .pre .0) (c .before .before .before .before .before .before .before .args .at) _ _ (c .before .before .before .before .before .before .before .pre .1 .some) (c .before .before .before .before .before .before .before .pre .1 .limit) _ _ (c .before .before .before .before .loop .inv) (c .before .before .if2 .taken) _ _
+      counting-short _ (c .before .before .before .before .before .before .before .pre .0) (c .before .before .before .before .before .before .before .args .at) _ _
+          (c .before .before .before .before .before .before .before .pre .1 .some) (c .before .before .before .before .before .before .before .pre .1 .limit) _ _
+          (c .before .before .before .before .loop .inv) (c .before .before .if2 .taken) _ _
           (c .before .gap-len2 .ensures) (c .piece-len2 .ensures),
     )
 
@@ -93,12 +111,14 @@ loop-less c = omega (arith, c .before .before .if2 .taken)
 
 loop-again : tie.Need-loop-again Inv-loop μ-loop
 loop-again c =
-    counting-more _ (c .before .before .before .before .before .before .before .pre .0) _ _ _ (c .before .before .before .before .before .before .before .pre .1 .some) (c .before .before .before .before .before .before .before .pre .1 .limit) _ _ (c .before .before .before .before .loop .inv) (c .before .before .if2 .taken) _ _
+    counting-more _ (c .before .before .before .before .before .before .before .pre .0) _ _ _ (c .before .before .before .before .before .before .before .pre .1 .some)
+    (c .before .before .before .before .before .before .before .pre .1 .limit) _ _ (c .before .before .before .before .loop .inv) (c .before .before .if2 .taken) _ _
     (c .before .gap-len2 .ensures) (c .piece-len2 .ensures)
 
 returns-2 : tie.Need-returns-2 Inv-loop μ-loop
 returns-2 c =
-    counting-end _ (c .before .before .before .before .before .pre .0) _ _ _ (c .before .before .before .before .before .pre .1 .some) (c .before .before .before .before .before .pre .1 .limit) _ _ (c .before .before .loop .inv) (few (c .before .before .before)) (c .if2 .left)
+    counting-end _ (c .before .before .before .before .before .pre .0) _ _ _ (c .before .before .before .before .before .pre .1 .some)
+    (c .before .before .before .before .before .pre .1 .limit) _ _ (c .before .before .loop .inv) (few (c .before .before .before)) (c .if2 .left)
 
 pub run-end-spec : {M : Type 1} → statement M
 run-end-spec =

@@ -24,22 +24,40 @@ loop-holds c = going-start _ _ (bounded-view _ _) _ _ (c .next-run .ensures)
 run-end-requires : tie.Need-run-end-requires Inv-loop μ-loop
 run-end-requires c κs = (
   c .before .before .before .before .before .pre .0,
-  printable _ (c .before .before .before .before .before .pre .0) _ _ (view-out _ _) (omega (arith, c .before .before .before .before .before .pre .1)) _ _ (c .before .before .loop .inv) (c .if1 .taken),
-  run-short _ (c .before .before .before .before .before .pre .0) _ _ (view-out _ _) (omega (arith, c .before .before .before .before .before .pre .1)) _ _ (c .before .before .loop .inv) (c .if1 .taken),
+  printable _ (c .before .before .before .before .before .pre .0) _ _ (view-out _ _) (omega (arith, c .before .before .before .before .before .pre .1)) _ _
+      (c .before .before .loop .inv) (c .if1 .taken),
+  run-short _ (c .before .before .before .before .before .pre .0) _ _ (view-out _ _) (omega (arith, c .before .before .before .before .before .pre .1)) _ _
+      (c .before .before .loop .inv) (c .if1 .taken),
 )
 
 next-run-requires-2 : tie.Need-next-run-requires-2 Inv-loop μ-loop
-next-run-requires-2 c κs = (c .before .before .before .before .before .before .pre .1, end-within _ (c .before .before .before .before .before .before .pre .0) _ _ (view-out _ _) (omega (arith, c .before .before .before .before .before .before .pre .1)) _ _ (c .before .before .before .loop .inv) (c .before .if1 .taken))
+next-run-requires-2 c κs = (
+  c .before .before .before .before .before .before .pre .1,
+  end-within _ (c .before .before .before .before .before .before .pre .0) _ _ (view-out _ _) (omega (arith, c .before .before .before .before .before .before .pre .1)) _ _
+      (c .before .before .before .loop .inv) (c .before .if1 .taken),
+)
 
 loop-less : tie.Need-loop-less Inv-loop μ-loop
 loop-less c =
-    omega (arith, c .before .before .if1 .taken, end-within _ (c .before .before .before .before .before .before .before .pre .0) _ _ (view-out _ _) (omega (arith, c .before .before .before .before .before .before .before .pre .1)) _ _ (c .before .before .before .before .loop .inv) (c .before .before .if1 .taken), c .next-run2 .ensures .from)
+    omega (
+      arith,
+      c .before .before .if1 .taken,
+      end-within _ (c .before .before .before .before .before .before .before .pre .0) _ _ (view-out _ _)
+          (omega (arith, c .before .before .before .before .before .before .before .pre .1)) _ _ (c .before .before .before .before .loop .inv) (c .before .before .if1 .taken),
+      c .next-run2 .ensures .from,
+    )
 
 loop-again : tie.Need-loop-again Inv-loop μ-loop
-loop-again c = going-more _ (c .before .before .before .before .before .before .before .pre .0) _ _ (view-out _ _) (omega (arith, c .before .before .before .before .before .before .before .pre .1)) _ _ (c .before .before .before .before .loop .inv) (c .before .before .if1 .taken) _ _ (c .before .run-end .ensures) (c .next-run2 .ensures)
+loop-again c =
+    going-more _ (c .before .before .before .before .before .before .before .pre .0) _ _ (view-out _ _)
+    (omega (arith, c .before .before .before .before .before .before .before .pre .1)) _ _ (c .before .before .before .before .loop .inv) (c .before .before .if1 .taken) _ _
+    (c .before .run-end .ensures) (c .next-run2 .ensures)
 
 returns : tie.Need-returns Inv-loop μ-loop
-returns c = c .before .before .loop .inv .at-is ∙ sym (ap length (going-end _ (c .before .before .before .before .before .pre .0) _ _ (view-out _ _) (omega (arith, c .before .before .before .before .before .pre .1)) _ _ (c .before .before .loop .inv) (c .if1 .left)))
+returns c =
+    c .before .before .loop .inv .at-is
+    ∙ sym (ap length (going-end _ (c .before .before .before .before .before .pre .0) _ _ (view-out _ _) (omega (arith, c .before .before .before .before .before .pre .1)) _ _
+    (c .before .before .loop .inv) (c .if1 .left)))
 
 pub text-len-spec : {M : Type 1} → statement M
 text-len-spec =

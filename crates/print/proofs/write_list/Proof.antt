@@ -45,14 +45,19 @@ returns-3 : tie.Need-returns-3
 returns-3 c = prints-short _ _ _ _ (ok (c .before .before .before .before)) (styled (c .before .before)) _ (c .before .text-len .ensures) (c .if2 .taken)
 
 print-requires : tie.Need-print-requires
-print-requires c κs = (styles-mean _ .1 (styled (c .before .before .before)), ok (c .before .before .before .before .before), omega (arith, c .before .if2 .left, c .before .before .text-len .ensures))
+print-requires c κs = (
+  styles-mean _ .1 (styled (c .before .before .before)),
+  ok (c .before .before .before .before .before),
+  omega (arith, c .before .if2 .left, c .before .before .text-len .ensures),
+)
 
 same-length : tie.Need-same-length
 same-length c = search needs
 
 returns-4 : tie.Need-returns-4
 returns-4 c =
-    prints-done _ _ _ _ (ok (c .before .before .before .before .before .before .before .before)) (styled (c .before .before .before .before .before .before)) _ (c .before .before .before .before .before .text-len .ensures) _ (c .before .before .before .before .if2 .left) (c .before .before .print .ensures)
+    prints-done _ _ _ _ (ok (c .before .before .before .before .before .before .before .before)) (styled (c .before .before .before .before .before .before)) _
+    (c .before .before .before .before .before .text-len .ensures) _ (c .before .before .before .before .if2 .left) (c .before .before .print .ensures)
 
 pub write-list-spec : {M : Type 1} → statement M
 write-list-spec =

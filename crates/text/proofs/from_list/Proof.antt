@@ -79,7 +79,8 @@ same-length-4 c = search needs
 
 returns-4 : tie.Need-returns-4
 returns-4 c =
-    list-refused-7 _ _ _ _ (ok (c .before .before .before .before .before .before .before .before .before .before)) (styled (c .before .before .before .before .before .before .before .before)) (ascii (c .before .before .before .before .before .before)) _ _
+    list-refused-7 _ _ _ _ (ok (c .before .before .before .before .before .before .before .before .before .before))
+    (styled (c .before .before .before .before .before .before .before .before)) (ascii (c .before .before .before .before .before .before)) _ _
     (c .before .before .before .before .walk .ensures) (c .enum-told2 .given .1)
 
 add-count : tie.Need-add-count
@@ -91,7 +92,8 @@ same-length-5 c = search needs
 returns-5 : tie.Need-returns-5
 returns-5 c =
     list-refused-6 _ _ _ _ (ok (c .before .before .before .before .before .before .before .before .before .before .before .before))
-    (styled (c .before .before .before .before .before .before .before .before .before .before)) (ascii (c .before .before .before .before .before .before .before .before)) _ _ (c .before .before .before .before .before .before .walk .ensures) _
+    (styled (c .before .before .before .before .before .before .before .before .before .before)) (ascii (c .before .before .before .before .before .before .before .before)) _ _
+    (c .before .before .before .before .before .before .walk .ensures) _
     (c .before .before .m .given .1) (c .if3 .taken)
 
 max-requires : tie.Need-max-requires
@@ -115,7 +117,8 @@ same-length-6 c = search needs
 returns-6 : tie.Need-returns-6
 returns-6 c =
     list-done _ _ _ _ (ok (c .before .before .before .before .before .before .before .before .before .before .before .before .before .before .before .before .before .before .before .before .before))
-    (styled (c .before .before .before .before .before .before .before .before .before .before .before .before .before .before .before .before .before .before .before)) (ascii (c .before .before .before .before .before .before .before .before .before .before .before .before .before .before .before .before .before)) _ _
+    (styled (c .before .before .before .before .before .before .before .before .before .before .before .before .before .before .before .before .before .before .before))
+    (ascii (c .before .before .before .before .before .before .before .before .before .before .before .before .before .before .before .before .before)) _ _
     (c .before .before .before .before .before .before .before .before .before .before .before .before .before .before .before .walk .ensures) _
     (c .before .before .before .before .before .before .before .before .before .before .before .m .given .1)
     (c .before .before .before .before .before .before .before .before .before .if3 .left) _ (c .before .before .before .before .before .before .before .max .ensures) _

@@ -31,7 +31,8 @@ abbrev μ-tokens : tie.MeasureT-tokens
 -- how the inner loop was left
 ended-is :
     (c : tie.Left-digits Inv-digits μ-digits Inv-tokens μ-tokens) →
-    Ended (c .before .before .before .before .before .before .args .style) (c .before .before .before .before .before .before .args .text .now) (c .before .before .before .tokens .at) (partOf (c .before .digits .part)) (c .digits-test .at) (c .digits-test .more)
+    Ended (c .before .before .before .before .before .before .args .style) (c .before .before .before .before .before .before .args .text .now)
+    (c .before .before .before .tokens .at) (partOf (c .before .digits .part)) (c .digits-test .at) (c .digits-test .more)
 ended-is c =
     ⊎-elim
     (λ w. ended-left _ _ _ _ _ _ (c .before .digits .inv .0) (w .0 .left) (w .2 ∙ c .before .digits .inv .1) _)
