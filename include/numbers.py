@@ -56,7 +56,7 @@ RUST_HEAD = """// Written by include/numbers.py from numbers.txt.
 /// let mut store = [0u64; 2];
 /// let mut notes = Bitmap::empty(&mut store)?;
 /// assert_eq!(notes.set(128), Err(Error::NoSpace));
-/// assert_eq!(notes.from_list("5-3", Style::PLAIN).unwrap_err().why(), "the text is not a list");
+/// assert_eq!(notes.from_list("5-3", Style::PLAIN).unwrap_err().why(), "the text is not a list in its style");
 /// # Ok::<(), Error>(())
 /// ```
 #[derive(Debug, Clone, Copy, PartialEq, Eq, PartialOrd, Ord, Hash)]

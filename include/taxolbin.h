@@ -12,7 +12,7 @@
  * and indexes up to SIZE_MAX too.
  *
  * - A call that changes a bitmap takes its count by a pointer, and leaves the new count there. A refused call changes no word, no byte and no count;
- *   only taxolbin_read differs, as it says, and a count that is handed out alone (a dup form's, a tail's, a reading's) becomes 0.
+ *   only taxolbin_read differs, as it says, and a count that is handed out alone (a dup form's, a tail's, a sheet reading's) becomes 0.
  * - A call that answers a number hands it out through a pointer: 0 where the call is refused. A search hands out found, 1 or 0, and place, which is 0
  *   where nothing is found.
  * - A truth value comes in as a number: 0 is false, any other is true.
@@ -98,7 +98,7 @@ static inline const char *taxolbin_why(uint32_t number)
     case TAXOLBIN_NO_SPACE:
         return "the result needs more words or bytes than were lent, or the sheet already has 65,535 records";
     case TAXOLBIN_NOT_LIST:
-        return "the text is not a list";
+        return "the text is not a list in its style";
     case TAXOLBIN_NOT_ASCII:
         return "the text has a byte of 128 or more";
     case TAXOLBIN_NOT_SHEET:
@@ -114,7 +114,7 @@ static inline const char *taxolbin_why(uint32_t number)
     case TAXOLBIN_NO_EDITION:
         return "the edition is neither 1 nor 2";
     case TAXOLBIN_BAD_STYLE:
-        return "a style of list text is outside its limits";
+        return "a style of list text is outside its limits: a first number over 1,000, a joiner that is not printable or is a digit, a comma or a blank, or a shortest range that is not 2 to 9";
     default:
         return "not a number of this library";
     }
@@ -325,15 +325,19 @@ TAXOLBIN_MUST_USE uint32_t taxolbin_dup_xor(
  *
  * An empty bitmap prints no text (length 0), and a text of no bytes, or of blanks alone, is no list (7). A book that is kept as its list is loaded by
  * taxolbin_load_list, which takes that too. A list does not carry the count: what is read has the words up to its last member, and no more.
+ * Nor does it carry its style: read with another first number it gives other bits, mostly without a refusal.
  *
  * The last four arguments are the style, which says how a publisher writes a list:
  *
  * - first, 0 to 1,000: a number of the text is a bit plus first. A number below first is no list.
- * - joiner, the byte between the two numbers of a range: 33 to 126, but no comma (44) and no digit (48 to 57). It is never cut to a byte.
- * - blank, a truth value: whether a blank (byte 32) is printed after a comma. In reading, blanks may stand around numbers in every style.
+ * - joiner, the byte between the two numbers of a range: 33 to 126, but no comma (44) and no digit (48 to 57). A value
+ *   over 255 is refused too, and not cut to a byte.
+ * - blank, a truth value: whether a blank (byte 32) is printed after a comma. In reading, blanks (bytes 9 to 13 and 32)
+ *   may stand around numbers in every style.
  * - shortest, 2 to 9: a run of at least so many numbers is printed as a range, a shorter one number by number. In reading, any range may stand.
  *
- * Any other style is refused with 15, whatever the text, the bitmap or the buffer is. */
+ * Any other style is refused with 15, whatever the text, the bitmap or the buffer is. To look at a style alone: taxolbin_write_list of a count of 0
+ * into 0 bytes is 0 or 15. */
 
 /* The plain style, in which 0-3, 5-7, 11 is written, as the last four arguments of a call. */
 #define TAXOLBIN_PLAIN 0, '-', 1, 2
@@ -350,7 +354,7 @@ TAXOLBIN_MUST_USE uint32_t taxolbin_write_list(
     size_t shortest);
 
 /* As taxolbin_from_list, but a text of no bytes, or of blanks alone (bytes 9 to 13 and 32), is the empty bitmap: it takes whatever
- * taxolbin_write_list has printed in the same style, also with a line end behind it. [1, 2, 15, 8, 7, 6] */
+ * taxolbin_write_list has printed in the same style, given space, also with a line end behind it. [1, 2, 15, 8, 7, 6] */
 TAXOLBIN_MUST_USE static inline uint32_t taxolbin_load_list(
     uint64_t *words, size_t capacity, size_t *count, const uint8_t *list, size_t length, size_t first, size_t joiner, uint32_t blank,
     size_t shortest)

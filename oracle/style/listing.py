@@ -42,7 +42,7 @@ FIRSTS = (0, 1, 999, 1000)
 JOINERS = b"!-:A+/;~"
 EDGES = [(first, joiner, blank, shortest) for first in FIRSTS for joiner in JOINERS for blank in (0, 1) for shortest in (2, 3, 9)]
 
-# Styles that are not allowed, by one of the four alone; some are allowed ones once cut to 8, 16 or 32 bits.
+# Styles that are not allowed by the first number, the joiner or the shortest run alone; some are allowed ones once cut to 8, 16 or 32 bits.
 BAD = [(first, ord("-"), 1, 2) for first in (1001, 1 << 16, 1 << 32, ONES)]
 BAD += [(1, joiner, 0, 3) for joiner in (0, 9, 32, 44, 48, 57, 127, 128, 255, 256 + 45, (1 << 32) + 45, ONES)]
 BAD += [(1000, ord("~"), 1, shortest) for shortest in (0, 1, 10, 256 + 2, (1 << 32) + 2, ONES)]

@@ -712,7 +712,7 @@ impl Bitmap<'_> {
     }
 
     /// As [`from_list`](Bitmap::from_list), but a text of no bytes, or of blanks alone (bytes 9 to 13 and 32), is the empty bitmap: so it reads back
-    /// whatever [`BitSlice::write_list`] printed in the same style, also with a line end behind it.
+    /// whatever [`BitSlice::write_list`] printed in the same style, given space, also with a line end behind it.
     ///
     /// The text does not carry the word count, on which reversals and rotations depend: see [there](crate#equal-bitmaps-of-different-lengths).
     ///

@@ -26,7 +26,7 @@ impl Error {
     }
 }
 
-/// The sentence and the number: `the text is not a list (7)`.
+/// The sentence and the number: `the text is not a list in its style (7)`.
 impl fmt::Display for Error {
     fn fmt(&self, f: &mut fmt::Formatter<'_>) -> fmt::Result {
         write!(f, "{} ({})", self.why(), self.number())

@@ -10,7 +10,7 @@
 /// let mut store = [0u64; 2];
 /// let mut notes = Bitmap::empty(&mut store)?;
 /// assert_eq!(notes.set(128), Err(Error::NoSpace));
-/// assert_eq!(notes.from_list("5-3", Style::PLAIN).unwrap_err().why(), "the text is not a list");
+/// assert_eq!(notes.from_list("5-3", Style::PLAIN).unwrap_err().why(), "the text is not a list in its style");
 /// # Ok::<(), Error>(())
 /// ```
 #[derive(Debug, Clone, Copy, PartialEq, Eq, PartialOrd, Ord, Hash)]
@@ -34,7 +34,7 @@ pub enum Error {
     /// The result needs more words or bytes than were lent, or the sheet already has 65,535 records.
     /// Brought about by whoever lends the memory.
     NoSpace = 6,
-    /// The text is not a list.
+    /// The text is not a list in its style.
     /// Brought about by whoever typed the list.
     NotList = 7,
     /// The text has a byte of 128 or more.
@@ -58,7 +58,7 @@ pub enum Error {
     /// The edition is neither 1 nor 2.
     /// Brought about by the calling program.
     NoEdition = 14,
-    /// A style of list text is outside its limits.
+    /// A style of list text is outside its limits: a first number over 1,000, a joiner that is not printable or is a digit, a comma or a blank, or a shortest range that is not 2 to 9.
     /// Brought about by the calling program.
     BadStyle = 15,
 }
@@ -91,7 +91,7 @@ impl Error {
             Error::IndexOver => "the last index passes 2^64 - 1, or a resize in a sheet is over 4,294,967,296 bits",
             Error::PastLength => "a bit is past the bitmap's length",
             Error::NoSpace => "the result needs more words or bytes than were lent, or the sheet already has 65,535 records",
-            Error::NotList => "the text is not a list",
+            Error::NotList => "the text is not a list in its style",
             Error::NotAscii => "the text has a byte of 128 or more",
             Error::NotSheet => "the bytes are not a sheet: fewer than 4, or the first two are not N and S",
             Error::CutRecord => "a record runs past the end of the sheet",
@@ -99,7 +99,9 @@ impl Error {
             Error::BadPayload => "a record's payload is wrong for its kind (length, unused bits, width or resize), or a remark is over 65,535 bytes",
             Error::NewerKind => "a record's kind is newer than the edition, or there is no such kind",
             Error::NoEdition => "the edition is neither 1 nor 2",
-            Error::BadStyle => "a style of list text is outside its limits",
+            Error::BadStyle => {
+                "a style of list text is outside its limits: a first number over 1,000, a joiner that is not printable or is a digit, a comma or a blank, or a shortest range that is not 2 to 9"
+            }
         }
     }
 }

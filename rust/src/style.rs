@@ -3,8 +3,8 @@
 /// The style of list text: how a publisher writes page lists.
 ///
 /// A field may have any value. A call that is given a style outside the limits below is refused with [`Error::BadStyle`](crate::Error::BadStyle),
-/// whatever its text, its bitmap and its buffer are. Reading looks at `first` and `joiner` alone: blanks may stand around numbers and short runs may
-/// be ranges in every style.
+/// whatever its text, its bitmap and its buffer are. What an allowed style reads depends on `first` and `joiner` alone:
+/// blanks may stand around numbers and short runs may be ranges in every style.
 ///
 /// A publisher who numbers from 1, joins runs with a colon and writes none of fewer than 3 numbers as a range:
 ///
@@ -26,7 +26,8 @@
 pub struct Style {
     /// A number of the text is a bit plus this, 0 to 1,000.
     pub first: usize,
-    /// The byte between the two numbers of a range: 33 to 126, but no comma (44) and no digit (48 to 57). It is never cut to a byte.
+    /// The byte between the two numbers of a range: 33 to 126, but no comma (44) and no digit (48 to 57). A value over
+    /// 255 is refused too, and not cut to a byte before it is looked at.
     pub joiner: usize,
     /// Whether a blank is printed after a comma.
     pub blank: bool,

@@ -302,7 +302,7 @@ fn each_error_has_its_number_name_and_sentence() {
         assert_eq!(format!("{error:?}").to_uppercase(), row[1].replace('_', ""));
         assert_eq!(error.to_string(), format!("{} ({number})", row[3]));
     }
-    assert_eq!(Error::NotList.why(), "the text is not a list");
+    assert_eq!(Error::NotList.why(), "the text is not a list in its style");
     assert_eq!(Error::BadPayload.number(), 12);
 }
 

@@ -174,7 +174,7 @@ styled =
     -- from 1, a colon, shortest 3: {0, 1, 2, 4, 5} is `1:3, 5, 6`, in nine bytes and not in eight
     ∷ sample (write-list-in (style 1 58 true 3) (55 ∷ []) 9) (0 ∷ 9 ∷ 49 ∷ 58 ∷ 51 ∷ 44 ∷ 32 ∷ 53 ∷ 44 ∷ 32 ∷ 54 ∷ [])
     ∷ sample (write-list-in (style 1 58 true 3) (55 ∷ []) 8) (6 ∷ 0 ∷ zeros 8)
-    -- reading looks at first and joiner only: shortest 3 reads `4-5`, a style without a blank `1, 2`; a colon style gets `1-2`: 7
+    -- what is read depends on first and joiner only: shortest 3 reads `4-5`, a style without a blank `1, 2`; a colon style gets `1-2`: 7
     ∷ sample (from-list-in (style 0 45 true 3) (52 ∷ 45 ∷ 53 ∷ []) 2) (0 ∷ 1 ∷ 48 ∷ 0 ∷ [])
     ∷ sample (from-list-in (style 0 45 false 2) (49 ∷ 44 ∷ 32 ∷ 50 ∷ []) 2) (0 ∷ 1 ∷ 6 ∷ 0 ∷ [])
     ∷ sample (from-list-in (style 0 58 true 2) (49 ∷ 45 ∷ 50 ∷ []) 2) (7 ∷ 0 ∷ 0 ∷ 0 ∷ [])

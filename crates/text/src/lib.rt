@@ -265,7 +265,7 @@ fn walk(words: &mut [u64], text: &[u8], style: Style) -> Measured
 }
 
 // The bitmap becomes the set that the text lists in a style, in the words up to its largest number's. 15, then 8, then 7, then 6, each before a word
-// is written. Of the style the reader looks at the first number and the joiner: from 1, with `:`, `1:3, 5` is {0, 1, 2, 4}.
+// is written. What an allowed style reads depends on its first number and joiner: from 1, with `:`, `1:3, 5` is {0, 1, 2, 4}.
 pub fn from_list(words: &mut [u64], b: Bitmap, text: &[u8], style: Style) -> Change
     ensures { λ r. ⌜ Changes (readingList style (now (text .entry))) (now (words .entry)) b r (now (words .exit)) ⌝ }
 {
