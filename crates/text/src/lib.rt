@@ -88,11 +88,13 @@ fn kind_of(c: u8, joiner: usize) -> Kind
 fn grown(v: usize, d: u8) -> usize
     ensures { λ r. ⌜ r ≡ grown v d ⌝ }
 {
-    if v >= TOO_LARGE {
-        return TOO_LARGE;
+    if v < TOO_LARGE {
+        let x = v * 10 + d as usize;
+        if x < TOO_LARGE {
+            return x;
+        }
     }
-    let x = v * 10 + d as usize;
-    if x > TOO_LARGE { TOO_LARGE } else { x }
+    TOO_LARGE
 }
 
 // The bit of a number that ended, if it has digits, is not below the first number, and is within the limit.
