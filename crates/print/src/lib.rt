@@ -89,14 +89,11 @@ fn gap_len(at: usize, blank: bool) -> usize
     if blank { 2 } else { 1 }
 }
 
-// The length of a piece.
-fn piece_len(a: usize, b: usize, style: Style) -> usize
-    requires { ⌜ Allowed style × (a ≤ listLimit) × (b ≤ listLimit) ⌝ }
+// The length of a range of two numbers or more.
+fn pair_len(a: usize, b: usize, style: Style) -> usize
+    requires { ⌜ Allowed style × (a < b) × (b ≤ listLimit) ⌝ }
     ensures { λ r. ⌜ r ≡ length (printed style (range a b)) ⌝ }
 {
-    if a == b {
-        return digits(a + style.first);
-    }
     digits(a + style.first) + 1 + digits(b + style.first)
 }
 
@@ -114,12 +111,12 @@ fn run_end(at: usize, run: Run, style: Style) -> usize
     ensures { λ r. ⌜ r ≡ at + length (piecesAt style at (cut (style .shortest) (rangeOf run))) ⌝ }
 {
     if is_range(run, style) {
-        return at + gap_len(at, style.blank) + piece_len(run.low, run.end - 1, style);
+        return at + gap_len(at, style.blank) + pair_len(run.low, run.end - 1, style);
     }
     let mut p = at;
     let mut x = run.low;
     while x < run.end {
-        p = p + gap_len(p, style.blank) + piece_len(x, x, style);
+        p = p + gap_len(p, style.blank) + digits(x + style.first);
         x += 1;
     }
     p
@@ -176,16 +173,22 @@ fn put_gap(out: &mut [u8], at: usize, blank: bool) -> usize
     at + 1
 }
 
-// Puts a piece, after what stands before it; the place after it.
-fn put_piece(out: &mut [u8], at: usize, a: usize, b: usize, style: Style) -> usize
-    requires { ⌜ Allowed style × (a ≤ listLimit) × (b ≤ listLimit) × (at + (length (separator (style .blank) at) + length (printed style (range a b))) ≤ length (now out)) ⌝ }
+// Puts a number, after what stands before it; the place after it.
+fn put_single(out: &mut [u8], at: usize, x: usize, style: Style) -> usize
+    requires { ⌜ Allowed style × (x ≤ listLimit) × (at + (length (separator (style .blank) at) + length (printed style (range x x))) ≤ length (now out)) ⌝ }
+    ensures { λ r. ⌜ Puts at (separator (style .blank) at ++ printed style (range x x)) r (now (out .entry)) (now (out .exit)) ⌝ }
+{
+    let start = put_gap(out, at, style.blank);
+    put_number(out, start, x + style.first)
+}
+
+// Puts a range of two numbers or more, after what stands before it; the place after it.
+fn put_pair(out: &mut [u8], at: usize, a: usize, b: usize, style: Style) -> usize
+    requires { ⌜ Allowed style × (a < b) × (b ≤ listLimit) × (at + (length (separator (style .blank) at) + length (printed style (range a b))) ≤ length (now out)) ⌝ }
     ensures { λ r. ⌜ Puts at (separator (style .blank) at ++ printed style (range a b)) r (now (out .entry)) (now (out .exit)) ⌝ }
 {
     let start = put_gap(out, at, style.blank);
     let next = put_number(out, start, a + style.first);
-    if a == b {
-        return next;
-    }
     out[next] = style.joiner as u8;
     put_number(out, next + 1, b + style.first)
 }
@@ -196,12 +199,12 @@ fn put_run(out: &mut [u8], at: usize, run: Run, style: Style) -> usize
     ensures { λ r. ⌜ Puts at (piecesAt style at (cut (style .shortest) (rangeOf run))) r (now (out .entry)) (now (out .exit)) ⌝ }
 {
     if is_range(run, style) {
-        return put_piece(out, at, run.low, run.end - 1, style);
+        return put_pair(out, at, run.low, run.end - 1, style);
     }
     let mut p = at;
     let mut x = run.low;
     while x < run.end {
-        p = put_piece(out, p, x, x, style);
+        p = put_single(out, p, x, style);
         x += 1;
     }
     p

@@ -1,4 +1,4 @@
--- A run is put: one piece where it is long enough, else a piece for each number; the answer is the place after it. Loop: the numbers before `x` are put, up to `p`.
+-- A run is put: a range where it is long enough, else each number; the answer is the place after it. Loop: the numbers before `x` are put, up to `p`.
 use mathlib.Core.Path.{sym, _∙_}
 use native.Mathlib.Omega.{arith}
 use borrow.Author.Tests.{leb-true, leb-false}
@@ -24,13 +24,13 @@ few c = leb-false _ _ (sym (c .before .is-range .ensures) ∙ c .if1 .left)
 is-range-requires : tie.Need-is-range-requires Inv-loop μ-loop
 is-range-requires c κs = c .before .pre .1
 
-sub-put-piece : tie.Need-sub-put-piece Inv-loop μ-loop
-sub-put-piece c = omega (arith, c .before .before .before .before .before .pre .1 .some)
+sub-put-pair : tie.Need-sub-put-pair Inv-loop μ-loop
+sub-put-pair c = omega (arith, c .before .before .before .before .before .pre .1 .some)
 
-put-piece-requires : tie.Need-put-piece-requires Inv-loop μ-loop
-put-piece-requires c κs = (
+put-pair-requires : tie.Need-put-pair-requires Inv-loop μ-loop
+put-pair-requires c κs = (
   c .before .before .before .before .before .pre .0,
-  omega (arith, c .before .before .before .before .before .pre .1 .some, c .before .before .before .before .before .pre .1 .limit),
+  omega (arith, c .before .before .before .before .before .pre .0 .shortest, long (c .before .before)),
   omega (arith, c .before .before .before .before .before .pre .1 .limit),
   whole-room _ _ _ _ (c .before .before .before .before .before .pre .1 .some) (c .before .before .before .before .before .args .out .now)
       (c .before .before .before .before .before .pre .2) (long (c .before .before)),
@@ -40,20 +40,19 @@ same-length : tie.Need-same-length Inv-loop μ-loop
 same-length c =
     puts-long _ _ _ _ _ (c .before .before .before .before .before .before .before .before .pre .2)
     (whole-puts _ _ _ _ (c .before .before .before .before .before .before .before .before .pre .1 .some) _ (c .before .before .before .before .before .before .before .before .pre .2)
-    (long (c .before .before .before .before .before)) _ _ (c .before .before .put-piece .ensures))
+    (long (c .before .before .before .before .before)) _ _ (c .before .before .put-pair .ensures))
 
 returns : tie.Need-returns Inv-loop μ-loop
 returns c =
     whole-puts _ _ _ _ (c .before .before .before .before .before .before .before .before .pre .1 .some) _
-    (c .before .before .before .before .before .before .before .before .pre .2) (long (c .before .before .before .before .before)) _ _ (c .before .before .put-piece .ensures)
+    (c .before .before .before .before .before .before .before .before .pre .2) (long (c .before .before .before .before .before)) _ _ (c .before .before .put-pair .ensures)
 
 loop-holds : tie.Need-loop-holds Inv-loop μ-loop
 loop-holds c = putting-first _ _ _ _ (c .before .before .before .pre .1 .some) _ (c .before .before .before .pre .2)
 
-put-piece-requires-2 : tie.Need-put-piece-requires-2 Inv-loop μ-loop
-put-piece-requires-2 c κs = (
+put-single-requires : tie.Need-put-single-requires Inv-loop μ-loop
+put-single-requires c κs = (
   c .before .before .before .before .before .before .before .pre .0,
-  omega (arith, c .before .before .before .before .before .before .before .pre .1 .limit, c .before .if2 .taken),
   omega (arith, c .before .before .before .before .before .before .before .pre .1 .limit, c .before .if2 .taken),
   number-room _ _ _ _ (c .before .before .before .before .before .before .before .pre .1 .some) _ (c .before .before .before .before .before .before .before .pre .2)
       (few (c .before .before .before .before)) _ _ _ (c .before .before .before .loop .inv) (c .before .if2 .taken),
@@ -69,7 +68,7 @@ loop-again : tie.Need-loop-again Inv-loop μ-loop
 loop-again c =
     putting-number _ _ _ _ (c .before .before .before .before .before .before .before .before .before .before .pre .1 .some) _
     (c .before .before .before .before .before .before .before .before .before .before .pre .2) (few (c .before .before .before .before .before .before .before)) _ _ _
-    (c .before .before .before .before .before .before .loop .inv) (c .before .before .before .before .if2 .taken) _ _ (c .before .before .put-piece2 .ensures)
+    (c .before .before .before .before .before .before .loop .inv) (c .before .before .before .before .if2 .taken) _ _ (c .before .before .put-single .ensures)
 
 same-length-2 : tie.Need-same-length-2 Inv-loop μ-loop
 same-length-2 c =
@@ -88,12 +87,12 @@ put-run-spec =
     Inv-loop
     μ-loop
     is-range-requires
-    sub-put-piece
-    put-piece-requires
+    sub-put-pair
+    put-pair-requires
     same-length
     returns
     loop-holds
-    put-piece-requires-2
+    put-single-requires
     add-x
     loop-less
     loop-again

@@ -1,9 +1,13 @@
--- The place after a run: past one piece where it is long enough, else past a piece for each number. Loop: `p` is the place after the numbers before `x`.
-use mathlib.Core.Path.{refl, sym, _∙_}
+-- The place after a run: past a range where it is long enough, else past each number. Loop: `p` is the place after the numbers before `x`.
+use mathlib.Core.Path.{_≡_, refl, sym, ap, _∙_}
 use native.Mathlib.Omega.{arith}
 use borrow.Author.Tests.{leb-true, leb-false}
 use Prim.Native.Nat.{_-_, _≤_, _<_}
-use Rattle.print.proofs.Pieces.{whole-place, whole-short, Counting, counting-start, counting-short, counting-more, counting-end}
+use lib.ListN.{length}
+use Rattle.text.specs.Lists.{range}
+use Rattle.print.specs.Texts.{printed}
+use Rattle.print.proofs.Printed.{printed-one}
+use Rattle.print.proofs.Pieces.{counted, whole-place, whole-short, Counting, counting-start, counting-short, counting-more, counting-end}
 use Rattle.print.proofs.run_end.Statement.{statement}
 use Rattle.print.proofs.run_end.Tie as tie
 
@@ -37,13 +41,13 @@ add-result c =
           (c .before .before .before .pre .1 .limit) (long (c .before)) _ _ (c .gap-len .ensures) refl,
     )
 
-sub-piece-len : tie.Need-sub-piece-len Inv-loop μ-loop
-sub-piece-len c = omega (arith, c .before .before .before .before .pre .1 .some)
+sub-pair-len : tie.Need-sub-pair-len Inv-loop μ-loop
+sub-pair-len c = omega (arith, c .before .before .before .before .pre .1 .some)
 
-piece-len-requires : tie.Need-piece-len-requires Inv-loop μ-loop
-piece-len-requires c κs = (
+pair-len-requires : tie.Need-pair-len-requires Inv-loop μ-loop
+pair-len-requires c κs = (
   c .before .before .before .before .pre .0,
-  omega (arith, c .before .before .before .before .pre .1 .some, c .before .before .before .before .pre .1 .limit),
+  omega (arith, c .before .before .before .before .pre .0 .shortest, long (c .before .before)),
   omega (arith, c .before .before .before .before .pre .1 .limit),
 )
 
@@ -56,13 +60,13 @@ add-result-2 c =
       c .before .before .before .before .before .pre .2,
       whole-short _ (c .before .before .before .before .before .pre .0) (c .before .before .before .before .before .args .at) _ _
           (c .before .before .before .before .before .pre .1 .some) (c .before .before .before .before .before .pre .1 .limit) (long (c .before .before .before)) _ _
-          (c .before .before .gap-len .ensures) (c .piece-len .ensures),
+          (c .before .before .gap-len .ensures) (c .pair-len .ensures),
     )
 
 returns : tie.Need-returns Inv-loop μ-loop
 returns c =
     whole-place _ (c .before .before .before .before .before .pre .0) _ _ _ (c .before .before .before .before .before .pre .1 .some)
-    (c .before .before .before .before .before .pre .1 .limit) (long (c .before .before .before)) _ _ (c .before .before .gap-len .ensures) (c .piece-len .ensures)
+    (c .before .before .before .before .before .pre .1 .limit) (long (c .before .before .before)) _ _ (c .before .before .gap-len .ensures) (c .pair-len .ensures)
 
 loop-holds : tie.Need-loop-holds Inv-loop μ-loop
 loop-holds c = counting-start _ (c .before .before .pre .0) _ _ _ (c .before .before .pre .1 .some) (c .before .before .pre .1 .limit) (c .before .before .pre .2)
@@ -83,37 +87,48 @@ add-p c =
           (c .gap-len2 .ensures) refl,
     )
 
-piece-len-requires-2 : tie.Need-piece-len-requires-2 Inv-loop μ-loop
-piece-len-requires-2 c κs = (
-  c .before .before .before .before .before .before .pre .0,
-  omega (arith, c .before .before .before .before .before .before .pre .1 .limit, c .before .if2 .taken),
-  omega (arith, c .before .before .before .before .before .before .pre .1 .limit, c .before .if2 .taken),
-)
+add-digits : tie.Need-add-digits Inv-loop μ-loop
+add-digits c =
+    omega (
+      arith,
+      counted _ (c .before .before .before .before .before .before .before .pre .0) (c .before .before .before .before .loop .x)
+          (omega (arith, c .before .before .before .before .before .before .before .pre .1 .limit, c .before .before .if2 .taken)),
+    )
+
+digits-requires : tie.Need-digits-requires Inv-loop μ-loop
+digits-requires c κs =
+    counted _ (c .before .before .before .before .before .before .before .pre .0) _
+    (omega (arith, c .before .before .before .before .before .before .before .pre .1 .limit, c .before .before .if2 .taken))
+
+-- the number's length
+number-len : (c : tie.After-digits Inv-loop μ-loop)
+    → c .digits .result ≡ length (printed (c .before .before .before .before .before .before .before .before .args .style) (range (c .before .before .before .before .before .loop .x) (c .before .before .before .before .before .loop .x)))
+number-len c = c .digits .ensures ∙ sym (ap length (printed-one _ _ _ refl))
 
 add-p-2 : tie.Need-add-p-2 Inv-loop μ-loop
 add-p-2 c =
     omega (
       arith,
-      c .before .before .before .before .before .before .before .pre .1 .limit,
-      c .before .before .if2 .taken,
-      c .before .before .before .before .loop .inv .short,
-      counting-short _ (c .before .before .before .before .before .before .before .pre .0) (c .before .before .before .before .before .before .before .args .at) _ _
-          (c .before .before .before .before .before .before .before .pre .1 .some) (c .before .before .before .before .before .before .before .pre .1 .limit) _ _
-          (c .before .before .before .before .loop .inv) (c .before .before .if2 .taken) _ _
-          (c .before .gap-len2 .ensures) (c .piece-len2 .ensures),
+      c .before .before .before .before .before .before .before .before .pre .1 .limit,
+      c .before .before .before .if2 .taken,
+      c .before .before .before .before .before .loop .inv .short,
+      counting-short _ (c .before .before .before .before .before .before .before .before .pre .0) (c .before .before .before .before .before .before .before .before .args .at) _ _
+          (c .before .before .before .before .before .before .before .before .pre .1 .some)
+          (c .before .before .before .before .before .before .before .before .pre .1 .limit) _ _ (c .before .before .before .before .before .loop .inv)
+          (c .before .before .before .if2 .taken) _ _ (c .before .before .gap-len2 .ensures) (number-len c),
     )
 
 add-x : tie.Need-add-x Inv-loop μ-loop
-add-x c = omega (arith, c .before .before .before .before .before .before .before .pre .1 .limit, c .before .before .if2 .taken)
+add-x c = omega (arith, c .before .before .before .before .before .before .before .before .pre .1 .limit, c .before .before .before .if2 .taken)
 
 loop-less : tie.Need-loop-less Inv-loop μ-loop
-loop-less c = omega (arith, c .before .before .if2 .taken)
+loop-less c = omega (arith, c .before .before .before .if2 .taken)
 
 loop-again : tie.Need-loop-again Inv-loop μ-loop
 loop-again c =
-    counting-more _ (c .before .before .before .before .before .before .before .pre .0) _ _ _ (c .before .before .before .before .before .before .before .pre .1 .some)
-    (c .before .before .before .before .before .before .before .pre .1 .limit) _ _ (c .before .before .before .before .loop .inv) (c .before .before .if2 .taken) _ _
-    (c .before .gap-len2 .ensures) (c .piece-len2 .ensures)
+    counting-more _ (c .before .before .before .before .before .before .before .before .pre .0) _ _ _
+    (c .before .before .before .before .before .before .before .before .pre .1 .some) (c .before .before .before .before .before .before .before .before .pre .1 .limit) _ _
+    (c .before .before .before .before .before .loop .inv) (c .before .before .before .if2 .taken) _ _ (c .before .before .gap-len2 .ensures) (number-len c)
 
 returns-2 : tie.Need-returns-2 Inv-loop μ-loop
 returns-2 c =
@@ -129,14 +144,15 @@ run-end-spec =
     is-range-requires
     gap-len-requires
     add-result
-    sub-piece-len
-    piece-len-requires
+    sub-pair-len
+    pair-len-requires
     add-result-2
     returns
     loop-holds
     gap-len-requires-2
     add-p
-    piece-len-requires-2
+    add-digits
+    digits-requires
     add-p-2
     add-x
     loop-less
