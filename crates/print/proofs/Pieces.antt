@@ -69,6 +69,9 @@ puts-gap-one b at out e f h =
     puts-is at (at + 1) (comma ∷ []) (separator b at) out (set out at comma) (gap-tight b at e f)
     (puts-one at comma out (omega (arith, gap-one b at e f)))
 
+pub single-length : (y : Style) (x : ℕ) → length (decimal (x + y .first)) ≡ length (printed y (range x x))
+single-length y x = sym (ap length (printed-one y x x refl))
+
 pub two-length : (y : Style) (a b : ℕ) → (a ≡ b → ⊥) → length (printed y (range a b)) ≡ length (decimal (a + y .first)) + 1 + length (decimal (b + y .first))
 two-length y a b e = ap length (printed-two y a b e) ∙ length-append (decimal (a + y .first)) (y .joiner ∷ decimal (b + y .first)) ∙ omega arith
 

@@ -1,13 +1,9 @@
 -- The place after a run: past a range where it is long enough, else past each number. Loop: `p` is the place after the numbers before `x`.
-use mathlib.Core.Path.{_≡_, refl, sym, ap, _∙_}
+use mathlib.Core.Path.{refl, sym, _∙_}
 use native.Mathlib.Omega.{arith}
 use borrow.Author.Tests.{leb-true, leb-false}
 use Prim.Native.Nat.{_-_, _≤_, _<_}
-use lib.ListN.{length}
-use Rattle.text.specs.Lists.{range}
-use Rattle.print.specs.Texts.{printed}
-use Rattle.print.proofs.Printed.{printed-one}
-use Rattle.print.proofs.Pieces.{counted, whole-place, whole-short, Counting, counting-start, counting-short, counting-more, counting-end}
+use Rattle.print.proofs.Pieces.{single-length, counted, whole-place, whole-short, Counting, counting-start, counting-short, counting-more, counting-end}
 use Rattle.print.proofs.run_end.Statement.{statement}
 use Rattle.print.proofs.run_end.Tie as tie
 
@@ -100,11 +96,6 @@ digits-requires c κs =
     counted _ (c .before .before .before .before .before .before .before .pre .0) _
     (omega (arith, c .before .before .before .before .before .before .before .pre .1 .limit, c .before .before .if2 .taken))
 
--- the number's length
-number-len : (c : tie.After-digits Inv-loop μ-loop)
-    → c .digits .result ≡ length (printed (c .before .before .before .before .before .before .before .before .args .style) (range (c .before .before .before .before .before .loop .x) (c .before .before .before .before .before .loop .x)))
-number-len c = c .digits .ensures ∙ sym (ap length (printed-one _ _ _ refl))
-
 add-p-2 : tie.Need-add-p-2 Inv-loop μ-loop
 add-p-2 c =
     omega (
@@ -115,7 +106,7 @@ add-p-2 c =
       counting-short _ (c .before .before .before .before .before .before .before .before .pre .0) (c .before .before .before .before .before .before .before .before .args .at) _ _
           (c .before .before .before .before .before .before .before .before .pre .1 .some)
           (c .before .before .before .before .before .before .before .before .pre .1 .limit) _ _ (c .before .before .before .before .before .loop .inv)
-          (c .before .before .before .if2 .taken) _ _ (c .before .before .gap-len2 .ensures) (number-len c),
+          (c .before .before .before .if2 .taken) _ _ (c .before .before .gap-len2 .ensures) (c .digits .ensures ∙ single-length _ _),
     )
 
 add-x : tie.Need-add-x Inv-loop μ-loop
@@ -128,7 +119,7 @@ loop-again : tie.Need-loop-again Inv-loop μ-loop
 loop-again c =
     counting-more _ (c .before .before .before .before .before .before .before .before .pre .0) _ _ _
     (c .before .before .before .before .before .before .before .before .pre .1 .some) (c .before .before .before .before .before .before .before .before .pre .1 .limit) _ _
-    (c .before .before .before .before .before .loop .inv) (c .before .before .before .if2 .taken) _ _ (c .before .before .gap-len2 .ensures) (number-len c)
+    (c .before .before .before .before .before .loop .inv) (c .before .before .before .if2 .taken) _ _ (c .before .before .gap-len2 .ensures) (c .digits .ensures ∙ single-length _ _)
 
 returns-2 : tie.Need-returns-2 Inv-loop μ-loop
 returns-2 c =
