@@ -2,7 +2,7 @@
 use mathlib.Core.Path.{_≡_, refl, sym, ap, ap₂, _∙_}
 use mathlib.Core.Bool.{Bool, true, false}
 use mathlib.Core.List.{List, [], _∷_, _++_, append-assoc, append-nil}
-use Prim.Native.Nat.{ℕ, zero, suc, _+_, _-_, _*_, _≤_, _<_}
+use Prim.Native.Nat.{ℕ, _+_, _*_, _≤_, _<_}
 use native.Mathlib.Omega.{arith}
 use lib.Dec.{leb}
 use lib.ListN.{length, drop, length-append}
@@ -20,7 +20,7 @@ use Rattle.storage.proofs.Checks.{reading-ok, reading-stopped}
 use Rattle.style.specs.Styles.{allowed}
 use Rattle.style.specs.Promises.{Allowed}
 use Rattle.style.specs.declared.Style.{Style}
-use Rattle.text.specs.Lists.{listLimit, Range, range}
+use Rattle.text.specs.Lists.{listLimit, Range}
 use Rattle.print.specs.Texts.{runs, cut, pieces, textOf, fitted, replaced, listAnswer, listBuffer, Prints}
 use Rattle.print.specs.Kernels.{NextRun, Printable, rangeOf, piecesAt, putAt, Puts}
 use Rattle.print.specs.Forms.{Runs}

@@ -1,14 +1,13 @@
 -- The promise of specs/Promises.
-use Prim.Native.Nat.{ℕ, _≤_}
-use mathlib.Core.Path.{_≡_, refl, sym, ap, ap₂, _∙_}
-use mathlib.Core.Bool.{Bool, true, false, _&&_, _||_, not, false≢true}
+use Prim.Native.Nat.{ℕ}
+use mathlib.Core.Path.{_≡_, sym, ap, ap₂, _∙_}
+use mathlib.Core.Bool.{Bool, true, _&&_, _||_, not, false≢true}
 use native.Mathlib.Omega.{arith}
 use lib.Dec.{ltb, leb, eqb}
-use borrow.Author.Tests.{le-leb, leb-true, lt-ltb, le-ltb, ltb-true, ltb-false, ne-eqb, eq-eqb}
-use Rattle.word.proofs.Cases.{by-test, by-lt, and-true}
-use Rattle.style.specs.Styles.{joins, allowed}
-use Rattle.style.specs.Promises.{Joins, Allowed, StylesMean}
-use Rattle.style.specs.declared.Style.{Style}
+use borrow.Author.Tests.{le-leb, leb-true, lt-ltb, le-ltb, ne-eqb, eq-eqb}
+use Rattle.word.proofs.Cases.{by-lt, and-true}
+use Rattle.style.specs.Styles.{joins}
+use Rattle.style.specs.Promises.{Joins, StylesMean}
 
 both : {a b : Bool} → a ≡ true → b ≡ true → a && b ≡ true
 both e f = ap₂ _&&_ e f

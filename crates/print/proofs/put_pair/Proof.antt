@@ -2,7 +2,6 @@
 use mathlib.Core.Path.{_≡_}
 use native.Mathlib.Omega.{arith}
 use Prim.Native.Nat.{ℕ, _≤_, _<_}
-use borrow.Author.Needs.{needs}
 use Rattle.text.specs.Lists.{listLimit}
 use Rattle.print.proofs.Pieces.{counted, first-room, joiner-room, last-room, piece-two, long₃}
 use Rattle.print.proofs.put_pair.Statement.{statement}
