@@ -31,7 +31,7 @@ use Rattle.storage.specs.Promises.{Determines, DeterminesBeside, Chains}
 use Rattle.storage.specs.declared.Bitmap.{Bitmap}
 use Rattle.storage.specs.declared.Refusal.{Refusal}
 use Rattle.storage.specs.declared.Refusal.the-variants.{StoreTooLong, CountOverStore, WidthOver, IndexOver, PastLength, NoSpace, NotList}
-use Rattle.storage.specs.declared.Refusal.the-variants.{NotAscii, NotSheet, CutRecord, BytesRemain, BadPayload, NewerKind, NoEdition, BadStyle}
+use Rattle.storage.specs.declared.Refusal.the-variants.{NotAscii, NotSheet, CutRecord, BytesRemain, BadPayload, NewerKind, NoEdition, BadStyle, NumberOver}
 use Rattle.storage.specs.declared.Found.{Found}
 use Rattle.storage.specs.declared.Found.the-variants.{At, Nothing, Refused}
 use Rattle.storage.specs.declared.Amount.{Amount}
@@ -67,11 +67,12 @@ range BadPayload = omega arith
 range NewerKind = omega arith
 range NoEdition = omega arith
 range BadStyle = omega arith
+range NumberOver = omega arith
 
 -- the refusals in the order of their numbers
 abbrev ordered : List Refusal
 ordered =
-    StoreTooLong ∷ CountOverStore ∷ WidthOver ∷ IndexOver ∷ PastLength ∷ NoSpace ∷ NotList ∷ NotAscii ∷ NotSheet ∷ CutRecord ∷ BytesRemain ∷ BadPayload ∷ NewerKind ∷ NoEdition ∷ BadStyle ∷ []
+    StoreTooLong ∷ CountOverStore ∷ WidthOver ∷ IndexOver ∷ PastLength ∷ NoSpace ∷ NotList ∷ NotAscii ∷ NotSheet ∷ CutRecord ∷ BytesRemain ∷ BadPayload ∷ NewerKind ∷ NoEdition ∷ BadStyle ∷ NumberOver ∷ []
 
 nth-refusal : (k : ℕ) → k < lastNumber → numberOf (getD ordered k NoEdition) ≡ suc k
 nth-refusal k l =
@@ -93,6 +94,7 @@ found BadPayload = refl
 found NewerKind = refl
 found NoEdition = refl
 found BadStyle = refl
+found NumberOver = refl
 
 pub each-number-once : EachNumberOnce
 each-number-once = record {

@@ -4,7 +4,7 @@ use Rattle.word.specs.Sets.{val}
 use Rattle.storage.specs.declared.Bitmap.{Bitmap}
 use Rattle.storage.specs.declared.Refusal.{Refusal}
 use Rattle.storage.specs.declared.Refusal.the-variants.{StoreTooLong, CountOverStore, WidthOver, IndexOver, PastLength, NoSpace, NotList}
-use Rattle.storage.specs.declared.Refusal.the-variants.{NotAscii, NotSheet, CutRecord, BytesRemain, BadPayload, NewerKind, NoEdition, BadStyle}
+use Rattle.storage.specs.declared.Refusal.the-variants.{NotAscii, NotSheet, CutRecord, BytesRemain, BadPayload, NewerKind, NoEdition, BadStyle, NumberOver}
 use Rattle.storage.specs.declared.Change.{Change}
 use Rattle.storage.specs.declared.Change.the-variants.{Done, Refused}
 use Rattle.storage.specs.declared.Found.{Found}
@@ -20,7 +20,7 @@ use Rattle.storage.specs.declared.Guard.the-variants.{Pass, Stop}
 
 -- the numbers are 1 to this one
 abbrev pub lastNumber : ℕ
-lastNumber = 15
+lastNumber = 16
 
 abbrev pub numberOf : Refusal → ℕ
 numberOf StoreTooLong = 1
@@ -38,6 +38,7 @@ numberOf BadPayload = 12
 numberOf NewerKind = 13
 numberOf NoEdition = 14
 numberOf BadStyle = 15
+numberOf NumberOver = 16
 
 -- of each answer its number, 0 for done, and its value, 0 where it is refused
 abbrev pub foundNumber : Found → ℕ

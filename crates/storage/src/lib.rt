@@ -34,6 +34,7 @@ pub enum Refusal {
     NewerKind,
     NoEdition,
     BadStyle,
+    NumberOver,
 }
 
 impl Refusal {
@@ -57,6 +58,7 @@ impl Refusal {
             Refusal::NewerKind => 13,
             Refusal::NoEdition => 14,
             Refusal::BadStyle => 15,
+            Refusal::NumberOver => 16,
         }
     }
 }
