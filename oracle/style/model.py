@@ -24,18 +24,21 @@ def asked(words, count, style):
 
 
 def number(text, first):
-    """The bit that a number stands for."""
+    """The bit that a number stands for. Digits only that are above the limit are 16, and whatever else is no number 7."""
     digits = text.strip(BLANKS)
     if not digits.isdigit():
         raise Refused(7)
     value = int(digits)
-    if value < first or value > TOP + first:
+    if value < first:
         raise Refused(7)
+    if value > TOP + first:
+        raise Refused(16)
     return value - first
 
 
 def token(text, first, joiner):
-    """The first and the last bit of a token, which is cut at its first joiner."""
+    """The first and the last bit of a token, which is cut at its first joiner. Its left number is looked at before its right, and both before which
+    is larger."""
     left, joined, right = text.partition(bytes([joiner]))
     low = number(left, first)
     high = number(right, first) if joined else low
@@ -45,6 +48,7 @@ def token(text, first, joiner):
 
 
 def ranges(text, first, joiner):
+    """The tokens in their order, so that the first bad one decides."""
     tokens = text.split(b",")
     if len(tokens) > 1 and not tokens[-1].strip(BLANKS):
         tokens.pop()

@@ -1,5 +1,7 @@
 """Texts that are read, good and bad."""
 
+import re
+
 import model
 from listing import BAD, EDGES, HOUSE, ONES, OVER, PLAIN, STORES, TEXTS, TWO, case, some_store, some_style
 from model import TOP
@@ -14,7 +16,7 @@ TYPED = [
     (b",", PLAIN, 7),
     (b"1,,", PLAIN, 7),
     (b"5-3", PLAIN, 7),
-    (b"4294967296", PLAIN, 7),
+    (b"4294967296", PLAIN, 16),
     (b"1,", PLAIN, {1}),
     (b"1, ", PLAIN, {1}),
     (b" 1 - 3 , 2", PLAIN, {1, 2, 3}),
@@ -33,12 +35,58 @@ TYPED = [
     (b"0999", HIGH, 7),
     (b"01000", HIGH, {0}),
     (b"4294968295", HIGH, 6),
-    (b"4294968296", HIGH, 7),
-    (b"18446744073709551621", PLAIN, 7),
-    (b"1000-18446744073709552621", HIGH, 7),
+    (b"4294968296", HIGH, 16),
+    (b"18446744073709551621", PLAIN, 16),
+    (b"1000-18446744073709552621", HIGH, 16),
     (b"4294967295x", PLAIN, 7),
     (b"4294967295,x", PLAIN, 7),
     (b"4294967295,\xff", PLAIN, 8),
+    (b"4294967296,\xff", PLAIN, 8),
+    (b"5-5000000000", (10, 45, 1, 2), 7),
+    (b"4294967296x5", (0, ord("x"), 1, 2), 16),
+    (b"4294967296-5", (0, ord("x"), 1, 2), 7),
+]
+
+# Slips and huge numbers of document 02, and of what was open there, in the plain style.
+SLIPS = [
+    (b"4294967296x", 7),
+    (b"x4294967296", 7),
+    (b"4294967296 5", 7),
+    (b"4294967296 ", 16),
+    (b"\t4294967296\n", 16),
+    (b"4294967296-", 16),
+    (b"4294967296-x", 16),
+    (b"4294967296-1", 16),
+    (b"4294967296 - 1", 16),
+    (b"x-4294967296", 7),
+    (b"-4294967296", 7),
+    (b"5-4294967296", 16),
+    (b"5-4294967296x", 7),
+    (b"4294967295-4294967296", 16),
+    (b"99999999999-5-6", 16),
+    (b"5-99999999999-6", 7),
+    (b"5-6-99999999999", 7),
+    (b"4294967297-4294967296", 16),
+    (b"4294967296-4294967295", 16),
+    (b"4294967295-4294967294", 7),
+    (b"4294967296,x", 16),
+    (b"4294967296,", 16),
+    (b"4294967296,,", 16),
+    (b"4294967296,5-3", 16),
+    (b"x,4294967296", 7),
+    (b"1,,4294967296", 7),
+    (b",4294967296", 7),
+    (b"5-3,4294967296", 7),
+    (b"1,2-3,4294967296,x", 16),
+    (b"1,2-3,x,4294967296", 7),
+    (b"4294967295,4294967296", 16),
+    (b"4294967296,4294967295", 16),
+    (b"18446744073709551616", 16),
+    (b"18446744073709551621", 16),
+    (b"5-18446744073709551622", 16),
+    (b"340282366920938463463374607431768211456", 16),
+    (b"9999999999999999999999999999999999999999", 16),
+    (b"99999999999999999999999999999999999999x", 7),
 ]
 
 
@@ -55,11 +103,23 @@ def typed():
         assert (number or set(model.members(words, count))) == wanted, text
 
 
+def moved(text, style):
+    """A text of the plain style in another one: the numbers rise by the first number, and the joiner stands for the hyphen."""
+    first, joiner = style[:2]
+    return re.sub(rb"\d+", lambda number: b"%d" % (int(number[0]) + first), text).replace(b"-", bytes([joiner]))
+
+
+def slips():
+    for style in (PLAIN, HOUSE, (10, ord("+"), 1, 9), (1000, ord("~"), 0, 2)):
+        for text, wanted in SLIPS:
+            assert reading(moved(text, style), style)[0] == wanted, (text, style)
+
+
 def numbers_at_edges(draw):
     for first in (0, 1, 10, 999, 1000):
         style = (first, ord("-"), 1, 2)
         near = [first + d for d in (-1000, -1, 0, 1, 63, 64, 127, 128, 255, 256, TOP - 1, TOP, TOP + 1)]
-        far = [1, 9, 10, TOP, TOP + 1, ONES, ONES + 1, ONES + 6, ONES + 1 + first, 10**30 + first]
+        far = [1, 9, 10, TOP, TOP + 1, ONES, ONES + 1, ONES + 6, ONES + 1 + first, 10**30 + first, (1 << 128) + first]
         for value in sorted({n for n in near + far if n >= 0}):
             for zeros in (b"", b"0", b"0" * 25):
                 text = zeros + b"%d" % value
@@ -108,10 +168,10 @@ def damaged(draw, times):
 
 
 def order():
-    """2, 15, 8, 7, 6: texts for which several apply."""
-    texts = b"4", b"", b"x", b"\xff", b"x\xff", b"999999", b"999999,x", b"4294968297"
+    """2, 15, 8, 7 or 16, 6: texts for which several apply."""
+    texts = b"4", b"", b"x", b"\xff", b"x\xff", b"999999", b"4294968297", b"4294968297\xff", b"999999,x", b"999999,4294968297"
     for style in BAD:
-        for text in texts[:6]:
+        for text in texts[:7]:
             reading(text, style)
         for text in (b"4", b"\xff"):
             reading(text, style, OVER[1])
@@ -147,6 +207,25 @@ def some_token(draw, first, joiner):
     if draw.below(2):
         number += b"%s%c%s%s%d" % (blank[0], joiner, blank[1], b"0" * draw.below(2), first + max(low, high - 20 * draw.below(2)))
     return blank[2] + number + blank[3]
+
+
+def some_number(draw, first):
+    """A number: good, the last one, above the limit, or none at all."""
+    over = TOP + 1 + first
+    huge = over, over + draw.below(1000), ONES + 1 + first + draw.below(9), (1 << 128) + draw.below(200), over * 10 ** draw.below(30)
+    slip = b"", b"x", b"%d" % max(first - 1, 0), b"%dx" % over, b"%d 0" % over, b"+%d" % over
+    value = draw.of((*[first + draw.below(128)] * 6, TOP + first, *[draw.of(huge)] * 3))
+    blank = [draw.of((b"", b"", b"", b" ", b"\t\n")) for _ in range(2)]
+    return blank[0] + draw.of((*[b"0" * draw.of((0, 0, 0, 1, 20)) + b"%d" % value] * 5, draw.of(slip))) + blank[1]
+
+
+def random_slips(draw, times):
+    """Huge numbers and slips: alone, left and right of a joiner or of two, before and after each other and good tokens."""
+    for _ in range(100 * times):
+        style = (draw.of((0, 1, 10, 999, 1000)), draw.of(b"-:~"), draw.below(2), 2)
+        joined = [[some_number(draw, style[0]) for _ in range(draw.of((1, 1, 2, 2, 2, 3)))] for _ in range(draw.of((1, 1, 2, 3)))]
+        text = b",".join(bytes([style[1]]).join(numbers) for numbers in joined)
+        reading(text + draw.of((b"", b"", b"", b",", b", ", b",,")), style, draw.of(STORES))
 
 
 def random_lists(draw, times):

@@ -39,7 +39,7 @@ use Rattle.shapes.specs.declared.Split.{Split}
 use Rattle.sheet.specs.declared.Reading.{Reading}
 use Rattle.cases.specs.Cases.{from-list-in, write-list-in}
 use Rattle.cases.specs.Cases.{Question, from-list, next-clear, first-clear, get-field, select, eq, rotate-right, xori, split-off, read, zeros, whole, changed, found, counted, fielded}
-use Rattle.cases.specs.Cases.{tested, parted, sheeted, listed, Comes, Sample, sample, Hold, starred, StarredHold, styled, StyledHold}
+use Rattle.cases.specs.Cases.{tested, parted, sheeted, listed, Comes, Sample, sample, Hold, starred, StarredHold, styled, StyledHold, faulted, FaultedHold}
 
 -- a reading's answer, and its result printed
 printing : Reading → List ℕ → List ℕ
@@ -118,3 +118,11 @@ styles-computed = refl
 
 pub styled-hold : StyledHold
 styled-hold = subst Hold styles-computed (each styled)
+
+faults-computed : again faulted ≡ faulted
+unfolding checked view within answer store outcome plain covers highest read.kind
+    read.value read.token read.empty read.byKind read.next read.reads read.parsed read.parse read.readingList changedBy outOf again
+faults-computed = refl
+
+pub faulted-hold : FaultedHold
+faulted-hold = subst Hold faults-computed (each faulted)

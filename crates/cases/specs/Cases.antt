@@ -124,8 +124,8 @@ starred =
     ∷ sample (from-list (49 ∷ 44 ∷ 44 ∷ []) 2) (7 ∷ 0 ∷ 0 ∷ 0 ∷ [])
     -- the text `5-3`: 7
     ∷ sample (from-list (53 ∷ 45 ∷ 51 ∷ []) 2) (7 ∷ 0 ∷ 0 ∷ 0 ∷ [])
-    -- the text `4294967296`: 7
-    ∷ sample (from-list (52 ∷ 50 ∷ 57 ∷ 52 ∷ 57 ∷ 54 ∷ 55 ∷ 50 ∷ 57 ∷ 54 ∷ []) 2) (7 ∷ 0 ∷ 0 ∷ 0 ∷ [])
+    -- the text `4294967296`: 16, by T-02
+    ∷ sample (from-list (52 ∷ 50 ∷ 57 ∷ 52 ∷ 57 ∷ 54 ∷ 55 ∷ 50 ∷ 57 ∷ 54 ∷ []) 2) (16 ∷ 0 ∷ 0 ∷ 0 ∷ [])
     -- `1,` reads {1}
     ∷ sample (from-list (49 ∷ 44 ∷ []) 2) (0 ∷ 1 ∷ 2 ∷ 0 ∷ [])
     -- ` 1 - 3 , 2` reads {1, 2, 3}
@@ -178,16 +178,64 @@ styled =
     ∷ sample (from-list-in (style 0 45 true 3) (52 ∷ 45 ∷ 53 ∷ []) 2) (0 ∷ 1 ∷ 48 ∷ 0 ∷ [])
     ∷ sample (from-list-in (style 0 45 false 2) (49 ∷ 44 ∷ 32 ∷ 50 ∷ []) 2) (0 ∷ 1 ∷ 6 ∷ 0 ∷ [])
     ∷ sample (from-list-in (style 0 58 true 2) (49 ∷ 45 ∷ 50 ∷ []) 2) (7 ∷ 0 ∷ 0 ∷ 0 ∷ [])
-    -- first 1,000: `0999` is 7, `01000` reads {0}, `4294968295` into two words is 6, `4294968296` is 7
+    -- first 1,000: `0999` is 7, `01000` reads {0}, `4294968295` into two words is 6, `4294968296` is 16
     ∷ sample (from-list-in (style 1_000 45 true 2) (48 ∷ 57 ∷ 57 ∷ 57 ∷ []) 2) (7 ∷ 0 ∷ 0 ∷ 0 ∷ [])
     ∷ sample (from-list-in (style 1_000 45 true 2) (48 ∷ 49 ∷ 48 ∷ 48 ∷ 48 ∷ []) 2) (0 ∷ 1 ∷ 1 ∷ 0 ∷ [])
     ∷ sample (from-list-in (style 1_000 45 true 2) (52 ∷ 50 ∷ 57 ∷ 52 ∷ 57 ∷ 54 ∷ 56 ∷ 50 ∷ 57 ∷ 53 ∷ []) 2) (6 ∷ 0 ∷ 0 ∷ 0 ∷ [])
-    ∷ sample (from-list-in (style 1_000 45 true 2) (52 ∷ 50 ∷ 57 ∷ 52 ∷ 57 ∷ 54 ∷ 56 ∷ 50 ∷ 57 ∷ 54 ∷ []) 2) (7 ∷ 0 ∷ 0 ∷ 0 ∷ [])
+    ∷ sample (from-list-in (style 1_000 45 true 2) (52 ∷ 50 ∷ 57 ∷ 52 ∷ 57 ∷ 54 ∷ 56 ∷ 50 ∷ 57 ∷ 54 ∷ []) 2) (16 ∷ 0 ∷ 0 ∷ 0 ∷ [])
     -- 15: a digit joins, and the text is FF; first 2^64 - 1; a joiner of 256 + 45, and there is nothing to print; shortest 1 and no byte lent
     ∷ sample (from-list-in (style 0 48 true 2) (0xff ∷ []) 2) (15 ∷ 0 ∷ 0 ∷ 0 ∷ [])
     ∷ sample (from-list-in (style 0xffff_ffff_ffff_ffff 45 true 2) (49 ∷ []) 2) (15 ∷ 0 ∷ 0 ∷ 0 ∷ [])
     ∷ sample (write-list-in (style 0 301 true 2) (0 ∷ []) 1) (15 ∷ 0 ∷ 0 ∷ [])
     ∷ sample (write-list-in (style 0 45 true 1) (48 ∷ []) 0) (15 ∷ 0 ∷ [])
+    ∷ []
+
+-- T-02, with 5, `-`, `x` and the comma as bytes 53, 45, 120 and 44
+
+-- 4294967296, one above the limit
+abbrev pub over : List ℕ
+over = 52 ∷ 50 ∷ 57 ∷ 52 ∷ 57 ∷ 54 ∷ 55 ∷ 50 ∷ 57 ∷ 54 ∷ []
+
+-- 99999999999
+abbrev pub nines : List ℕ
+nines = 57 ∷ 57 ∷ 57 ∷ 57 ∷ 57 ∷ 57 ∷ 57 ∷ 57 ∷ 57 ∷ 57 ∷ 57 ∷ []
+
+-- a text into two words, refused with k
+abbrev pub refusing : List ℕ → ℕ → Sample
+refusing t k = sample (from-list t 2) (k ∷ 0 ∷ 0 ∷ 0 ∷ [])
+
+abbrev pub faulted : List Sample
+faulted =
+    -- the whole number, blanks trimmed, is digits: then 16; a letter after it, or a blank in it: 7
+    refusing (over ++ 32 ∷ []) 16
+    ∷ refusing (32 ∷ over) 16
+    ∷ refusing (over ++ 120 ∷ []) 7
+    ∷ refusing (over ++ 32 ∷ 53 ∷ []) 7
+    -- 18446744073709551621 is 2^64 + 5, and never {5}
+    ∷ refusing (49 ∷ 56 ∷ 52 ∷ 52 ∷ 54 ∷ 55 ∷ 52 ∷ 52 ∷ 48 ∷ 55 ∷ 51 ∷ 55 ∷ 48 ∷ 57 ∷ 53 ∷ 53 ∷ 49 ∷ 54 ∷ 50 ∷ 49 ∷ []) 16
+    -- the left number before the right one, whatever that is
+    ∷ refusing (over ++ 45 ∷ []) 16
+    ∷ refusing (over ++ 45 ∷ 120 ∷ []) 16
+    ∷ refusing (over ++ 45 ∷ 49 ∷ []) 16
+    ∷ refusing (120 ∷ 45 ∷ over) 7
+    ∷ refusing (45 ∷ over) 7
+    ∷ refusing (49 ∷ 45 ∷ over) 16
+    -- cut at the first joiner: `99999999999-5-6`, `5-99999999999-6`
+    ∷ refusing (nines ++ 45 ∷ 53 ∷ 45 ∷ 54 ∷ []) 16
+    ∷ refusing (53 ∷ 45 ∷ nines ++ 45 ∷ 54 ∷ []) 7
+    -- a left number below the first decides: first 10, `5-5000000000`
+    ∷ sample (from-list-in (style 10 45 true 2) (53 ∷ 45 ∷ 53 ∷ 48 ∷ 48 ∷ 48 ∷ 48 ∷ 48 ∷ 48 ∷ 48 ∷ 48 ∷ 48 ∷ []) 2) (7 ∷ 0 ∷ 0 ∷ 0 ∷ [])
+    -- falling only where both are within the limit: `4294967297-4294967296`
+    ∷ refusing (52 ∷ 50 ∷ 57 ∷ 52 ∷ 57 ∷ 54 ∷ 55 ∷ 50 ∷ 57 ∷ 55 ∷ 45 ∷ over) 16
+    -- the first bad token decides: `4294967296,x`, `4294967296,,`; `x,4294967296`, `1,,4294967296`, `5-3,4294967296`
+    ∷ refusing (over ++ 44 ∷ 120 ∷ []) 16
+    ∷ refusing (over ++ 44 ∷ 44 ∷ []) 16
+    ∷ refusing (120 ∷ 44 ∷ over) 7
+    ∷ refusing (49 ∷ 44 ∷ 44 ∷ over) 7
+    ∷ refusing (53 ∷ 45 ∷ 51 ∷ 44 ∷ over) 7
+    -- 8 before, 6 after: a byte FF, and 4294967295, which has no space in two words
+    ∷ refusing (over ++ 0xff ∷ []) 8
+    ∷ refusing (52 ∷ 50 ∷ 57 ∷ 52 ∷ 57 ∷ 54 ∷ 55 ∷ 50 ∷ 57 ∷ 53 ∷ 44 ∷ over) 16
     ∷ []
 
 -- every row comes out as it says
@@ -200,3 +248,6 @@ StarredHold = Hold starred
 
 abbrev pub StyledHold : Type 0
 StyledHold = Hold styled
+
+abbrev pub FaultedHold : Type 0
+FaultedHold = Hold faulted

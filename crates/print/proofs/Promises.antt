@@ -32,9 +32,9 @@ use Rattle.style.specs.Styles.{allowed}
 use Rattle.style.specs.Promises.{Allowed}
 use Rattle.style.specs.declared.Style.{Style}
 use Rattle.style.proofs.Promises.{styles-mean}
-use Rattle.text.specs.Lists.{plain, Range, range, covers}
+use Rattle.text.specs.Lists.{Range, range, covers}
 use Rattle.text.specs.Grammar as g
-use Rattle.text.specs.Readings.{empty, token, reads, notList, parsed, parse, readingList}
+use Rattle.text.specs.Readings.{readingList}
 use Rattle.print.specs.Texts.{runs, decimal, pieces, text, textOf, fitted, replaced, listAnswer, listBuffer, Prints}
 use Rattle.print.specs.Forms.{Runs, none, more, PrintedRuns, IsText}
 use Rattle.print.specs.Promises.{PrintsShortest, PrintsRuns, PrintsOne, NotPrinted, TextPut, PutOrShort, PrintsText, WriteListMeans, RefusesStyle, TextMeans, ReadsBack}
@@ -42,7 +42,7 @@ use Rattle.print.proofs.Decimals.{decimal-digits, digits-most}
 use Rattle.print.proofs.Printed.{runs-printed, printed-only}
 use Rattle.print.proofs.Runs.{runs-are, runs-cover}
 use Rattle.print.proofs.ReadBack.{prints-nothing, text-is-list, lists-members, reads-back}
-use Rattle.text.proofs.Taken.{list-is}
+use Rattle.text.proofs.Taken.{list-empty}
 use Rattle.text.proofs.Promises.{covers-within, within-covers}
 
 -- ---- numbers
@@ -100,18 +100,10 @@ prints-one y ok b h t =
       λ e. (runs b, has, subst (λ (u : List ℕ). PrintedRuns y u (runs b)) (sym e) (runs-printed y ok (b .members) 0 (runs b) has)),
     )
 
-none-plain : plain [] ≡ true
-unfolding plain
-none-plain = refl
-
-none-parsed : (y : Style) → parse y [] ≡ notList
-unfolding parse reads parsed token empty
-none-parsed y = refl
-
 pub text-of : TextMeans
 text-of y ok b h small = record {
   empty = prints-nothing y ok b h small;
-  refused = λ c old. (NotList, list-is y [] c old notList (styles-mean y .0 ok) none-plain (none-parsed y), refl);
+  refused = λ c old. (NotList, list-empty y c old (styles-mean y .0 ok), refl);
   some = λ i e.
       let ps : List Range = pieces (y .shortest) (runs b) in
       let m : (j : ℕ) → covers ps j ≡ b .members j = lists-members y ok b h small i e in

@@ -68,7 +68,7 @@ pub(crate) fn sound(line: &[u64; 300], count: usize) -> bool {
     line[PART] <= ROUND_TRIP
         && line[BLANK] <= 1
         && line[CAPACITY] <= STORE as u64
-        && line[NUMBER] <= 15
+        && line[NUMBER] <= 16
         && line[SIZE] <= BUFFER as u64
         && line[LENGTH] <= BUFFER as u64
         && count == BYTES + (at_most(line[LENGTH], BUFFER) + 7) / 8

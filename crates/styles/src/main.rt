@@ -13,7 +13,7 @@ use libc::STDOUT_FILENO;
 const LAST: u64 = 15;
 
 // Replays a case.
-fn one(numbers: &[u64; 300], counts: &mut [u64; 74]) {
+fn one(numbers: &[u64; 300], counts: &mut [u64; 78]) {
     let part = numbers[case::PART];
     let number = numbers[case::NUMBER];
     let what = case::replay(numbers);
@@ -24,13 +24,13 @@ fn one(numbers: &[u64; 300], counts: &mut [u64; 74]) {
 }
 
 // How the list ended; no further line is read.
-fn ended(counts: &mut [u64; 74], how: u64) -> usize {
+fn ended(counts: &mut [u64; 78], how: u64) -> usize {
     counts[tally::ENDED] = how;
     LOST
 }
 
 // The place after a line; LOST where the list ends with it or it can't be read.
-fn taken(l: Line, end: usize, numbers: &[u64; 300], counts: &mut [u64; 74]) -> usize {
+fn taken(l: Line, end: usize, numbers: &[u64; 300], counts: &mut [u64; 78]) -> usize {
     if l.count == 2 && numbers[0] == LAST && numbers[1] == counts[tally::LINE] {
         if l.at == end {
             return ended(counts, tally::WHOLE);
@@ -45,7 +45,7 @@ fn taken(l: Line, end: usize, numbers: &[u64; 300], counts: &mut [u64; 74]) -> u
 }
 
 // Every line, up to the last or one that can't be read; each takes a byte or more.
-fn lines(s: &[u8], counts: &mut [u64; 74]) {
+fn lines(s: &[u8], counts: &mut [u64; 78]) {
     let mut numbers = [0u64; 300];
     let mut at: usize = 0;
     for turn in 0..s.len() {
@@ -60,7 +60,7 @@ fn lines(s: &[u8], counts: &mut [u64; 74]) {
 
 // The list is the first n bytes; where it fills them all, some may be missing.
 fn replay(s: &[u8], n: usize) {
-    let mut counts = [0u64; 74];
+    let mut counts = [0u64; 78];
     if n >= s.len() {
         io::write_all(STDOUT_FILENO, b"the list is too long\n");
         return;

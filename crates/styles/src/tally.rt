@@ -1,19 +1,19 @@
 // What was met: for each part and in all, the cases by the number that they should answer, and the mismatches.
 use libc::STDOUT_FILENO;
 
-// Three parts and the total have a row each: a count for each number to 15, the mismatches and the cases.
+// Three parts and the total have a row each: a count for each number to 16, the mismatches and the cases.
 const TOTAL: usize = 3;
 
-const ROW: usize = 18;
+const ROW: usize = 19;
 
-const WRONG: usize = 16;
+const WRONG: usize = 17;
 
-const CASES: usize = 17;
+const CASES: usize = 18;
 
 // Then come the number of the line, and how the list ended.
-pub const LINE: usize = 72;
+pub const LINE: usize = 76;
 
-pub const ENDED: usize = 73;
+pub const ENDED: usize = 77;
 
 // How a list ends: cut, after its last line, at a line that can't be read, or with more behind its last line.
 const CUT: u64 = 0;
@@ -35,27 +35,27 @@ fn show(n: u64, text: &[u8]) {
 }
 
 // One more at a place.
-pub(crate) fn more(counts: &mut [u64; 74], place: usize) {
-    if place < 74 {
+pub(crate) fn more(counts: &mut [u64; 78], place: usize) {
+    if place < 78 {
         counts[place] = std::num::wrapping_add_u64(counts[place], 1);
     }
 }
 
 // One more in a part, and in the total.
-fn both(counts: &mut [u64; 74], part: usize, place: usize) {
+fn both(counts: &mut [u64; 78], part: usize, place: usize) {
     more(counts, part % 3 * ROW + place % ROW);
     more(counts, TOTAL * ROW + place % ROW);
 }
 
 // A case of a part, and the number that is right.
-pub(crate) fn case(counts: &mut [u64; 74], part: u64, number: u64) {
+pub(crate) fn case(counts: &mut [u64; 78], part: u64, number: u64) {
     let row = (part % 3) as usize;
-    both(counts, row, (number % 16) as usize);
+    both(counts, row, (number % 17) as usize);
     both(counts, row, CASES);
 }
 
 // A mismatch: the number that is right, and whether something else was answered or left.
-pub(crate) fn mismatch(counts: &mut [u64; 74], part: u64, number: u64, answer: bool) {
+pub(crate) fn mismatch(counts: &mut [u64; 78], part: u64, number: u64, answer: bool) {
     both(counts, (part % 3) as usize, WRONG);
     put(b"line ");
     show(counts[LINE], b": number ");
@@ -77,8 +77,8 @@ fn met(n: usize, cases: u64) {
 }
 
 // The cases of a row by their numbers.
-fn by_number(counts: &[u64; 74], row: usize) {
-    for n in 0..16 {
+fn by_number(counts: &[u64; 78], row: usize) {
+    for n in 0..17 {
         met(n, counts[row % 4 * ROW + n]);
     }
 }
@@ -92,7 +92,7 @@ fn name(row: usize) {
     }
 }
 
-fn summary(counts: &[u64; 74], row: usize) {
+fn summary(counts: &[u64; 78], row: usize) {
     let first = row % 4 * ROW;
     name(row);
     show(counts[first + CASES], b" cases, ");
@@ -101,14 +101,14 @@ fn summary(counts: &[u64; 74], row: usize) {
     put(b"\n");
 }
 
-fn summaries(counts: &[u64; 74]) {
+fn summaries(counts: &[u64; 78]) {
     for row in 0..4 {
         summary(counts, row);
     }
 }
 
 // A line for each part and for the total, and one more where the list is not whole.
-pub(crate) fn report(counts: &[u64; 74]) {
+pub(crate) fn report(counts: &[u64; 78]) {
     summaries(counts);
     let line = counts[LINE];
     match counts[ENDED] {

@@ -12,12 +12,15 @@ use Rattle.style.specs.Promises.{Allowed}
 use Rattle.style.specs.declared.Style.{Style}
 use Rattle.text.specs.Lists.{comma, listLimit, blank, digit, Range, zeroDigit}
 use Rattle.text.specs.Grammar as g
+use Rattle.text.specs.Faults.{Written, digits}
 use Rattle.text.specs.Readings.{tooLarge, bitOf}
-use Rattle.text.specs.Readings.{kind, NumberSoFar, Unread, Open, Closed, Part, part, fresh, value, unread, empty, ranged, token, byJoiner, byKind, TextSoFar, reading, tokenEnds, after, next, reads}
+use Rattle.text.specs.Readings.{kind, NumberSoFar, Unread, Open, Closed, Left, Alone, From, Part, part, fresh, value, unread, empty, ranged, token, byJoiner, byKind, TextSoFar, reading, tokenEnds, after, next, reads}
 use Rattle.text.specs.Readings.{notList, ranges, textEnds, parsed, parse}
 use Rattle.text.specs.declared.Kind.{Kind}
 use Rattle.text.specs.declared.Value.{Value}
-use Rattle.text.specs.declared.Value.the-variants.{Of, Missing}
+use Rattle.text.specs.declared.Value.the-variants.{Of, Bad}
+use Rattle.text.specs.declared.Fault.{Fault}
+use Rattle.text.specs.declared.Fault.the-variants.{Slip}
 use Rattle.text.specs.declared.Token.the-variants.{Range as Ranging, NoRange}
 use Rattle.text.proofs.Steps.{kind-digit, kind-blank, kind-joiner, kind-comma, kind-other, chosen, token-at, bit-of}
 use Rattle.text.specs.declared.Kind.the-variants.{Digit, Blank, Joiner, Comma, Other}
@@ -108,7 +111,7 @@ module _ (st : Style) (ok : Allowed st) where
   unfolding reads
   reads-one x c = refl
 
-  reads-cons : (x : TextSoFar) (c : ℕ) (t : List ℕ) → reads st x (c ∷ t) ≡ reads st (next st x c) t
+  pub reads-cons : (x : TextSoFar) (c : ℕ) (t : List ℕ) → reads st x (c ∷ t) ≡ reads st (next st x c) t
   unfolding reads
   reads-cons x c t = refl
 
@@ -118,19 +121,19 @@ module _ (st : Style) (ok : Allowed st) where
 
   -- ---- every text of the grammar is read
 
-  blanks-none : (rs : List Range) (l : Value) {t : List ℕ} → g.Blanks t → reads st (reading rs (part l Unread)) t ≡ reading rs (part l Unread)
+  pub blanks-none : (rs : List Range) (l : Left) {t : List ℕ} → g.Blanks t → reads st (reading rs (part l Unread)) t ≡ reading rs (part l Unread)
   unfolding reads byKind
   blanks-none rs l g.nil = refl
   blanks-none rs l (g.cons {c = c} {t = t} e b) =
       ap (λ (x : TextSoFar). reads st x t) (next-at rs (part l Unread) c (blank-kind (st .joiner) c e)) ∙ blanks-none rs l b
 
-  blanks-closed : (rs : List Range) (l : Value) (v : ℕ) {t : List ℕ} → g.Blanks t → reads st (reading rs (part l (Closed v))) t ≡ reading rs (part l (Closed v))
+  blanks-closed : (rs : List Range) (l : Left) (v : ℕ) {t : List ℕ} → g.Blanks t → reads st (reading rs (part l (Closed v))) t ≡ reading rs (part l (Closed v))
   unfolding reads byKind
   blanks-closed rs l v g.nil = refl
   blanks-closed rs l v (g.cons {c = c} {t = t} e b) =
       ap (λ (x : TextSoFar). reads st x t) (next-at rs (part l (Closed v)) c (blank-kind (st .joiner) c e)) ∙ blanks-closed rs l v b
 
-  digits-read : (rs : List Range) (l : Value) {t : List ℕ} {v : ℕ} → g.Digits t v → reads st (reading rs (part l Unread)) t ≡ reading rs (part l (Open (min tooLarge v)))
+  digits-read : (rs : List Range) (l : Left) {t : List ℕ} {v : ℕ} → g.Digits t v → reads st (reading rs (part l Unread)) t ≡ reading rs (part l (Open (min tooLarge v)))
   unfolding byKind
   digits-read rs l (g.one {c = c} e) =
       reads-one (reading rs (part l Unread)) c ∙ next-at rs (part l Unread) c (kind-digit (st .joiner) c (is-digit c e))
@@ -142,78 +145,84 @@ module _ (st : Style) (ok : Allowed st) where
       ∙ next-at rs (part l (Open (min tooLarge v))) c (kind-digit (st .joiner) c (is-digit c e))
       ∙ ap (λ (x : ℕ). reading rs (part l (Open x))) (omega arith)
 
-  -- a number that was read: n is what is kept of it
-  record Kept (rs : List Range) (l : Value) (t : List ℕ) (v : ℕ) : Type 0 where
-    n : NumberSoFar
-    read : reads st (reading rs (part l Unread)) t ≡ reading rs (part l n)
-    is : value (st .first) n ≡ Of v
-    full : unread n ≡ false
-
-  -- a number of an allowed style is not too large
-  bit-kept : (a : ℕ) → a ≤ listLimit → bitOf (st .first) (min tooLarge (a + st .first)) ≡ Of a
-  bit-kept a h = bit-of (st .first) (min tooLarge (a + st .first)) a (omega (arith, ok .first)) h
+  -- digits that were read, blanks around them: n is what is kept of them, and x what that is worth
+  pub record Kept (rs : List Range) (l : Left) (t : List ℕ) (x : Value) : Type 0 where
+    pub n : NumberSoFar
+    pub read : reads st (reading rs (part l Unread)) t ≡ reading rs (part l n)
+    pub is : value (st .first) n ≡ x
+    pub full : unread n ≡ false
 
   -- blanks after the digits
-  tail-read : (rs : List Range) (l : Value) (a : ℕ) → a ≤ listLimit → {w : List ℕ} → g.Blanks w
-      → (n : NumberSoFar) × (reads st (reading rs (part l (Open (min tooLarge (a + st .first))))) w ≡ reading rs (part l n)) × (value (st .first) n ≡ Of a) × (unread n ≡ false)
+  tail-read : (rs : List Range) (l : Left) (v : ℕ) {w : List ℕ} → g.Blanks w
+      → (n : NumberSoFar) × (reads st (reading rs (part l (Open v))) w ≡ reading rs (part l n)) × (value (st .first) n ≡ bitOf (st .first) v) × (unread n ≡ false)
   unfolding reads byKind value
-  tail-read rs l a h g.nil = (Open (min tooLarge (a + st .first)), refl, bit-kept a h, refl)
-  tail-read rs l a h (g.cons {c = c} {t = t} e b) = (
-    Closed (min tooLarge (a + st .first)),
-    ap (λ (x : TextSoFar). reads st x t) (next-at rs (part l (Open (min tooLarge (a + st .first)))) c (blank-kind (st .joiner) c e))
-        ∙ blanks-closed rs l (min tooLarge (a + st .first)) b,
-    bit-kept a h,
+  tail-read rs l v g.nil = (Open v, refl, refl, refl)
+  tail-read rs l v (g.cons {c = c} {t = t} e b) = (
+    Closed v,
+    ap (λ (x : TextSoFar). reads st x t) (next-at rs (part l (Open v)) c (blank-kind (st .joiner) c e)) ∙ blanks-closed rs l v b,
+    refl,
     refl,
   )
 
-  number-read : (rs : List Range) (l : Value) {t : List ℕ} {v : ℕ} → g.Numeral st t v → Kept rs l t v
-  number-read rs l (g.number {u = u} {d = d} {w = w} {a = a} b x y h) =
-      let q = tail-read rs l a h y in
+  pub written-read : (rs : List Range) (l : Left) {t : List ℕ} {v : ℕ} {x : Value} → Written t v → bitOf (st .first) (min tooLarge v) ≡ x → Kept rs l t x
+  written-read rs l (digits {u = u} {d = d} {w = w} {v = v} b x y) e =
+      let q = tail-read rs l (min tooLarge v) y in
       record {
         n = q .0;
         read =
             reads-append (reading rs (part l Unread)) (u ++ d) w
             ∙ ap (λ (z : TextSoFar). reads st z w) (reads-append (reading rs (part l Unread)) u d ∙ ap (λ (z : TextSoFar). reads st z d) (blanks-none rs l b) ∙ digits-read rs l x)
             ∙ q .1;
-        is = q .2;
+        is = q .2 ∙ e;
         full = q .3;
       }
 
-  -- a token
-  part-token : (l : Value) (n : NumberSoFar) {v : ℕ} → value (st .first) n ≡ Of v → unread n ≡ false → token (st .first) (part l n) ≡ ranged l (Of v)
-  unfolding empty
-  part-token Missing n e f = token-at (st .first) (part Missing n) f refl e
-  part-token (Of a) n e f = token-at (st .first) (part (Of a) n) refl refl e
+  -- a number of an allowed style is not too large
+  pub number-read : (rs : List Range) (l : Left) {t : List ℕ} {a : ℕ} → g.Numeral st t a → Kept rs l t (Of a)
+  number-read rs l (g.number {a = a} b x y h) =
+      written-read rs l (digits b x y) (bit-of (st .first) (min tooLarge (a + st .first)) a (omega (arith, ok .first)) h)
 
-  joiner-read : (rs : List Range) (n : NumberSoFar) {a : ℕ} → value (st .first) n ≡ Of a → next st (reading rs (part Missing n)) (st .joiner) ≡ reading rs (part (Of a) Unread)
+  -- a token
+  pub part-token : (l : Left) (n : NumberSoFar) {x : Value} → value (st .first) n ≡ x → unread n ≡ false → token (st .first) (part l n) ≡ ranged l x
+  unfolding empty
+  part-token Alone n e f = token-at (st .first) (part Alone n) f refl e
+  part-token (From a) n e f = token-at (st .first) (part (From a) n) refl refl e
+
+  joiner-read : (rs : List Range) (n : NumberSoFar) {x : Value} → value (st .first) n ≡ x
+      → next st (reading rs (part Alone n)) (st .joiner) ≡ after (st .first) rs (part Alone n) (byJoiner Alone x)
   unfolding byKind
   joiner-read rs n e =
-      next-at rs (part Missing n) (st .joiner) (kind-joiner (st .joiner) (st .joiner) (apart .digit) (apart .blank) refl)
-      ∙ ap (λ (x : Value). after (st .first) rs (part Missing n) (byJoiner Missing x)) e
+      next-at rs (part Alone n) (st .joiner) (kind-joiner (st .joiner) (st .joiner) (apart .digit) (apart .blank) refl)
+      ∙ ap (λ (x : Value). after (st .first) rs (part Alone n) (byJoiner Alone x)) e
 
-  comma-read : (rs : List Range) (p : Part) → next st (reading rs p) comma ≡ tokenEnds rs (token (st .first) p)
+  -- past the joiner
+  pub past-joiner : (rs : List Range) (t : List ℕ) (n : NumberSoFar) {x : Value} → reads st (reading rs fresh) t ≡ reading rs (part Alone n) → value (st .first) n ≡ x → (u : List ℕ)
+      → reads st (reading rs fresh) (t ++ st .joiner ∷ u) ≡ reads st (after (st .first) rs (part Alone n) (byJoiner Alone x)) u
+  past-joiner rs t n e f u =
+      reads-append (reading rs fresh) t (st .joiner ∷ u)
+      ∙ ap (λ (z : TextSoFar). reads st z (st .joiner ∷ u)) e
+      ∙ reads-cons (reading rs (part Alone n)) (st .joiner) u
+      ∙ ap (λ (z : TextSoFar). reads st z u) (joiner-read rs n f)
+
+  pub comma-read : (rs : List Range) (p : Part) → next st (reading rs p) comma ≡ tokenEnds rs (token (st .first) p)
   unfolding byKind
   comma-read rs p = next-at rs p comma (kind-comma (st .joiner) comma refl refl (apart .comma) refl)
 
   token-read : (rs : List Range) {t : List ℕ} {r : Range} → g.Token st t r
       → (p : Part) × (reads st (reading rs fresh) t ≡ reading rs p) × (token (st .first) p ≡ Ranging (r .low) (r .high))
   token-read rs (g.single {t = t} {a = a} x) =
-      let q = number-read rs Missing x in
-      (part Missing (q .n), q .read, part-token Missing (q .n) (q .is) (q .full))
+      let q = number-read rs Alone x in
+      (part Alone (q .n), q .read, part-token Alone (q .n) (q .is) (q .full))
   token-read rs (g.pair {t = t} {u = u} {a = a} {b = b} x y h) =
-      let q = number-read rs Missing x in
-      let s = number-read rs (Of a) y in (
-        part (Of a) (s .n),
-        reads-append (reading rs fresh) t (st .joiner ∷ u)
-            ∙ ap (λ (z : TextSoFar). reads st z (st .joiner ∷ u)) (q .read)
-            ∙ reads-cons (reading rs (part Missing (q .n))) (st .joiner) u
-            ∙ ap (λ (z : TextSoFar). reads st z u) (joiner-read rs (q .n) (q .is))
-            ∙ s .read,
-        part-token (Of a) (s .n) (s .is) (s .full) ∙ chosen (Ranging a b) NoRange (le-leb a b h),
+      let q = number-read rs Alone x in
+      let s = number-read rs (From a) y in (
+        part (From a) (s .n),
+        past-joiner rs t (q .n) (q .read) (q .is) u ∙ s .read,
+        part-token (From a) (s .n) (s .is) (s .full) ∙ chosen (Ranging a b) (NoRange Slip) (le-leb a b h),
       )
 
   -- up to a comma
-  upto-comma : (rs : List Range) {t : List ℕ} {r : Range} → g.Token st t r → (u : List ℕ) → reads st (reading rs fresh) (t ++ comma ∷ u) ≡ reads st (reading (rs ++ r ∷ []) fresh) u
+  pub upto-comma : (rs : List Range) {t : List ℕ} {r : Range} → g.Token st t r → (u : List ℕ) → reads st (reading rs fresh) (t ++ comma ∷ u) ≡ reads st (reading (rs ++ r ∷ []) fresh) u
   upto-comma rs {t} x u =
       let q = token-read rs x in
       reads-append (reading rs fresh) t (comma ∷ u)
@@ -229,7 +238,7 @@ module _ (st : Style) (ok : Allowed st) where
   list-read : (rs : List Range) {t : List ℕ} {qs : List Range} → g.Listed st t qs → parsed (st .first) (reads st (reading rs fresh) t) ≡ ranges (rs ++ qs)
   unfolding parsed
   list-read rs (g.last x) = let q = token-read rs x in ap (parsed (st .first)) (q .1) ∙ ap (textEnds rs) (q .2)
-  list-read rs (g.ended {u = u} {r = r} x b) = ap (parsed (st .first)) (upto-comma rs x u ∙ blanks-none (rs ++ r ∷ []) Missing b) ∙ ended-parsed rs r
+  list-read rs (g.ended {u = u} {r = r} x b) = ap (parsed (st .first)) (upto-comma rs x u ∙ blanks-none (rs ++ r ∷ []) Alone b) ∙ ended-parsed rs r
   list-read rs (g.more {u = u} {r = r} {rs = qs} x y) =
       ap (parsed (st .first)) (upto-comma rs x u) ∙ list-read (rs ++ r ∷ []) y ∙ ap ranges (append-assoc rs (r ∷ []) qs)
 
@@ -238,6 +247,6 @@ module _ (st : Style) (ok : Allowed st) where
   complete x = list-read [] x
 
   -- digits that are no number of the style
-  pub no-number : {d : List ℕ} {v : ℕ} → g.Digits d v → bitOf (st .first) (min tooLarge v) ≡ Missing → parse st d ≡ notList
+  pub no-number : {d : List ℕ} {v : ℕ} (f : Fault) → g.Digits d v → bitOf (st .first) (min tooLarge v) ≡ Bad f → parse st d ≡ notList f
   unfolding parse parsed token empty value
-  no-number x e = ap (parsed (st .first)) (digits-read [] Missing x) ∙ ap (λ (z : Value). textEnds [] (ranged Missing z)) e
+  no-number f x e = ap (parsed (st .first)) (digits-read [] Alone x) ∙ ap (λ (z : Value). textEnds [] (ranged Alone z)) e

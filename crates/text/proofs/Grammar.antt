@@ -1,293 +1,163 @@
--- A text is read as the list of ranges that the grammar gives it, and no other text is read.
-use mathlib.Core.Path.{_≡_, refl, sym, ap, _∙_, subst, subst₂}
-use mathlib.Core.Logic.{⊎-elim, _⊎_, inl, inr, _↔_}
-use mathlib.Core.Bool.{Bool, true, false, false≢true, true≢false}
-use mathlib.Core.List.{List, [], _∷_, _++_, append-assoc, append-nil}
-use Prim.Native.Nat.{ℕ, _+_, _-_, _*_, _≤_, min}
+-- A text is a list, or its first bad token is none, or is huge: it is cut at its commas, and each token at its first joiner. So what is read is what the grammar says.
+use mathlib.Core.Path.{_≡_, refl, sym, ap, _∙_, subst}
+use mathlib.Core.Logic.{_⊎_, ⊎-elim, inl, inr}
+use mathlib.Core.Bool.{false≢true}
+use mathlib.Core.List.{List, [], _∷_, _++_}
+use Prim.Native.Nat.{ℕ, _+_, _≤_, _<_}
 use native.Mathlib.Omega.{arith}
-use lib.Dec.{leb}
-use borrow.Author.Tests.{leb-true}
-use Rattle.word.specs.Sets.{choose}
-use Rattle.word.proofs.Cases.{zero-one}
+use lib.Dec.{eqb}
+use borrow.Author.Tests.{eqb-true, eqb-false}
+use Rattle.word.proofs.Cases.{zero-one, by-lt, by-test}
 use Rattle.style.specs.Promises.{Allowed}
 use Rattle.style.specs.declared.Style.{Style}
-use Rattle.text.specs.Lists.{comma, zeroDigit, Range, range}
+use Rattle.text.specs.Lists.{comma, blank, Range, range}
 use Rattle.text.specs.Grammar as g
-use Rattle.text.specs.Readings.{tooLarge, bitOf}
-use Rattle.text.specs.Readings.{kind, grown, NumberSoFar, Unread, Open, Closed, Part, part, fresh, value, unread, empty, ranged, token, Step, Go, Ends, Stop, byDigit, byBlank, byJoiner, byKind}
-use Rattle.text.specs.Readings.{TextSoFar, bad, reading, tokenEnds, after, reads, notList, ranges, textEnds, parsed, parse}
-use Rattle.text.specs.declared.Kind.{Kind}
-use Rattle.text.specs.declared.Value.{Value}
-use Rattle.text.specs.declared.Value.the-variants.{Of, Missing}
-use Rattle.text.specs.declared.Token.{Token}
-use Rattle.text.specs.declared.Token.the-variants.{Range as Ranging, Empty, NoRange}
-use Rattle.text.proofs.Steps.{bit-is}
-use Rattle.text.proofs.Tokens.{reads-bad, some}
-use Rattle.text.proofs.Accepts.{IsKind, isDigit, isBlank, isJoiner, isComma, isOther, kind-is, next-at, complete}
+use Rattle.text.specs.Faults as b
+use Rattle.text.specs.Readings.{Alone, From, Parsed, notList, ranges, parse}
+use Rattle.text.specs.declared.Fault.{Fault}
+use Rattle.text.specs.declared.Fault.the-variants.{Slip, Huge}
+use Rattle.text.proofs.Accepts.{blank-is, is-blank, complete}
+use Rattle.text.proofs.Numbers.{cut, any, Judged, good, huge, none, judge}
+use Rattle.text.proofs.Refuses.{slips, huge-ones}
+
+-- ---- a text and a byte
+
+-- in pieces, each of which has not the byte
+data Pieces (c : ℕ) : List ℕ → Type 0 where
+  last : {t : List ℕ} → b.Free c t → Pieces c t
+  more : {t u : List ℕ} → b.Free c t → Pieces c u → Pieces c (t ++ c ∷ u)
+
+pieces : (c : ℕ) (t : List ℕ) → Pieces c t
+pieces c [] = last b.nil
+pieces c (d ∷ t) =
+    by-test (eqb d c)
+    (λ e. subst (λ (x : ℕ). Pieces c (x ∷ t)) (sym (eqb-true d c e)) (more {t = []} b.nil (pieces c t)))
+    (λ e. longer (eqb-false d c e) (pieces c t))
+  where
+    longer : (d ≡ c → ⊥) → {t : List ℕ} → Pieces c t → Pieces c (d ∷ t)
+    longer h (last f) = last (b.cons h f)
+    longer h (more {t = t} f p) = more {t = d ∷ t} (b.cons h f) p
+
+-- what is on either side of another byte
+free-left : {c : ℕ} (t : List ℕ) (d : ℕ) (u : List ℕ) → b.Free c (t ++ d ∷ u) → b.Free c t
+free-left [] d u f = b.nil
+free-left (x ∷ t) d u (b.cons h f) = b.cons h (free-left t d u f)
+
+free-right : {c : ℕ} (t : List ℕ) (d : ℕ) (u : List ℕ) → b.Free c (t ++ d ∷ u) → b.Free c u
+free-right [] d u (b.cons h f) = f
+free-right (x ∷ t) d u (b.cons h f) = free-right t d u f
+
+all-blank : (t : List ℕ) → g.Blanks t ⊎ (g.Blanks t → ⊥)
+all-blank [] = inl g.nil
+all-blank (c ∷ t) =
+    by-test (blank c)
+    (λ e. ⊎-elim (λ x. inl (g.cons (blank-is c e) x)) (λ h. inr (λ x. h (rest x))) (all-blank t))
+    (λ e. inr (λ x. false≢true (sym e ∙ is-blank c (head x))))
+  where
+    head : {c : ℕ} {t : List ℕ} → g.Blanks (c ∷ t) → g.Blank c
+    head (g.cons e x) = e
+
+    rest : {c : ℕ} {t : List ℕ} → g.Blanks (c ∷ t) → g.Blanks t
+    rest (g.cons e x) = x
 
 module _ (st : Style) (ok : Allowed st) where
-  -- ---- what is read
+  -- ---- every token is good, huge or none
 
-  -- a number, as far as it is read
-  data Begun : NumberSoFar → List ℕ → Type 0 where
-    blanks : {y : List ℕ} → g.Blanks y → Begun Unread y
-    opened : {x : ℕ} {y : List ℕ} (u d : List ℕ) (v : ℕ) → g.Blanks u → g.Digits d v → x ≡ min tooLarge v → y ≡ u ++ d → Begun (Open x) y
-    closed : {x : ℕ} {y : List ℕ} (u d w : List ℕ) (v : ℕ) → g.Blanks u → g.Digits d v → g.Blanks w → x ≡ min tooLarge v → y ≡ u ++ d ++ w → Begun (Closed x) y
+  data Told (t : List ℕ) : Type 0 where
+    right : (r : Range) → g.Token st t r → Told t
+    large : b.HugeToken st t → Told t
+    wrong : b.NoToken st t → Told t
 
-  -- a token, as far as it is read
-  data Part-of : Value → NumberSoFar → List ℕ → Type 0 where
-    first : {n : NumberSoFar} {y : List ℕ} → Begun n y → Part-of Missing n y
-    second : {a : ℕ} {n : NumberSoFar} {z : List ℕ} (t y : List ℕ) → g.Numeral st t a → Begun n y → z ≡ t ++ st .joiner ∷ y → Part-of (Of a) n z
+  one-number : {t : List ℕ} → b.Free comma t → b.Free (st .joiner) t → Judged st ok t → Told t
+  one-number f j (good a x) = right (range a a) (g.single x)
+  one-number f j (huge x) = large (b.single x)
+  one-number f j (none x) = wrong (b.single f j x)
 
-  blanks-snoc : {u : List ℕ} (c : ℕ) → g.Blanks u → g.Blank c → g.Blanks (u ++ c ∷ [])
-  blanks-snoc c g.nil e = g.cons e g.nil
-  blanks-snoc c (g.cons f b) e = g.cons f (blanks-snoc c b e)
+  second : {t u : List ℕ} (a : ℕ) → g.Numeral st t a → b.Free comma u → Judged st ok u → Told (t ++ st .joiner ∷ u)
+  second a x f (good c y) = by-lt c a (λ h. wrong (b.falling x y h)) (λ h. right (range a c) (g.pair x y h))
+  second a x f (huge y) = large (b.right x y)
+  second a x f (none y) = wrong (b.right x f y)
 
-  begun-digit : (c : ℕ) → g.Digit c → (n : NumberSoFar) (y : List ℕ) → Begun n y → (l : Value) (q : Part) → byDigit l n (c - zeroDigit) ≡ Go q
-      → (q .left ≡ l) × Begun (q .number) (y ++ c ∷ [])
-  begun-digit c e Unread y (blanks b) l q h =
-      let hl : q .left ≡ l = cc in
-      let hn : q .number ≡ Open (c - zeroDigit) = cc in
-      (hl, subst (λ (n : NumberSoFar). Begun n (y ++ c ∷ [])) (sym hn) (opened y (c ∷ []) (c - zeroDigit) b (g.one e) (omega arith) refl))
-  begun-digit c e (Open x) y (opened u d v b s ex ey) l q h =
-      let hl : q .left ≡ l = cc in
-      let hn : q .number ≡ Open (grown x (c - zeroDigit)) = cc in (
-        hl,
-        subst (λ (n : NumberSoFar). Begun n (y ++ c ∷ [])) (sym hn)
-            (opened u (d ++ c ∷ []) (10 * v + (c - zeroDigit)) b (g.more c s e) (omega arith) (ap (λ (z : List ℕ). z ++ c ∷ []) ey ∙ append-assoc u d (c ∷ []))),
-      )
-  begun-digit c e (Closed x) y (closed u d w v b s b' ex ey) l q h = zero-one cc
+  first : {t u : List ℕ} → b.Free comma t → b.Free comma u → b.Free (st .joiner) t → Judged st ok t → Told (t ++ st .joiner ∷ u)
+  first {u = u} f k j (good a x) = second a x k (judge st ok (From a) u k any)
+  first f k j (huge x) = large (b.left x k)
+  first f k j (none x) = wrong (b.left f j x k)
 
-  begun-blank : (c : ℕ) → g.Blank c → (n : NumberSoFar) (y : List ℕ) → Begun n y → (l : Value) (q : Part) → byBlank l n ≡ Go q
-      → (q .left ≡ l) × Begun (q .number) (y ++ c ∷ [])
-  begun-blank c e Unread y (blanks b) l q h =
-      let hl : q .left ≡ l = cc in
-      let hn : q .number ≡ Unread = cc in
-      (hl, subst (λ (n : NumberSoFar). Begun n (y ++ c ∷ [])) (sym hn) (blanks (blanks-snoc c b e)))
-  begun-blank c e (Open x) y (opened u d v b s ex ey) l q h =
-      let hl : q .left ≡ l = cc in
-      let hn : q .number ≡ Closed x = cc in
-      (hl, subst (λ (n : NumberSoFar). Begun n (y ++ c ∷ [])) (sym hn) (closed u d (c ∷ []) v b s (g.cons e g.nil) ex (ap (λ (z : List ℕ). z ++ c ∷ []) ey)))
-  begun-blank c e (Closed x) y (closed u d w v b s b' ex ey) l q h =
-      let hl : q .left ≡ l = cc in
-      let hn : q .number ≡ Closed x = cc in (
-        hl,
-        subst (λ (n : NumberSoFar). Begun n (y ++ c ∷ [])) (sym hn)
-            (closed u d (w ++ c ∷ []) v b s (blanks-snoc c b' e) ex (ap (λ (z : List ℕ). z ++ c ∷ []) ey ∙ append-assoc (u ++ d) w (c ∷ []))),
-      )
+  token : {t : List ℕ} → Pieces (st .joiner) t → b.Free comma t → Told t
+  token (last {t = t} j) f = one-number f j (judge st ok Alone t f (cut j))
+  token (more {t = t} {u = u} j p) f =
+      let k = free-left t (st .joiner) u f in
+      first k (free-right t (st .joiner) u f) j (judge st ok Alone t k (cut j))
 
-  -- a number that ended
-  number-of : (u d w : List ℕ) (v x a : ℕ) → g.Blanks u → g.Digits d v → g.Blanks w → x ≡ min tooLarge v → bitOf (st .first) x ≡ Of a → g.Numeral st (u ++ d ++ w) a
-  number-of u d w v x a b s b' ex e =
-      let q = bit-is (st .first) x a e in
-      let k : v ≡ a + st .first = omega (arith, q .0, q .1, ok .first) in
-      g.number b (subst (g.Digits d) k s) b' (q .1)
+  -- ---- so is every text
 
-  value-correct : (n : NumberSoFar) (y : List ℕ) (a : ℕ) → Begun n y → value (st .first) n ≡ Of a → g.Numeral st y a
-  unfolding value
-  value-correct Unread y a (blanks b) e = zero-one cc
-  value-correct (Open x) y a (opened u d v b s ex ey) e =
-      subst (λ (z : List ℕ). g.Numeral st z a) (append-nil (u ++ d) ∙ sym ey) (number-of u d [] v x a b s g.nil ex e)
-  value-correct (Closed x) y a (closed u d w v b s b' ex ey) e =
-      subst (λ (z : List ℕ). g.Numeral st z a) (sym ey) (number-of u d w v x a b s b' ex e)
+  pub data Fate (t : List ℕ) : Type 0 where
+    listed : (rs : List Range) → g.Listed st t rs → Fate t
+    slip : b.NotList st t → Fate t
+    over : b.NumberOver st t → Fate t
 
-  -- one byte more
-  second-snoc : (z t y : List ℕ) (c : ℕ) → z ≡ t ++ st .joiner ∷ y → z ++ c ∷ [] ≡ t ++ st .joiner ∷ (y ++ c ∷ [])
-  second-snoc z t y c e = ap (λ (x : List ℕ). x ++ c ∷ []) e ∙ append-assoc t (st .joiner ∷ y) (c ∷ [])
+  -- the last token, and one with a comma after it
+  end : {t : List ℕ} → Told t → Fate t
+  end (right r x) = listed (r ∷ []) (g.last x)
+  end (large x) = over (b.only x)
+  end (wrong x) = slip (b.only x)
 
-  part-to : (q : Part) {l : Value} {y : List ℕ} → q .left ≡ l → Part-of l (q .number) y → Part-of (q .left) (q .number) y
-  part-to q {l} {y} e x = subst (λ (m : Value). Part-of m (q .number) y) (sym e) x
+  after-good : {t u : List ℕ} {r : Range} → g.Token st t r → g.Blanks u ⊎ (g.Blanks u → ⊥) → Fate u → Fate (t ++ comma ∷ u)
+  after-good {r = r} x (inl z) y = listed (r ∷ []) (g.ended x z)
+  after-good {r = r} x (inr h) (listed rs y) = listed (r ∷ rs) (g.more x y)
+  after-good x (inr h) (slip y) = slip (b.later x h y)
+  after-good x (inr h) (over y) = over (b.later x h y)
 
-  by-value : (a : ℕ) (v : Value) (q : Part) → byJoiner (Of a) v ≡ Go q → ⊥
-  by-value a v q h = zero-one cc
+  on : {t u : List ℕ} → Told t → Fate u → Fate (t ++ comma ∷ u)
+  on {u = u} (large x) y = over (b.here x u)
+  on {u = u} (wrong x) y = slip (b.here x u)
+  on {u = u} (right r x) y = after-good x (all-blank u) y
 
-  joined : (n : NumberSoFar) (y : List ℕ) → Begun n y → (v : Value) → value (st .first) n ≡ v → (q : Part) → byJoiner Missing v ≡ Go q → Part-of (q .left) (q .number) (y ++ st .joiner ∷ [])
-  joined n y b Missing e q h = zero-one cc
-  joined n y b (Of a) e q h =
-      let hl : q .left ≡ Of a = cc in
-      let hn : q .number ≡ Unread = cc in
-      subst₂ (λ (l : Value) (m : NumberSoFar). Part-of l m (y ++ st .joiner ∷ [])) (sym hl) (sym hn) (second y [] (value-correct n y a b e) (blanks g.nil) refl)
+  fate-of : {t : List ℕ} → Pieces comma t → Fate t
+  fate-of (last {t = t} f) = end (token (pieces (st .joiner) t) f)
+  fate-of (more {t = t} f p) = on (token (pieces (st .joiner) t) f) (fate-of p)
 
-  step-correct : (c : ℕ) {k : Kind} → IsKind (st .joiner) c k → (l : Value) (n : NumberSoFar) (y : List ℕ) → Part-of l n y → (q : Part) → byKind (st .first) (part l n) k ≡ Go q
-      → Part-of (q .left) (q .number) (y ++ c ∷ [])
-  unfolding byKind
-  step-correct c (isDigit e) Missing n y (first b) q h =
-      let r = begun-digit c e n y b Missing q h in part-to q (r .0) (first (r .1))
-  step-correct c (isDigit e) (Of a) n z (second t y x b f) q h =
-      let r = begun-digit c e n y b (Of a) q h in part-to q (r .0) (second t (y ++ c ∷ []) x (r .1) (second-snoc z t y c f))
-  step-correct c (isBlank e) Missing n y (first b) q h =
-      let r = begun-blank c e n y b Missing q h in part-to q (r .0) (first (r .1))
-  step-correct c (isBlank e) (Of a) n z (second t y x b f) q h =
-      let r = begun-blank c e n y b (Of a) q h in part-to q (r .0) (second t (y ++ c ∷ []) x (r .1) (second-snoc z t y c f))
-  step-correct c (isJoiner e) Missing n y (first b) q h =
-      subst (λ (x : ℕ). Part-of (q .left) (q .number) (y ++ x ∷ [])) (sym e) (joined n y b (value (st .first) n) refl q h)
-  step-correct c (isJoiner e) (Of a) n z (second t y x b f) q h = absurd (by-value a (value (st .first) n) q h)
-  step-correct c (isComma e) l n y x q h = zero-one cc
-  step-correct c isOther l n y x q h = zero-one cc
+  pub fate : (t : List ℕ) → Fate t
+  fate t = fate-of (pieces comma t)
 
-  -- a comma alone ends a token
-  ends-comma : (c : ℕ) {k : Kind} → IsKind (st .joiner) c k → (p : Part) → byKind (st .first) p k ≡ Ends → c ≡ comma
-  unfolding byKind
-  ends-comma c (isDigit e) p h = absurd (by-digit (p .left) (p .number) (c - zeroDigit) h)
-    where
-      by-digit : (l : Value) (n : NumberSoFar) (d : ℕ) → byDigit l n d ≡ Ends → ⊥
-      by-digit l Unread d h = zero-one cc
-      by-digit l (Open v) d h = zero-one cc
-      by-digit l (Closed v) d h = zero-one cc
-  ends-comma c (isBlank e) p h = absurd (by-blank (p .left) (p .number) h)
-    where
-      by-blank : (l : Value) (n : NumberSoFar) → byBlank l n ≡ Ends → ⊥
-      by-blank l Unread h = zero-one cc
-      by-blank l (Open v) h = zero-one cc
-      by-blank l (Closed v) h = zero-one cc
-  ends-comma c (isJoiner e) p h = absurd (by-joiner (p .left) (value (st .first) (p .number)) h)
-    where
-      by-joiner : (l v : Value) → byJoiner l v ≡ Ends → ⊥
-      by-joiner Missing Missing h = zero-one cc
-      by-joiner Missing (Of a) h = zero-one cc
-      by-joiner (Of a) v h = zero-one cc
-  ends-comma c (isComma e) p h = e
-  ends-comma c isOther p h = zero-one cc
-
-  -- a token that ended
-  ranged-correct : (l v : Value) (a b : ℕ) → ranged l v ≡ Ranging a b
-      → ((l ≡ Missing) × (v ≡ Of b) × (a ≡ b)) ⊎ ((l ≡ Of a) × (v ≡ Of b) × (a ≤ b))
-  ranged-correct Missing Missing a b e = zero-one cc
-  ranged-correct Missing (Of y) a b e = inl (refl, cc, cc)
-  ranged-correct (Of x) Missing a b e = zero-one cc
-  ranged-correct (Of x) (Of y) a b e = go (leb x y) refl e
-    where
-      go : (t : Bool) → leb x y ≡ t → choose t (Ranging x y) NoRange ≡ Ranging a b → ((Of x ≡ Missing) × (Of y ≡ Of b) × (a ≡ b)) ⊎ ((Of x ≡ Of a) × (Of y ≡ Of b) × (a ≤ b))
-      go true f h =
-          let ha : x ≡ a = cc in
-          let hb : y ≡ b = cc in
-          let q : x ≤ y = leb-true x y f in
-          inr (ap Of ha, ap Of hb, omega arith)
-      go false f h = zero-one cc
-
-  ranged-full : (l v : Value) → ranged l v ≡ Empty → ⊥
-  ranged-full Missing Missing e = zero-one cc
-  ranged-full Missing (Of y) e = zero-one cc
-  ranged-full (Of x) Missing e = zero-one cc
-  ranged-full (Of x) (Of y) e = go (leb x y) e
-    where
-      go : (t : Bool) → choose t (Ranging x y) NoRange ≡ Empty → ⊥
-      go true h = zero-one cc
-      go false h = zero-one cc
-
-  unread-is : (n : NumberSoFar) → unread n ≡ true → n ≡ Unread
-  unread-is Unread e = refl
-  unread-is (Open v) e = absurd (false≢true e)
-  unread-is (Closed v) e = absurd (false≢true e)
-
-  begun-unread : {n : NumberSoFar} {y : List ℕ} → Begun n y → n ≡ Unread → g.Blanks y
-  begun-unread (blanks b) e = b
-  begun-unread (opened u d v b s ex ey) e = zero-one cc
-  begun-unread (closed u d w v b s b' ex ey) e = zero-one cc
-
-  empty-correct : (l : Value) (n : NumberSoFar) (y : List ℕ) → Part-of l n y → token (st .first) (part l n) ≡ Empty → g.Blanks y
-  unfolding token empty
-  empty-correct Missing n y (first b) e = go (unread n) refl e
-    where
-      go : (t : Bool) → unread n ≡ t → choose t Empty (ranged Missing (value (st .first) n)) ≡ Empty → g.Blanks y
-      go true f h = begun-unread b (unread-is n f)
-      go false f h = absurd (ranged-full Missing (value (st .first) n) h)
-  empty-correct (Of a) n z (second t y x b f) e = absurd (ranged-full (Of a) (value (st .first) n) e)
-
-  token-correct : (l : Value) (n : NumberSoFar) (y : List ℕ) → Part-of l n y → (a b : ℕ) → token (st .first) (part l n) ≡ Ranging a b → g.Token st y (range a b)
-  unfolding token empty
-  token-correct Missing n y (first x) a b e = go (unread n) e
-    where
-      go : (t : Bool) → choose t Empty (ranged Missing (value (st .first) n)) ≡ Ranging a b → g.Token st y (range a b)
-      go true h = zero-one cc
-      go false h =
-          ⊎-elim
-          (λ w. subst (λ (m : ℕ). g.Token st y (range m b)) (sym (w .2)) (g.single (value-correct n y b x (w .1))))
-          (λ w. zero-one (cc (w .0)))
-          (ranged-correct Missing (value (st .first) n) a b h)
-  token-correct (Of c) n z (second t y u x f) a b e =
-      ⊎-elim
-      (λ w. zero-one (cc (w .0)))
-      (λ w.
-      let k : c ≡ a = cc (w .0) in
-      subst (λ (m : List ℕ). g.Token st m (range a b)) (sym f) (g.pair (subst (g.Numeral st t) k u) (value-correct n y b x (w .1)) (w .2)))
-      (ranged-correct (Of c) (value (st .first) n) a b e)
-
-  -- the tokens before, each with its comma
-  record Front (f : List ℕ) (rs : List Range) : Type 0 where
-    on : (u : List ℕ) (us : List Range) → g.Listed st u us → g.Listed st (f ++ u) (rs ++ us)
-    end : true ≡ some rs → (u : List ℕ) → g.Blanks u → g.Listed st (f ++ u) rs
-
-  front-none : Front [] []
-  front-none = record { on = λ u us x. x; end = λ e u b. absurd (true≢false e) }
-
-  front-more : (f y : List ℕ) (rs : List Range) (r : Range) → Front f rs → g.Token st y r → Front (f ++ (y ++ comma ∷ [])) (rs ++ r ∷ [])
-  front-more f y rs r x t = record {
-    on = λ u us l. subst₂ (g.Listed st) (text u) (sym (append-assoc rs (r ∷ []) us)) (x .on (y ++ comma ∷ u) (r ∷ us) (g.more t l));
-    end = λ e u b. subst (λ (z : List ℕ). g.Listed st z (rs ++ r ∷ [])) (text u) (x .on (y ++ comma ∷ u) (r ∷ []) (g.ended t b));
-  }
-    where
-      text : (u : List ℕ) → f ++ (y ++ comma ∷ u) ≡ f ++ (y ++ comma ∷ []) ++ u
-      text u = sym (append-assoc f (y ++ comma ∷ []) u ∙ ap (λ (z : List ℕ). f ++ z) (append-assoc y (comma ∷ []) u))
+  -- ---- so what is read is what the grammar says
 
   same-ranges : {rs qs : List Range} → ranges rs ≡ ranges qs → rs ≡ qs
   same-ranges e = cc
 
-  no-ranges : {qs : List Range} → notList ≡ ranges qs → ⊥
+  no-ranges : {d : Fault} {qs : List Range} → notList d ≡ ranges qs → ⊥
   no-ranges e = zero-one cc
 
-  bad-none : (t : List ℕ) (qs : List Range) → parsed (st .first) (reads st bad t) ≡ ranges qs → ⊥
-  unfolding parsed
-  bad-none t qs e = no-ranges (sym (ap (parsed (st .first)) (reads-bad st t)) ∙ e)
-
-  -- the text's end
-  end-correct : (f y : List ℕ) (rs : List Range) (l : Value) (n : NumberSoFar) (k : Token) → Front f rs → Part-of l n y → token (st .first) (part l n) ≡ k
-      → (qs : List Range) → textEnds rs k ≡ ranges qs
-      → g.Listed st (f ++ y) qs
-  end-correct f y rs l n (Ranging a b) x p e qs h =
-      subst (g.Listed st (f ++ y)) (same-ranges h) (x .on y (range a b ∷ []) (g.last (token-correct l n y p a b e)))
-  end-correct f y [] l n Empty x p e qs h = absurd (no-ranges h)
-  end-correct f y (r ∷ rs) l n Empty x p e qs h =
-      subst (g.Listed st (f ++ y)) (same-ranges h) (x .end refl y (empty-correct l n y p e))
-  end-correct f y rs l n NoRange x p e qs h = absurd (no-ranges h)
-
-  comma-correct : (f y t : List ℕ) (rs : List Range) (l : Value) (n : NumberSoFar) (k : Token) → Front f rs → Part-of l n y → token (st .first) (part l n) ≡ k → (qs : List Range)
-      → ((f' : List ℕ) (rs' : List Range) → Front f' rs' → parsed (st .first) (reads st (reading rs' fresh) t) ≡ ranges qs → g.Listed st (f' ++ t) qs)
-      → parsed (st .first) (reads st (tokenEnds rs k) t) ≡ ranges qs → g.Listed st (f ++ (y ++ comma ∷ []) ++ t) qs
-  comma-correct f y t rs l n (Ranging a b) x p e qs ih h =
-      ih (f ++ (y ++ comma ∷ [])) (rs ++ range a b ∷ []) (front-more f y rs (range a b) x (token-correct l n y p a b e)) h
-  comma-correct f y t rs l n Empty x p e qs ih h = absurd (bad-none t qs h)
-  comma-correct f y t rs l n NoRange x p e qs ih h = absurd (bad-none t qs h)
-
-  list-correct : (t f y : List ℕ) (rs : List Range) (l : Value) (n : NumberSoFar) → Front f rs → Part-of l n y
-      → (qs : List Range) → parsed (st .first) (reads st (reading rs (part l n)) t) ≡ ranges qs
-      → g.Listed st (f ++ y ++ t) qs
-  unfolding reads parsed
-  list-correct [] f y rs l n x p qs e = subst (λ (z : List ℕ). g.Listed st z qs) (sym (append-nil (f ++ y))) (end-correct f y rs l n (token (st .first) (part l n)) x p refl qs e)
-  list-correct (c ∷ t) f y rs l n x p qs e =
-      go (list-correct t) (byKind (st .first) (part l n) (kind (st .joiner) c)) refl
-      (ap (λ (z : TextSoFar). parsed (st .first) (reads st z t)) (sym (next-at st ok rs (part l n) c refl)) ∙ e)
-    where
-      shift : (m : ℕ) → f ++ (y ++ m ∷ []) ++ t ≡ f ++ y ++ m ∷ t
-      shift m = append-assoc f (y ++ m ∷ []) t ∙ ap (λ (z : List ℕ). f ++ z) (append-assoc y (m ∷ []) t) ∙ sym (append-assoc f y (m ∷ t))
-
-      go : ((f y : List ℕ) (rs : List Range) (l : Value) (n : NumberSoFar) → Front f rs → Part-of l n y → (qs : List Range) → parsed (st .first) (reads st (reading rs (part l n)) t) ≡ ranges qs
-          → g.Listed st (f ++ y ++ t) qs)
-          → (s : Step) → byKind (st .first) (part l n) (kind (st .joiner) c) ≡ s → parsed (st .first) (reads st (after (st .first) rs (part l n) s) t) ≡ ranges qs → g.Listed st (f ++ y ++ c ∷ t) qs
-      go ih (Go q) h k =
-          subst (λ (z : List ℕ). g.Listed st z qs) (shift c) (ih f (y ++ c ∷ []) rs (q .left) (q .number) x (step-correct c (kind-is (st .joiner) c) l n y p q h) qs k)
-      go ih Ends h k =
-          let ec : c ≡ comma = ends-comma c (kind-is (st .joiner) c) (part l n) h in
-          subst (λ (m : ℕ). g.Listed st (f ++ y ++ m ∷ t) qs) (sym ec)
-          (subst (λ (z : List ℕ). g.Listed st z qs) (shift comma)
-          (comma-correct f y t rs l n (token (st .first) (part l n)) x p refl qs
-          (λ f' rs' x' k'. subst (λ (z : List ℕ). g.Listed st (z ++ t) qs) (append-nil f') (ih f' [] rs' Missing Unread x' (first (blanks g.nil)) qs k')) k))
-      go ih Stop h k = absurd (bad-none t qs k)
+  two-faults : notList Slip ≡ notList Huge → ⊥
+  two-faults e = zero-one cc
 
   pub correct : (t : List ℕ) (rs : List Range) → parse st t ≡ ranges rs → g.Listed st t rs
-  unfolding parse
-  correct t rs e = list-correct t [] [] [] Missing Unread front-none (first (blanks g.nil)) rs e
+  correct t rs e = go (fate t)
+    where
+      go : Fate t → g.Listed st t rs
+      go (listed qs x) = subst (g.Listed st t) (same-ranges (sym (complete st ok x) ∙ e)) x
+      go (slip x) = absurd (no-ranges (sym (slips st ok x) ∙ e))
+      go (over x) = absurd (no-ranges (sym (huge-ones st ok x) ∙ e))
 
-  -- the parser takes exactly the grammar's texts, each with its ranges
-  pub reads-exactly : (t : List ℕ) (rs : List Range) → g.Listed st t rs ↔ (parse st t ≡ ranges rs)
-  reads-exactly t rs = (λ x. complete st ok x, λ e. correct t rs e)
+  pub slip-correct : (t : List ℕ) → parse st t ≡ notList Slip → b.NotList st t
+  slip-correct t e = go (fate t)
+    where
+      go : Fate t → b.NotList st t
+      go (listed qs x) = absurd (no-ranges (sym e ∙ complete st ok x))
+      go (slip x) = x
+      go (over x) = absurd (two-faults (sym e ∙ huge-ones st ok x))
+
+  pub huge-correct : (t : List ℕ) → parse st t ≡ notList Huge → b.NumberOver st t
+  huge-correct t e = go (fate t)
+    where
+      go : Fate t → b.NumberOver st t
+      go (listed qs x) = absurd (no-ranges (sym e ∙ complete st ok x))
+      go (slip x) = absurd (two-faults (sym (slips st ok x) ∙ e))
+      go (over x) = x
+
+  pub slip-not-huge : {t : List ℕ} → b.NotList st t → b.NumberOver st t → ⊥
+  slip-not-huge x z = two-faults (sym (slips st ok x) ∙ huge-ones st ok z)
+
+  pub bad-not-listed : {t : List ℕ} → b.NotList st t ⊎ b.NumberOver st t → (rs : List Range) → g.Listed st t rs → ⊥
+  bad-not-listed (inl x) rs z = no-ranges (sym (slips st ok x) ∙ complete st ok z)
+  bad-not-listed (inr x) rs z = no-ranges (sym (huge-ones st ok x) ∙ complete st ok z)

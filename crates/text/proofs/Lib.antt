@@ -3,6 +3,8 @@ pub mod Marks
 pub mod Tokens
 pub mod Taken
 pub mod Accepts
+pub mod Numbers
+pub mod Refuses
 pub mod Grammar
 pub mod Promises
 pub mod Once

@@ -1,9 +1,10 @@
--- The plain style is read as document 01 says.
-use mathlib.Core.Path.{_≡_, refl, subst}
-use mathlib.Core.Logic.{inl, inr}
+-- The plain style is read as document 01 says, with 16 for a part of its 7.
+use mathlib.Core.Path.{_≡_, refl, sym, ap, _∙_, subst}
+use mathlib.Core.Logic.{⊎-elim, inl, inr}
 use mathlib.Core.List.{List}
 use Prim.Native.Nat.{ℕ, _+_}
 use native.Mathlib.Omega.{arith}
+use Rattle.storage.specs.Refusals.{numberOf}
 use Rattle.storage.specs.Stores.{Bits}
 use Rattle.style.specs.Styles.{plainStyle}
 use Rattle.style.specs.Promises.{Allowed}
@@ -11,7 +12,9 @@ use Rattle.style.proofs.Promises.{styles-mean}
 use Rattle.text.specs.Lists.{Range}
 use Rattle.text.specs.Grammar as g
 use Rattle.text.specs.Plain as base
-use Rattle.text.specs.Promises.{ReadAs, RefusedAs, ListRead, ListRefused, PlainReads}
+use Rattle.text.specs.Promises.{ReadAs, RefusedAs, ListRead, ListRefused, before, PlainReads}
+use Rattle.text.proofs.Grammar.{bad-not-listed}
+use Rattle.text.proofs.Promises.{tells-apart}
 use Rattle.text.proofs.Once.{reads-list-exact}
 
 pub plain-allowed : Allowed plainStyle
@@ -52,21 +55,33 @@ module _ (t : List ℕ) (c : ℕ) (b : Bits) where
   base-read : (s : Bits) → ReadAs base.Listed t c b s → ListRead plainStyle t c b s
   base-read s (h, (rs, x, u)) = (plain-allowed, (h, (rs, base-listed x, u)))
 
-  refused-base : (k : ℕ) → ListRefused plainStyle t c b k → RefusedAs base.Listed t c b k
-  refused-base k (inl p) = absurd (p .1 plain-allowed)
-  refused-base k (inr (ok, inl p)) = inl p
-  refused-base k (inr (ok, inr (inl (e, h, f)))) = inr (inl (e, h, λ rs x. f rs (base-listed x)))
-  refused-base k (inr (ok, inr (inr (e, h, (rs, x, q))))) = inr (inr (e, h, (rs, listed-base x, q)))
+  refused-base : (n : ℕ) → ListRefused plainStyle t c b n → RefusedAs base.Listed t c b (before n)
+  refused-base n (inl p) = absurd (p .1 plain-allowed)
+  refused-base n (inr (ok, inl p)) = inl (ap before (p .0), p .1)
+  refused-base n (inr (ok, inr (h, inl p))) = inr (inl (ap before (p .0), h, λ rs x. bad-not-listed plainStyle ok (inl (p .1)) rs (base-listed x)))
+  refused-base n (inr (ok, inr (h, inr (inl p)))) = inr (inl (ap before (p .0), h, λ rs x. bad-not-listed plainStyle ok (inr (p .1)) rs (base-listed x)))
+  refused-base n (inr (ok, inr (h, inr (inr (e, (rs, x, q)))))) = inr (inr (ap before e, h, (rs, listed-base x, q)))
 
-  base-refused : (k : ℕ) → RefusedAs base.Listed t c b k → ListRefused plainStyle t c b k
-  base-refused k (inl p) = inr (plain-allowed, inl p)
-  base-refused k (inr (inl (e, h, f))) = inr (plain-allowed, inr (inl (e, h, λ rs x. f rs (listed-base x))))
-  base-refused k (inr (inr (e, h, (rs, x, q)))) = inr (plain-allowed, inr (inr (e, h, (rs, base-listed x, q))))
+  -- the number now, and that it was k
+  base-refused : (k : ℕ) → RefusedAs base.Listed t c b k → (n : ℕ) × ListRefused plainStyle t c b n × (before n ≡ k)
+  base-refused k (inl (e, h)) = (8, inr (plain-allowed, inl (refl, h)), sym e)
+  base-refused k (inr (inl (e, h, f))) =
+      ⊎-elim
+      (λ x. (7, inr (plain-allowed, inr (h, inl (refl, x))), sym e))
+      (λ x. (16, inr (plain-allowed, inr (h, inr (inl (refl, x)))), sym e))
+      (tells-apart plainStyle plain-allowed t .together .1 (λ rs x. f rs (listed-base x)))
+  base-refused k (inr (inr (e, h, (rs, x, q)))) = (6, inr (plain-allowed, inr (h, inr (inr (refl, (rs, base-listed x, q))))), sym e)
 
 pub plain-reads : PlainReads
 plain-reads t c b h l k =
     let e = reads-list-exact plainStyle t c b h l k in
     record {
       done-is = λ s. (λ q. let r = e .done-is s .0 q in (read-base t c b s (r .0), r .1), λ r. e .done-is s .1 (base-read t c b s (r .0), r .1));
-      refused-is = λ n. (λ q. refused-base t c b n (e .refused-is n .0 q), λ r. e .refused-is n .1 (base-refused t c b n r));
+      refused-is = λ n. (
+        λ q. subst (RefusedAs base.Listed t c b) (q .2) (refused-base t c b (numberOf (q .0)) (e .refused-is (numberOf (q .0)) .0 (q .0, q .1, refl))),
+        λ r.
+            let z = base-refused t c b n r in
+            let w = e .refused-is (z .0) .1 (z .1) in
+            (w .0, w .1, ap before (w .2) ∙ z .2),
+      );
     }

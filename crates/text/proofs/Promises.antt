@@ -1,14 +1,14 @@
 -- The promises of specs/Promises.
 use mathlib.Core.Path.{_≡_, refl, sym, ap, _∙_, subst}
-use mathlib.Core.Logic.{inl, inr}
+use mathlib.Core.Logic.{_⊎_, inl, inr}
 use mathlib.Core.Bool.{Bool, true, false, _&&_, _||_, false≢true}
-use mathlib.Core.List.{List, [], _∷_, append-nil}
+use mathlib.Core.List.{List, [], _∷_, _++_, append-assoc, append-nil}
 use Prim.Native.Nat.{ℕ, zero, suc, _+_, _≤_, min, max}
 use native.Mathlib.Omega.{arith}
 use lib.Dec.{ltb, leb}
 use lib.ListN.{length}
 use borrow.Author.Tests.{ltb-true, ltb-false, leb-true}
-use Rattle.word.proofs.Cases.{by-lt, by-test, and-true, or-true, zero-one}
+use Rattle.word.proofs.Cases.{by-lt, by-test, and-true, or-true}
 use Rattle.storage.specs.Refusals.{numberOf, changeNumber}
 use Rattle.storage.specs.Stores.{Bits, Bounded, Outcome, refused, done, held, answer}
 use Rattle.storage.specs.Promises.{Contained}
@@ -20,28 +20,42 @@ use Rattle.style.specs.declared.Style.{Style}
 use Rattle.style.proofs.Promises.{styles-mean}
 use Rattle.text.specs.Lists.{plain, Range, covers, highest}
 use Rattle.text.specs.Grammar as g
+use Rattle.text.specs.Faults.{digits, Huge as HugeNumber, above, HugeToken, single, left, right, only, here, later, NumberOver, NotList}
 use Rattle.text.specs.Readings.{Parsed, tooLarge, notList, ranges, parse, union, readingList}
-use Rattle.text.specs.Promises.{ReadsGrammar, ReadsNumbers, Within, Union, High, ListRead, ListRefused, ReadsList, RefusesStyle}
+use Rattle.text.specs.declared.Fault.the-variants.{Slip, Huge}
+use Rattle.text.specs.Promises.{ReadsGrammar, ReadsNumbers, NoList, TellsApart, Shows, ShowsHuge, Within, Union, High, ListRead, ListRefused, ReadsList, RefusesStyle}
 use Rattle.text.proofs.Steps.{bit-below, bit-over}
 use Rattle.text.proofs.Accepts.{complete, no-number}
-use Rattle.text.proofs.Grammar.{correct, reads-exactly}
+use Rattle.text.proofs.Grammar.{Fate, listed, slip, over, fate, correct, slip-correct, huge-correct, slip-not-huge, bad-not-listed}
+use Rattle.text.proofs.Refuses.{slips, huge-ones}
 use Rattle.text.proofs.Marks.{betweenMarks, between-in}
 use Rattle.text.proofs.Taken.{list-no-style, list-not-plain, list-is}
 
 -- ---- the grammar
 
-never : {rs : List Range} → notList ≡ ranges rs → ⊥
-never e = zero-one cc
-
 pub reads-grammar : ReadsGrammar
 reads-grammar = record {
-  accepted = reads-exactly;
-  refused = λ y ok t. (λ f. go y ok t f (parse y t) refl, λ e rs x. never (sym e ∙ complete y ok x));
+  accepted = λ y ok t rs. (complete y ok, correct y ok t rs);
+  slip = λ y ok t. (slips y ok, slip-correct y ok t);
+  huge = λ y ok t. (huge-ones y ok, huge-correct y ok t);
+}
+
+pub tells-apart : TellsApart
+tells-apart y ok t = record {
+  one = one (fate y ok t);
+  apart = slip-not-huge y ok;
+  together = (bad-not-listed y ok, λ f. bad f (fate y ok t));
 }
   where
-    go : (y : Style) → Allowed y → (t : List ℕ) → ((rs : List Range) → g.Listed y t rs → ⊥) → (p : Parsed) → parse y t ≡ p → parse y t ≡ notList
-    go y ok t f notList e = e
-    go y ok t f (ranges rs) e = absurd (f rs (correct y ok t rs e))
+    one : Fate y ok t → ((rs : List Range) × g.Listed y t rs) ⊎ (NotList y t ⊎ NumberOver y t)
+    one (listed rs x) = inl (rs, x)
+    one (slip x) = inr (inl x)
+    one (over x) = inr (inr x)
+
+    bad : NoList (g.Listed y) t → Fate y ok t → NotList y t ⊎ NumberOver y t
+    bad f (listed rs x) = absurd (f rs x)
+    bad f (slip x) = inl x
+    bad f (over x) = inr x
 
 -- ---- a number by itself
 
@@ -52,9 +66,54 @@ bare {y} {d} {a} x h = subst (λ (t : List ℕ). g.Numeral y t a) (append-nil d)
 pub reads-numbers : ReadsNumbers
 reads-numbers = record {
   bit = λ y ok x h. complete y ok (g.last (g.single (bare x h)));
-  below = λ y ok {d} {v} x l. no-number y ok x (bit-below (y .first) (min tooLarge v) (omega (arith, l)));
-  above = λ y ok {d} {v} x l. no-number y ok x (bit-over (y .first) (min tooLarge v) (omega (arith, l)) (omega (arith, l, ok .first)));
+  below = λ y ok {d} {v} x l. no-number y ok Slip x (bit-below (y .first) (min tooLarge v) (omega (arith, l)));
+  above = λ y ok {d} {v} x l. no-number y ok Huge x (bit-over (y .first) (min tooLarge v) (omega (arith, l)) (omega (arith, l, ok .first)));
 }
+
+-- ---- a huge number stands in the text
+
+module _ (y : Style) where
+  number-shows : {t : List ℕ} → HugeNumber y t → Shows y t
+  number-shows (above {v = v} (digits {u = u} {d = d} {w = w} b x c) h) =
+      record { front = u; digits = d; back = w; number = v; stand = refl; mean = x; above = h }
+
+  -- and in what holds that text
+  right-of : {t : List ℕ} → Shows y t → (u : List ℕ) → Shows y (t ++ u)
+  right-of s u = record {
+    front = s .front;
+    digits = s .digits;
+    back = s .back ++ u;
+    number = s .number;
+    stand = ap (λ (z : List ℕ). z ++ u) (s .stand) ∙ append-assoc (s .front ++ s .digits) (s .back) u;
+    mean = s .mean;
+    above = s .above;
+  }
+
+  left-of : {t : List ℕ} → Shows y t → (u : List ℕ) → Shows y (u ++ t)
+  left-of s u = record {
+    front = u ++ s .front;
+    digits = s .digits;
+    back = s .back;
+    number = s .number;
+    stand =
+        ap (λ (z : List ℕ). u ++ z) (s .stand) ∙ sym (append-assoc u (s .front ++ s .digits) (s .back))
+        ∙ ap (λ (z : List ℕ). z ++ s .back) (sym (append-assoc u (s .front) (s .digits)));
+    mean = s .mean;
+    above = s .above;
+  }
+
+  token-shows : {t : List ℕ} → HugeToken y t → Shows y t
+  token-shows (single x) = number-shows x
+  token-shows (left {u = u} x f) = right-of (number-shows x) (y .joiner ∷ u)
+  token-shows (right {t = t} {u = u} x z) = subst (Shows y) (append-assoc t (y .joiner ∷ []) u) (left-of (number-shows z) (t ++ y .joiner ∷ []))
+
+  text-shows : {t : List ℕ} → NumberOver y t → Shows y t
+  text-shows (only x) = token-shows x
+  text-shows (here x u) = right-of (token-shows x) (44 ∷ u)
+  text-shows (later {t = t} {u = u} x h z) = subst (Shows y) (append-assoc t (44 ∷ []) u) (left-of (text-shows z) (t ++ 44 ∷ []))
+
+pub shows-huge : ShowsHuge
+shows-huge y ok t e = text-shows y (huge-correct y ok t e)
 
 -- ---- the ranges as a set
 
@@ -133,38 +192,41 @@ not-allowed : (y : Style) → allowed y ≡ false → Allowed y → ⊥
 not-allowed y e ok = false≢true (sym e ∙ styles-mean y .0 ok)
 
 -- what becomes of a text
-abbrev Fate : Style → List ℕ → ℕ → Outcome → Type 0
-Fate y t c (done s) = ListRead y t c s s × (s .count ≤ c)
-Fate y t c (refused e) = ListRefused y t c (union []) (numberOf e)
+abbrev Ends : Style → List ℕ → ℕ → Outcome → Type 0
+Ends y t c (done s) = ListRead y t c s s × (s .count ≤ c)
+Ends y t c (refused e) = ListRefused y t c (union []) (numberOf e)
 
 module _ (y : Style) (t : List ℕ) (c : ℕ) (b : Bits) where
   -- a list in an allowed style
-  low : allowed y ≡ true → plain t ≡ true → (High t → ⊥) → (p : Parsed) → parse y t ≡ p → Fate y t c (readingList y t c b)
-  low a e h notList f =
+  low : allowed y ≡ true → plain t ≡ true → (High t → ⊥) → (p : Parsed) → parse y t ≡ p → Ends y t c (readingList y t c b)
+  low a e h (notList Slip) f =
       let ok = is-allowed y a in
-      subst (Fate y t c) (sym (list-is y t c b notList a e f)) (inr (ok, inr (inl (refl, h, reads-grammar .refused y ok t .1 f))))
+      subst (Ends y t c) (sym (list-is y t c b (notList Slip) a e f)) (inr (ok, inr (h, inl (refl, slip-correct y ok t f))))
+  low a e h (notList Huge) f =
+      let ok = is-allowed y a in
+      subst (Ends y t c) (sym (list-is y t c b (notList Huge) a e f)) (inr (ok, inr (h, inr (inl (refl, huge-correct y ok t f)))))
   low a e h (ranges rs) f =
       let ok = is-allowed y a in
       let x : g.Listed y t rs = correct y ok t rs f in
       by-lt c (union rs .count)
-      (λ l. subst (Fate y t c) (sym (list-is y t c b (ranges rs) a e f ∙ within-no c (union rs) l))
-      (inr (ok, inr (inr (refl, h, (rs, x, (highest rs, highest-within rs (listed-good x), omega arith)))))))
-      (λ l. subst (Fate y t c) (sym (list-is y t c b (ranges rs) a e f ∙ within-ok c (union rs) l))
+      (λ l. subst (Ends y t c) (sym (list-is y t c b (ranges rs) a e f ∙ within-no c (union rs) l))
+      (inr (ok, inr (h, inr (inr (refl, (rs, x, (highest rs, highest-within rs (listed-good x), omega arith))))))))
+      (λ l. subst (Ends y t c) (sym (list-is y t c b (ranges rs) a e f ∙ within-ok c (union rs) l))
       ((ok, (h, (rs, x, union-is rs (listed-good x)))), l))
 
-  fate : Fate y t c (readingList y t c b)
-  fate =
+  end : Ends y t c (readingList y t c b)
+  end =
       by-test (allowed y)
       (λ a.
       by-test (plain t)
       (λ e. low a e (plain-low t e) (parse y t) refl)
-      (λ e. subst (Fate y t c) (sym (list-not-plain y t c b a e)) (inr (is-allowed y a, inl (refl, plain-high t e)))))
-      (λ a. subst (Fate y t c) (sym (list-no-style y t c b a)) (inl (refl, not-allowed y a)))
+      (λ e. subst (Ends y t c) (sym (list-not-plain y t c b a e)) (inr (is-allowed y a, inl (refl, plain-high t e)))))
+      (λ a. subst (Ends y t c) (sym (list-no-style y t c b a)) (inl (refl, not-allowed y a)))
 
 pub contained-list : (y : Style) (t : List ℕ) → Contained (readingList y t)
 contained-list y t = record {
-  space = λ c b s h l e. subst (Fate y t c) e (fate y t c b) .1;
-  bound = λ c b s h l e. let q = subst (Fate y t c) e (fate y t c b) .0 .1 .1 in bounded (q .0) s (q .2);
+  space = λ c b s h l e. subst (Ends y t c) e (end y t c b) .1;
+  bound = λ c b s h l e. let q = subst (Ends y t c) e (end y t c b) .0 .1 .1 in bounded (q .0) s (q .2);
 }
   where
     bounded : (rs : List Range) (s : Bits) → Union rs s → Bounded s
@@ -173,16 +235,16 @@ contained-list y t = record {
 
 pub reads-list : ReadsList
 reads-list y t = record {
-  made = λ c b s e. subst (Fate y t c) e (fate y t c b) .0;
+  made = λ c b s e. subst (Ends y t c) e (end y t c b) .0;
   contained = contained-list y t;
-  why = λ c b d e. subst (Fate y t c) e (fate y t c b);
+  why = λ c b d e. subst (Ends y t c) e (end y t c b);
 }
 
 -- ---- a style that is not allowed
 
 pub refuses-style : RefusesStyle
 unfolding answer
-refuses-style y t ws ws' b r p c = (λ f. refused-15 f, λ e. only-15 (readingList y t (length ws) (held ws b)) (fate y t (length ws) (held ws b)) (sym (ap changeNumber is) ∙ e))
+refuses-style y t ws ws' b r p c = (λ f. refused-15 f, λ e. only-15 (readingList y t (length ws) (held ws b)) (end y t (length ws) (held ws b)) (sym (ap changeNumber is) ∙ e))
   where
     is : r ≡ answer (readingList y t (length ws) (held ws b)) b
     is = c .answers ∙ ap (λ (o : Outcome). answer o b) (outcome-ok (readingList y t) ws b p)
@@ -193,9 +255,10 @@ refuses-style y t ws ws' b r p c = (λ f. refused-15 f, λ e. only-15 (readingLi
         (λ a. absurd (f (is-allowed y a)))
         (λ a. ap changeNumber (is ∙ ap (λ (o : Outcome). answer o b) (list-no-style y t (length ws) (held ws b) a)))
 
-    only-15 : (o : Outcome) → Fate y t (length ws) o → changeNumber (answer o b) ≡ 15 → Allowed y → ⊥
+    only-15 : (o : Outcome) → Ends y t (length ws) o → changeNumber (answer o b) ≡ 15 → Allowed y → ⊥
     only-15 (done s) f e ok = omega (arith, e)
     only-15 (refused d) (inl q) e ok = q .1 ok
     only-15 (refused d) (inr (a, inl q)) e ok = omega (arith, e, q .0)
-    only-15 (refused d) (inr (a, inr (inl q))) e ok = omega (arith, e, q .0)
-    only-15 (refused d) (inr (a, inr (inr q))) e ok = omega (arith, e, q .0)
+    only-15 (refused d) (inr (a, inr (h, inl q))) e ok = omega (arith, e, q .0)
+    only-15 (refused d) (inr (a, inr (h, inr (inl q)))) e ok = omega (arith, e, q .0)
+    only-15 (refused d) (inr (a, inr (h, inr (inr q)))) e ok = omega (arith, e, q .0)

@@ -13,19 +13,22 @@ use Rattle.word.specs.Sets.{choose}
 use Rattle.word.proofs.Cases.{and-true, zero-one}
 use Rattle.text.specs.Lists.{comma, zeroDigit, listLimit, blank, digit, plain}
 use Rattle.text.specs.Readings as read
-use Rattle.text.specs.Readings.{kind, NumberSoFar, Unread, Open, Closed, bitOf, value, unread, missing, empty, ranged, token, part, grown, Go, Stop, byDigit, byBlank, byJoiner, byKind}
+use Rattle.text.specs.Readings.{kind, NumberSoFar, Unread, Open, Closed, Left, Alone, From, bitOf, value, unread, alone, empty, ranged, token, part, grown}
+use Rattle.text.specs.Readings.{Go, Stop, byDigit, byBlank, byJoiner, byKind}
 use Rattle.text.specs.Kernels.{numberSoFar, leftOf, partOf}
 use Rattle.text.specs.declared.Kind.{Kind}
 use Rattle.text.specs.declared.Kind.the-variants.{Digit, Blank, Joiner, Comma, Other}
 use Rattle.text.specs.declared.Value.{Value}
-use Rattle.text.specs.declared.Value.the-variants.{Of, Missing}
+use Rattle.text.specs.declared.Value.the-variants.{Of, Bad}
+use Rattle.text.specs.declared.Fault.{Fault}
+use Rattle.text.specs.declared.Fault.the-variants.{Slip, Huge}
 use Rattle.text.specs.declared.Part.{Part}
 use Rattle.text.specs.declared.Token.the-variants.{Range as Ranging, Empty, NoRange}
 
-pub step-at : (x : ℕ) (p : read.Part) {k k' : Kind} {l : Value} {n : NumberSoFar} → k ≡ k' → p .left ≡ l → p .number ≡ n → byKind x p k ≡ byKind x (record { left = l; number = n }) k'
+pub step-at : (x : ℕ) (p : read.Part) {k k' : Kind} {l : Left} {n : NumberSoFar} → k ≡ k' → p .left ≡ l → p .number ≡ n → byKind x p k ≡ byKind x (record { left = l; number = n }) k'
 step-at x p e f g = λ i. byKind x (record { left = f i; number = g i }) (e i)
 
-pub token-at : (x : ℕ) (p : read.Part) {l v : Value} → empty p ≡ false → p .left ≡ l → value x (p .number) ≡ v → token x p ≡ ranged l v
+pub token-at : (x : ℕ) (p : read.Part) {l : Left} {v : Value} → empty p ≡ false → p .left ≡ l → value x (p .number) ≡ v → token x p ≡ ranged l v
 unfolding token
 token-at x p h e f = (λ i. choose (h i) Empty (ranged (e i) (f i)))
 
@@ -75,49 +78,51 @@ pub plain-end : (t : List ℕ) (i : ℕ) → length t ≤ i → plain t ≡ plai
 unfolding plain
 plain-end t i h e = sym (e ∙ ap plain (drop-of-length-le t h))
 
--- ---- a token whose last number is missing
-ranged-missing : (l : Value) → ranged l Missing ≡ NoRange
-ranged-missing Missing = refl
-ranged-missing (Of a) = refl
+-- ---- a token whose last number is bad
+pub ranged-bad : (l : Left) (e : Fault) → ranged l (Bad e) ≡ NoRange e
+ranged-bad Alone e = refl
+ranged-bad (From a) e = refl
 
-pub token-missing : (x : ℕ) (p : read.Part) → empty p ≡ false → value x (p .number) ≡ Missing → token x p ≡ NoRange
-token-missing x p h e = token-at x p h refl e ∙ ranged-missing (p .left)
+pub token-bad : (x : ℕ) (p : read.Part) (d : Fault) → empty p ≡ false → value x (p .number) ≡ Bad d → token x p ≡ NoRange d
+token-bad x p d h e = token-at x p h refl e ∙ ranged-bad (p .left) d
 
 -- no token has a number past the limit
-ranged-limit : (l v : Value) (a b : ℕ) → ranged l v ≡ Ranging a b → v ≡ Of b
-ranged-limit l Missing a b e = zero-one cc
-ranged-limit Missing (Of y) a b e = cc
-ranged-limit (Of x) (Of y) a b e = go (leb x y) e
+ranged-limit : (l : Left) (v : Value) (a b : ℕ) → ranged l v ≡ Ranging a b → v ≡ Of b
+ranged-limit l (Bad d) a b e = none (sym (ranged-bad l d) ∙ e)
   where
-    go : (t : Bool) → choose t (Ranging x y) NoRange ≡ Ranging a b → Of y ≡ Of b
-    go true h = cc
-    go false h = zero-one cc
+    none : NoRange d ≡ Ranging a b → Bad d ≡ Of b
+    none h = zero-one cc
+ranged-limit Alone (Of y) a b e = cc
+ranged-limit (From x) (Of y) a b e = go (leb x y) _ e
+  where
+    go : (t : Bool) (d : Fault) → choose t (Ranging x y) (NoRange d) ≡ Ranging a b → Of y ≡ Of b
+    go true d h = cc
+    go false d h = zero-one cc
 
 -- a bit that is taken is within the limit, and the number is it and the first
 pub bit-is : (x v b : ℕ) → bitOf x v ≡ Of b → (v ≡ b + x) × (b ≤ listLimit)
-bit-is x v b e = go (leb x v && leb v (listLimit + x)) refl e
+bit-is x v b e = go (leb x v) refl (leb v (listLimit + x)) refl _ _ e
   where
-    go : (t : Bool) → leb x v && leb v (listLimit + x) ≡ t → choose t (Of (v - x)) Missing ≡ Of b → (v ≡ b + x) × (b ≤ listLimit)
-    go true h f =
-        let q = and-true (leb x v) (leb v (listLimit + x)) h in
+    go : (t : Bool) → leb x v ≡ t → (u : Bool) → leb v (listLimit + x) ≡ u → (d e : Fault) → choose t (choose u (Of (v - x)) (Bad d)) (Bad e) ≡ Of b → (v ≡ b + x) × (b ≤ listLimit)
+    go true h true g d e f =
         let k : v - x ≡ b = cc in
-        (omega (arith, leb-true x v (q .0), k), omega (arith, leb-true v (listLimit + x) (q .1), k))
-    go false h f = zero-one cc
+        (omega (arith, leb-true x v h, k), omega (arith, leb-true v (listLimit + x) g, k))
+    go true h false g d e f = zero-one cc
+    go false h u g d e f = zero-one cc
 
 pub bit-of : (x v b : ℕ) → v ≡ b + x → b ≤ listLimit → bitOf x v ≡ Of b
 bit-of x v b e h =
-    ap (λ (t : Bool). choose t (Of (v - x)) Missing) (ap₂ _&&_ (le-leb x v (omega arith)) (le-leb v (listLimit + x) (omega arith)))
-    ∙ ap Of (omega arith)
+    chosen _ _ (le-leb x v (omega arith)) ∙ chosen _ _ (le-leb v (listLimit + x) (omega arith)) ∙ ap Of (omega arith)
 
 pub bit-within : (x v : ℕ) → x ≤ v → v - x ≤ listLimit → bitOf x v ≡ Of (v - x)
 bit-within x v h l = bit-of x v (v - x) (omega arith) l
 
 -- below the first number, or past the limit
-pub bit-below : (x v : ℕ) → v < x → bitOf x v ≡ Missing
-bit-below x v h = ap (λ (t : Bool). choose (t && leb v (listLimit + x)) (Of (v - x)) Missing) (lt-leb x v h)
+pub bit-below : (x v : ℕ) → v < x → bitOf x v ≡ Bad Slip
+bit-below x v h = ap (λ (t : Bool). choose t (choose (leb v (listLimit + x)) (Of (v - x)) (Bad Huge)) (Bad Slip)) (lt-leb x v h)
 
-pub bit-over : (x v : ℕ) → x ≤ v → listLimit < v - x → bitOf x v ≡ Missing
-bit-over x v h l = ap₂ (λ (t u : Bool). choose (t && u) (Of (v - x)) Missing) (le-leb x v h) (lt-leb v (listLimit + x) (omega arith))
+pub bit-over : (x v : ℕ) → x ≤ v → listLimit < v - x → bitOf x v ≡ Bad Huge
+bit-over x v h l = ap₂ (λ (t u : Bool). choose t (choose u (Of (v - x)) (Bad Huge)) (Bad Slip)) (le-leb x v h) (lt-leb v (listLimit + x) (omega arith))
 
 value-limit : (x : ℕ) (n : NumberSoFar) (b : ℕ) → value x n ≡ Of b → b ≤ listLimit
 unfolding value
@@ -152,10 +157,10 @@ number-some x zero v e = absurd (e refl)
 number-some x (suc zero) v e = refl
 number-some x (suc (suc n)) v e = refl
 
-pub left-none : (n a : ℕ) → n ≡ 0 → leftOf n a ≡ Missing
+pub left-none : (n a : ℕ) → n ≡ 0 → leftOf n a ≡ Alone
 left-none n a e = ap (λ (x : ℕ). leftOf x a) e
 
-pub left-some : (n a : ℕ) → (n ≡ 0 → ⊥) → leftOf n a ≡ Of a
+pub left-some : (n a : ℕ) → (n ≡ 0 → ⊥) → leftOf n a ≡ From a
 left-some zero a e = absurd (e refl)
 left-some (suc n) a e = refl
 
@@ -166,27 +171,27 @@ unread-is (suc (suc n)) v = sym (eqb·suc-zero (suc n))
 
 pub empty-none : (p : Part) → p .split ≡ 0 → eqb (p .phase) 0 ≡ empty (partOf p)
 unfolding empty
-empty-none p e = sym (ap (λ (x : ℕ). missing (leftOf x (p .left)) && unread (numberSoFar (p .phase) (p .value))) e ∙ unread-is (p .phase) (p .value))
+empty-none p e = sym (ap (λ (x : ℕ). alone (leftOf x (p .left)) && unread (numberSoFar (p .phase) (p .value))) e ∙ unread-is (p .phase) (p .value))
 
 pub empty-some : (p : Part) → (p .split ≡ 0 → ⊥) → false ≡ empty (partOf p)
 unfolding empty
-empty-some p e = sym (ap (λ (x : Value). missing x && unread (numberSoFar (p .phase) (p .value))) (left-some (p .split) (p .left) e))
+empty-some p e = sym (ap (λ (x : Left). alone x && unread (numberSoFar (p .phase) (p .value))) (left-some (p .split) (p .left) e))
 
 -- ---- the code's steps
 
-pub by-digit-none : (l : Value) (n v d : ℕ) → n ≡ 0 → Go (part l (Open d)) ≡ byDigit l (numberSoFar n v) d
+pub by-digit-none : (l : Left) (n v d : ℕ) → n ≡ 0 → Go (part l (Open d)) ≡ byDigit l (numberSoFar n v) d
 by-digit-none l n v d e = sym (ap (λ (x : NumberSoFar). byDigit l x d) (number-none n v e))
 
-pub by-digit-open : (l : Value) (n v d x : ℕ) → n ≡ 1 → x ≡ grown v d → Go (part l (Open x)) ≡ byDigit l (numberSoFar n v) d
+pub by-digit-open : (l : Left) (n v d x : ℕ) → n ≡ 1 → x ≡ grown v d → Go (part l (Open x)) ≡ byDigit l (numberSoFar n v) d
 by-digit-open l n v d x e f = ap (λ (y : ℕ). Go (part l (Open y))) f ∙ sym (ap (λ (y : NumberSoFar). byDigit l y d) (number-open n v e))
 
-pub by-digit-closed : (l : Value) (n v d : ℕ) → (n ≡ 0 → ⊥) → (n ≡ 1 → ⊥) → Stop ≡ byDigit l (numberSoFar n v) d
+pub by-digit-closed : (l : Left) (n v d : ℕ) → (n ≡ 0 → ⊥) → (n ≡ 1 → ⊥) → Stop Slip ≡ byDigit l (numberSoFar n v) d
 by-digit-closed l n v d e f = sym (ap (λ (x : NumberSoFar). byDigit l x d) (number-closed n v e f))
 
-pub by-joiner-twice : (n a : ℕ) (v : Value) → (n ≡ 0 → ⊥) → Stop ≡ byJoiner (leftOf n a) v
-by-joiner-twice n a v e = sym (ap (λ (x : Value). byJoiner x v) (left-some n a e))
+pub by-joiner-twice : (n a : ℕ) (v : Value) → (n ≡ 0 → ⊥) → Stop Slip ≡ byJoiner (leftOf n a) v
+by-joiner-twice n a v e = sym (ap (λ (x : Left). byJoiner x v) (left-some n a e))
 
-pub by-joiner-is : (n a : ℕ) (u v : Value) → n ≡ 0 → v ≡ u → byJoiner Missing u ≡ byJoiner (leftOf n a) v
+pub by-joiner-is : (n a : ℕ) (u v : Value) → n ≡ 0 → v ≡ u → byJoiner Alone u ≡ byJoiner (leftOf n a) v
 by-joiner-is n a u v e f = sym (λ i. byJoiner (left-none n a e i) (f i))
 
 -- a blank after no digit, or after another blank

@@ -23,8 +23,10 @@ use Rattle.storage.proofs.Stores.{Stored, changes-done, changes-refused, part-s
 use Rattle.style.specs.Styles.{allowed}
 use Rattle.style.specs.declared.Style.{Style}
 use Rattle.text.specs.Lists.{plain, Range, covers, highest}
-use Rattle.text.specs.Readings.{Parsed, notList, ranges, parse, union, listOutcome, readingList}
+use Rattle.text.specs.Readings.{token, empty, reads, Parsed, notList, ranges, parsed, parse, union, refusalOf, listOutcome, readingList}
 use Rattle.text.specs.Kernels.{measuredOf, marked, Walked}
+use Rattle.text.specs.declared.Fault.{Fault}
+use Rattle.text.specs.declared.Fault.the-variants.{Slip}
 use Rattle.text.specs.declared.Measured.{Measured}
 use Rattle.text.specs.declared.Measured.the-variants.{Top, NotList as NoList}
 
@@ -42,18 +44,26 @@ pub list-is : (y : Style) (t : List ℕ) (c : ℕ) (b : Bits) (p : Parsed) → a
 unfolding readingList
 list-is y t c b p a e f = ap₂ (λ (z x : Bool). choose z (choose x (listOutcome c (parse y t)) (refused NotAscii)) (refused BadStyle)) a e ∙ ap (listOutcome c) f
 
+-- no byte
+pub list-empty : (y : Style) (c : ℕ) (b : Bits) → allowed y ≡ true → readingList y [] c b ≡ refused NotList
+unfolding parse parsed reads token empty plain
+list-empty y c b a = list-is y [] c b (notList Slip) a refl refl
+
 -- ---- what a measurement says of the text
 
 measured-top : (p : Parsed) (x : ℕ) → measuredOf p ≡ Top x → (rs : List Range) × (p ≡ ranges rs) × (x ≡ highest rs)
-measured-top notList x e = zero-one cc
+measured-top (notList d) x e = zero-one cc
 measured-top (ranges rs) x e = (rs, refl, top-same e)
   where
     top-same : Top (highest rs) ≡ Top x → x ≡ highest rs
     top-same f = cc
 
-measured-none : (p : Parsed) → measuredOf p ≡ NoList → p ≡ notList
-measured-none notList e = refl
-measured-none (ranges rs) e = zero-one cc
+measured-none : (p : Parsed) (d : Fault) → measuredOf p ≡ NoList d → p ≡ notList d
+measured-none (notList f) d e = same e
+  where
+    same : NoList f ≡ NoList d → notList f ≡ notList d
+    same h = cc
+measured-none (ranges rs) d e = zero-one cc
 
 -- no word is lent, none is marked
 none-marked : (rs : List Range) → marked rs [] ≡ []
@@ -77,8 +87,10 @@ module _ (y : Style) (t ws : List ℕ) (b : Bitmap) (p : Passed ws b) where
       back : (r : Refusal) → readingList y t (length ws) (view ws (b .count)) ≡ refused r → Changes (readingList y t) ws b (Refused r b) (part ++ ws)
       back r q = subst (λ (z : List ℕ). Changes (readingList y t) ws b (Refused r b) z) (sym untouched) (changes-refused (readingList y t) ws b r p q)
 
-      pub list-refused-7 : m ≡ NoList → Changes (readingList y t) ws b (Refused NotList b) (part ++ ws)
-      list-refused-7 f = back NotList (list-is y t (length ws) (view ws (b .count)) notList a e (measured-none (parse y t) (sym (w .measures) ∙ f)))
+      -- 7 or 16
+      pub list-refused-as : (d : Fault) → m ≡ NoList d → (r : Refusal) → r ≡ refusalOf d → Changes (readingList y t) ws b (Refused r b) (part ++ ws)
+      list-refused-as d f r h =
+          back r (list-is y t (length ws) (view ws (b .count)) (notList d) a e (measured-none (parse y t) d (sym (w .measures) ∙ f)) ∙ ap refused (sym h))
 
       module _ (top : ℕ) (f : m ≡ Top top) where
         found : (rs : List Range) × (parse y t ≡ ranges rs) × (top ≡ highest rs)

@@ -14,6 +14,8 @@ use Rattle.style.specs.declared.Style.{Style}
 use Rattle.text.specs.Lists.{Range, range, highest}
 use Rattle.text.specs.Readings.{kind, Part, fresh, token, Step, Go, Ends, Stop, byKind, TextSoFar, bad, reading, tokenEnds, after, next, reads, notList, ranges, textEnds, parsed, parse}
 use Rattle.text.specs.Kernels.{measuredOf, marked, Walked}
+use Rattle.text.specs.declared.Fault.{Fault}
+use Rattle.text.specs.declared.Fault.the-variants.{Slip}
 use Rattle.text.specs.declared.Kind.{Kind}
 use Rattle.text.specs.declared.Token.{Token}
 use Rattle.text.specs.declared.Token.the-variants.{Range as Ranging, Empty, NoRange}
@@ -22,10 +24,10 @@ use Rattle.text.proofs.Marks.{marked-none, marked-more, length-marked}
 
 -- ---- reading on
 
-pub reads-bad : (st : Style) (t : List ℕ) → reads st bad t ≡ bad
+pub reads-bad : (st : Style) (d : Fault) (t : List ℕ) → reads st (bad d) t ≡ bad d
 unfolding reads next
-reads-bad st [] = refl
-reads-bad st (c ∷ t) = reads-bad st t
+reads-bad st d [] = refl
+reads-bad st d (c ∷ t) = reads-bad st d t
 
 reads-at : (st : Style) (x : TextSoFar) (t : List ℕ) (i : ℕ) → i < length t → reads st x (drop i t) ≡ reads st (next st x (getD t i 0)) (drop (i + 1) t)
 unfolding reads
@@ -59,8 +61,8 @@ module _ (st : Style) (t : List ℕ) (a i : ℕ) (p : Part) (k : Kind) (r : Step
     same = λ rs. x .same rs ∙ reads-step st rs p t i h (at-byte e);
   }
 
-  pub inside-stop : r ≡ Stop → (rs : List Range) → reads st (reading rs fresh) (drop a t) ≡ bad
-  inside-stop e rs = x .same rs ∙ reads-step st rs p t i h (at-byte e) ∙ reads-bad st (drop (i + 1) t)
+  pub inside-stop : (d : Fault) → r ≡ Stop d → (rs : List Range) → reads st (reading rs fresh) (drop a t) ≡ bad d
+  inside-stop d e rs = x .same rs ∙ reads-step st rs p t i h (at-byte e) ∙ reads-bad st d (drop (i + 1) t)
 
   pub inside-ends : r ≡ Ends → (rs : List Range) → reads st (reading rs fresh) (drop a t) ≡ reads st (tokenEnds rs (token (st .first) p)) (drop (i + 1) t)
   inside-ends e rs = x .same rs ∙ reads-step st rs p t i h (at-byte e)
@@ -110,11 +112,11 @@ some-end [] r = refl
 some-end (q ∷ rs) r = refl
 
 -- the text is no list
-not-whole : (st : Style) (t : List ℕ) (rs qs : List Range) → parse st t ≡ notList → parse st t ≡ ranges rs → qs ≡ rs
-not-whole st t rs qs e f = zero-one cc
+not-whole : (st : Style) (t : List ℕ) (d : Fault) (rs qs : List Range) → parse st t ≡ notList d → parse st t ≡ ranges rs → qs ≡ rs
+not-whole st t d rs qs e f = zero-one cc
 
-pub walked-bad : (st : Style) (t ws ws' : List ℕ) (rs : List Range) → ws' ≡ marked rs ws → parse st t ≡ notList → Walked st t NotList ws ws'
-walked-bad st t ws ws' rs m e = record { measures = ap measuredOf (sym e); passed = rs; whole = λ qs f. not-whole st t qs rs e f; marks = m }
+pub walked-bad : (st : Style) (t ws ws' : List ℕ) (rs : List Range) (d : Fault) → ws' ≡ marked rs ws → parse st t ≡ notList d → Walked st t (NotList d) ws ws'
+walked-bad st t ws ws' rs d m e = record { measures = ap measuredOf (sym e); passed = rs; whole = λ qs f. not-whole st t d qs rs e f; marks = m }
 
 pub walked-good : (st : Style) (t ws ws' : List ℕ) (rs : List Range) (top : ℕ) → ws' ≡ marked rs ws → parse st t ≡ ranges rs → top ≡ highest rs → Walked st t (Top top) ws ws'
 walked-good st t ws ws' rs top m e f = record { measures = ap Top f ∙ ap measuredOf (sym e); passed = rs; whole = λ qs g. same-ranges (sym e ∙ g); marks = m }
@@ -127,9 +129,9 @@ module _ (st : Style) (t ws ws' : List ℕ) (top : ℕ) (any : Bool) (a : ℕ) (
   going-length = ap length (g .marks) ∙ length-marked rs ws
 
   -- a byte that fits nowhere
-  pub stops : reads st (reading rs fresh) (drop a t) ≡ bad → Walked st t NotList ws ws'
+  pub stops : (d : Fault) → reads st (reading rs fresh) (drop a t) ≡ bad d → Walked st t (NotList d) ws ws'
   unfolding parsed
-  stops e = walked-bad st t ws ws' rs (g .marks) (g .rest ∙ ap (parsed (st .first)) e)
+  stops d e = walked-bad st t ws ws' rs d (g .marks) (g .rest ∙ ap (parsed (st .first)) e)
 
   module _ (i : ℕ) (more : Bool) (p : Part) (d : Ended st t a p i more) (r : Token) (er : r ≡ token (st .first) p) where
     -- what a token makes of the text
@@ -149,18 +151,18 @@ module _ (st : Style) (t ws ws' : List ℕ) (top : ℕ) (any : Bool) (a : ℕ) (
         go (atComma f l h s) e = (l, h, g .rest ∙ ap (parsed (st .first)) (s rs))
 
     -- an empty token, or none
-    bad-at : textEnds rs (token (st .first) p) ≡ notList → tokenEnds rs (token (st .first) p) ≡ bad → parse st t ≡ notList
+    bad-at : (w : Fault) → textEnds rs (token (st .first) p) ≡ notList w → tokenEnds rs (token (st .first) p) ≡ bad w → parse st t ≡ notList w
     unfolding parsed
-    bad-at e f = go d
+    bad-at w e f = go d
       where
-        go : {j : ℕ} {m : Bool} → Ended st t a p j m → parse st t ≡ notList
+        go : {j : ℕ} {m : Bool} → Ended st t a p j m → parse st t ≡ notList w
         go (atEnd x s) = g .rest ∙ ap (parsed (st .first)) (s rs) ∙ e
-        go (atComma {i = j} x l h s) = g .rest ∙ ap (parsed (st .first)) (s rs ∙ ap (λ (y : TextSoFar). reads st y (drop j t)) f ∙ reads-bad st (drop j t))
+        go (atComma {i = j} x l h s) = g .rest ∙ ap (parsed (st .first)) (s rs ∙ ap (λ (y : TextSoFar). reads st y (drop j t)) f ∙ reads-bad st w (drop j t))
 
-    pub none-at : r ≡ NoRange → Walked st t NotList ws ws'
-    none-at e = walked-bad st t ws ws' rs (g .marks) (bad-at (ap (textEnds rs) (sym er ∙ e)) (ap (tokenEnds rs) (sym er ∙ e)))
+    pub none-at : (w : Fault) → r ≡ NoRange w → Walked st t (NotList w) ws ws'
+    none-at w e = walked-bad st t ws ws' rs w (g .marks) (bad-at w (ap (textEnds rs) (sym er ∙ e)) (ap (tokenEnds rs) (sym er ∙ e)))
 
-    textEnds-empty : (qs : List Range) → false ≡ some qs → textEnds qs Empty ≡ notList
+    textEnds-empty : (qs : List Range) → false ≡ some qs → textEnds qs Empty ≡ notList Slip
     textEnds-empty [] e = refl
     textEnds-empty (q ∷ qs) e = absurd (false≢true e)
 
@@ -169,17 +171,17 @@ module _ (st : Style) (t ws ws' : List ℕ) (top : ℕ) (any : Bool) (a : ℕ) (
     textEnds-some (q ∷ qs) e = refl
 
     -- the first token
-    pub empty-first : r ≡ Empty → any ≡ false → Walked st t NotList ws ws'
+    pub empty-first : r ≡ Empty → any ≡ false → Walked st t (NotList Slip) ws ws'
     empty-first e f =
-        walked-bad st t ws ws' rs (g .marks)
-        (bad-at (ap (textEnds rs) (sym er ∙ e) ∙ textEnds-empty rs (sym f ∙ g .any-is)) (ap (tokenEnds rs) (sym er ∙ e)))
+        walked-bad st t ws ws' rs Slip (g .marks)
+        (bad-at Slip (ap (textEnds rs) (sym er ∙ e) ∙ textEnds-empty rs (sym f ∙ g .any-is)) (ap (tokenEnds rs) (sym er ∙ e)))
 
     -- not the last one
-    pub empty-inner : r ≡ Empty → more ≡ true → Walked st t NotList ws ws'
+    pub empty-inner : r ≡ Empty → more ≡ true → Walked st t (NotList Slip) ws ws'
     unfolding parsed
     empty-inner e f =
-        walked-bad st t ws ws' rs (g .marks)
-        (goes-parse f .2 ∙ ap (λ (y : TextSoFar). parsed (st .first) (reads st y (drop i t))) (ap (tokenEnds rs) (sym er ∙ e)) ∙ ap (parsed (st .first)) (reads-bad st (drop i t)))
+        walked-bad st t ws ws' rs Slip (g .marks)
+        (goes-parse f .2 ∙ ap (λ (y : TextSoFar). parsed (st .first) (reads st y (drop i t))) (ap (tokenEnds rs) (sym er ∙ e)) ∙ ap (parsed (st .first)) (reads-bad st Slip (drop i t)))
 
     pub empty-last : r ≡ Empty → any ≡ true → more ≡ false → Walked st t (Top top) ws ws'
     empty-last e f h =

@@ -8,9 +8,7 @@ use Rattle.word.specs.Places.{member, wordsOf}
 use Rattle.style.specs.declared.Style.{Style}
 use Rattle.text.specs.Lists.{Range, covers, highest}
 use Rattle.text.specs.Readings as read
-use Rattle.text.specs.Readings.{NumberSoFar, Unread, Open, Closed, Parsed, notList, ranges, parse}
-use Rattle.text.specs.declared.Value.{Value}
-use Rattle.text.specs.declared.Value.the-variants.{Of, Missing}
+use Rattle.text.specs.Readings.{NumberSoFar, Unread, Open, Closed, Left, Alone, From, Parsed, notList, ranges, parse}
 use Rattle.text.specs.declared.Part.{Part}
 use Rattle.text.specs.declared.Step.{Step}
 use Rattle.text.specs.declared.Step.the-variants.{Go, Ends, Stop}
@@ -24,9 +22,9 @@ numberSoFar (suc zero) v = Open v
 numberSoFar (suc (suc k)) v = Closed v
 
 -- whether a joiner came, and the number before it
-abbrev pub leftOf : ℕ → ℕ → Value
-leftOf zero a = Missing
-leftOf (suc k) a = Of a
+abbrev pub leftOf : ℕ → ℕ → Left
+leftOf zero a = Alone
+leftOf (suc k) a = From a
 
 abbrev pub partOf : Part → read.Part
 partOf p = read.part (leftOf (p .split) (p .left)) (numberSoFar (p .phase) (p .value))
@@ -34,10 +32,10 @@ partOf p = read.part (leftOf (p .split) (p .left)) (numberSoFar (p .phase) (p .v
 abbrev pub stepOf : Step → read.Step
 stepOf (Go p) = read.Go (partOf p)
 stepOf Ends = read.Ends
-stepOf Stop = read.Stop
+stepOf (Stop e) = read.Stop e
 
 abbrev pub measuredOf : Parsed → Measured
-measuredOf notList = NotList
+measuredOf (notList e) = NotList e
 measuredOf (ranges rs) = Top (highest rs)
 
 -- the words with the numbers of the ranges, as far as they go

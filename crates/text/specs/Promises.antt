@@ -2,33 +2,54 @@
 use Prim.Native.Nat.{ℕ, _+_, _/_, _≤_, _<_}
 use mathlib.Core.Path.{_≡_}
 use mathlib.Core.Bool.{true}
-use mathlib.Core.List.{List, [], _∷_}
+use mathlib.Core.List.{List, [], _∷_, _++_}
 use mathlib.Core.Logic.{_⊎_, _↔_}
+use lib.Dec.{eqb}
 use lib.ListN.{length, getD}
-use Rattle.storage.specs.Refusals.{changeNumber}
-use Rattle.storage.specs.Stores.{Bits, Changes}
-use Rattle.storage.specs.Guards.{Passed}
+use Rattle.word.specs.Sets.{choose}
+use Rattle.storage.specs.Refusals.{numberOf, changeNumber}
+use Rattle.storage.specs.Stores.{Bits, Outcome, done, refused, Bounded, Changes}
+use Rattle.storage.specs.Guards.{mostWords, Passed}
 use Rattle.storage.specs.Promises.{Meets, MeetsExactly}
 use Rattle.storage.specs.declared.Bitmap.{Bitmap}
 use Rattle.storage.specs.declared.Change.{Change}
+use Rattle.storage.specs.declared.Refusal.{Refusal}
 use Rattle.style.specs.Styles.{plainStyle}
 use Rattle.style.specs.Promises.{Allowed}
 use Rattle.style.specs.declared.Style.{Style}
 use Rattle.text.specs.Lists.{Range}
 use Rattle.text.specs.Grammar.{Digits, Listed}
+use Rattle.text.specs.Faults.{NumberOver, NotList}
 use Rattle.text.specs.Plain as base
 use Rattle.text.specs.Readings.{notList, ranges, parse, readingList}
+use Rattle.text.specs.declared.Fault.the-variants.{Slip, Huge}
 
--- reading in an allowed style, both ways: a text is read as ranges exactly where the grammar gives it those, and is no list exactly where it gives it none
+-- reading in an allowed style, both ways: a text is read as ranges exactly where the grammar gives it those, and is refused for a slip or a huge number
+-- exactly where its first bad token is no token or is too large
 pub record ReadsGrammar : Type 0 where
   pub accepted : (y : Style) → Allowed y → (t : List ℕ) (rs : List Range) → Listed y t rs ↔ (parse y t ≡ ranges rs)
-  pub refused : (y : Style) → Allowed y → (t : List ℕ) → ((rs : List Range) → Listed y t rs → ⊥) ↔ (parse y t ≡ notList)
+  pub slip : (y : Style) → Allowed y → (t : List ℕ) → NotList y t ↔ (parse y t ≡ notList Slip)
+  pub huge : (y : Style) → Allowed y → (t : List ℕ) → NumberOver y t ↔ (parse y t ≡ notList Huge)
 
--- digits by themselves: the bit is the number less the first one; a number below the first is none, and the limit rises by as much
+-- digits by themselves: the bit is the number less the first one; a number below the first is a slip, and the limit rises by as much
 pub record ReadsNumbers : Type 0 where
   pub bit : (y : Style) → Allowed y → {d : List ℕ} {a : ℕ} → Digits d (a + y .first) → a ≤ 4_294_967_295 → parse y d ≡ ranges (record { low = a; high = a } ∷ [])
-  pub below : (y : Style) → Allowed y → {d : List ℕ} {v : ℕ} → Digits d v → v < y .first → parse y d ≡ notList
-  pub above : (y : Style) → Allowed y → {d : List ℕ} {v : ℕ} → Digits d v → 4_294_967_295 + y .first < v → parse y d ≡ notList
+  pub below : (y : Style) → Allowed y → {d : List ℕ} {v : ℕ} → Digits d v → v < y .first → parse y d ≡ notList Slip
+  pub above : (y : Style) → Allowed y → {d : List ℕ} {v : ℕ} → Digits d v → 4_294_967_295 + y .first < v → parse y d ≡ notList Huge
+
+-- digits stand in the text that mean a number above the limit
+pub record Shows (y : Style) (t : List ℕ) : Type 0 where
+  pub front : List ℕ
+  pub digits : List ℕ
+  pub back : List ℕ
+  pub number : ℕ
+  pub stand : t ≡ front ++ digits ++ back
+  pub mean : Digits digits number
+  pub above : 4_294_967_295 + y .first < number
+
+-- who is told of a huge number finds it in the text
+abbrev pub ShowsHuge : Type 0
+ShowsHuge = (y : Style) → Allowed y → (t : List ℕ) → parse y t ≡ notList Huge → Shows y t
 
 -- i lies in one of the ranges
 abbrev pub Within : List Range → ℕ → Type 0
@@ -50,6 +71,15 @@ High t = (k : ℕ) × (k < length t) × (128 ≤ getD t k 0)
 abbrev pub NoList : (List ℕ → List Range → Type 0) → List ℕ → Type 0
 NoList lists t = (rs : List Range) → lists t rs → ⊥
 
+-- a text is a list, or no list, or has a number over: one of them always and no two, and the last two together are exactly what is no list
+pub record OneOfThree (y : Style) (t : List ℕ) : Type 0 where
+  pub one : ((rs : List Range) × Listed y t rs) ⊎ (NotList y t ⊎ NumberOver y t)
+  pub apart : NotList y t → NumberOver y t → ⊥
+  pub together : (NotList y t ⊎ NumberOver y t) ↔ NoList (Listed y) t
+
+abbrev pub TellsApart : Type 0
+TellsApart = (y : Style) → Allowed y → (t : List ℕ) → OneOfThree y t
+
 -- the text lists a number whose word is past c words
 abbrev pub Past : (List ℕ → List Range → Type 0) → List ℕ → ℕ → Type 0
 Past lists t c = (rs : List Range) × lists t rs × ((i : ℕ) × Within rs i × (c ≤ i / 64))
@@ -58,7 +88,7 @@ Past lists t c = (rs : List Range) × lists t rs × ((i : ℕ) × Within rs i ×
 abbrev pub ReadAs : (List ℕ → List Range → Type 0) → List ℕ → ℕ → Bits → Bits → Type 0
 ReadAs lists t c b s = (High t → ⊥) × ((rs : List Range) × lists t rs × Union rs s)
 
--- 8, then 7, then 6, each exactly where its condition holds
+-- as document 01 numbers it: 8, then 7, then 6, each exactly where its condition holds
 abbrev pub RefusedAs : (List ℕ → List Range → Type 0) → List ℕ → ℕ → Bits → ℕ → Type 0
 RefusedAs lists t c b k = ((k ≡ 8) × High t) ⊎ (((k ≡ 7) × (High t → ⊥) × NoList lists t) ⊎ ((k ≡ 6) × (High t → ⊥) × Past lists t c))
 
@@ -66,8 +96,13 @@ RefusedAs lists t c b k = ((k ≡ 8) × High t) ⊎ (((k ≡ 7) × (High t → �
 abbrev pub ListRead : Style → List ℕ → ℕ → Bits → Bits → Type 0
 ListRead y t c b s = Allowed y × ReadAs (Listed y) t c b s
 
+-- then 8, then 7 or 16, then 6
+abbrev pub TextRefused : Style → List ℕ → ℕ → ℕ → Type 0
+TextRefused y t c k =
+    ((k ≡ 8) × High t) ⊎ ((High t → ⊥) × (((k ≡ 7) × NotList y t) ⊎ (((k ≡ 16) × NumberOver y t) ⊎ ((k ≡ 6) × Past (Listed y) t c))))
+
 abbrev pub ListRefused : Style → List ℕ → ℕ → Bits → ℕ → Type 0
-ListRefused y t c b k = ((k ≡ 15) × (Allowed y → ⊥)) ⊎ (Allowed y × RefusedAs (Listed y) t c b k)
+ListRefused y t c b k = ((k ≡ 15) × (Allowed y → ⊥)) ⊎ (Allowed y × TextRefused y t c k)
 
 -- `from_list`
 abbrev pub ReadsList : Type 0
@@ -82,6 +117,15 @@ abbrev pub RefusesStyle : Type 0
 RefusesStyle =
     (y : Style) (t ws ws' : List ℕ) (b : Bitmap) (r : Change) → Passed ws b → Changes (readingList y t) ws b r ws' → (Allowed y → ⊥) ↔ (changeNumber r ≡ 15)
 
--- the plain style is read as document 01 says, exactly
+-- document 01 has one number for every text that is no list
+abbrev pub before : ℕ → ℕ
+before k = choose (eqb k 16) 7 k
+
+-- done, and refused with the number k of document 01
+pub record AsBefore (t : List ℕ) (c : ℕ) (b : Bits) (o : Outcome) : Type 0 where
+  pub done-is : (s : Bits) → (o ≡ done s) ↔ (ReadAs base.Listed t c b s × (s .count ≤ c))
+  pub refused-is : (k : ℕ) → ((e : Refusal) × (o ≡ refused e) × (before (numberOf e) ≡ k)) ↔ RefusedAs base.Listed t c b k
+
+-- the plain style is read as document 01 says, exactly, with 16 for a part of its 7
 abbrev pub PlainReads : Type 0
-PlainReads = (t : List ℕ) → MeetsExactly (readingList plainStyle t) (ReadAs base.Listed t) (RefusedAs base.Listed t)
+PlainReads = (t : List ℕ) (c : ℕ) (b : Bits) → c ≤ mostWords → b .count ≤ c → Bounded b → AsBefore t c b (readingList plainStyle t c b)

@@ -8,7 +8,7 @@ use storage::Refusal;
 use style::Style;
 ghost use mathlib.Core.Path.{_≡_};
 ghost use Rattle.storage.specs.Stores.{Changes};
-ghost use Rattle.text.specs.Readings.{kind, grown, fresh, value, token, empty, byDigit, byJoiner, byKind, readingList};
+ghost use Rattle.text.specs.Readings.{kind, grown, fresh, value, token, empty, byDigit, byJoiner, byKind, refusalOf, readingList};
 ghost use Rattle.text.specs.Kernels.{numberSoFar, leftOf, partOf, stepOf, Walked};
 
 pub const COMMA: u8 = 44;
@@ -30,10 +30,16 @@ enum Kind {
     Other,
 }
 
+// Why a text is no list: its first bad token has a slip, or a number of digits only that is above the limit.
+enum Fault {
+    Slip,
+    Huge,
+}
+
 // A number that ended.
 enum Value {
     Of(usize),
-    Missing,
+    Bad(Fault),
 }
 
 // How far a token is read: whether the joiner came, the number before it, and how far the number at hand is read: 0, no digit yet;
@@ -50,20 +56,20 @@ struct Part {
 enum Step {
     Go(Part),
     Ends,
-    Stop,
+    Stop(Fault),
 }
 
 // A token that ended.
 enum Token {
     Range(usize, usize),
     Empty,
-    NoRange,
+    NoRange(Fault),
 }
 
 // The largest number of a text, if it is a list.
 enum Measured {
     Top(usize),
-    NotList,
+    NotList(Fault),
 }
 
 fn kind_of(c: u8, joiner: usize) -> Kind
@@ -102,15 +108,15 @@ fn value_of(phase: usize, v: usize, first: usize) -> Value
     ensures { λ r. ⌜ r ≡ value first (numberSoFar phase v) ⌝ }
 {
     if phase == 0 {
-        return Value::Missing;
+        return Value::Bad(Fault::Slip);
     }
     if v < first {
-        return Value::Missing;
+        return Value::Bad(Fault::Slip);
     }
     if v - first <= LIMIT {
         Value::Of(v - first)
     } else {
-        Value::Missing
+        Value::Bad(Fault::Huge)
     }
 }
 
@@ -143,7 +149,7 @@ fn token_of(p: Part, first: usize) -> Token
     let a = p.left;
     let v = value_of(p.phase, p.value, first);
     match v {
-        Value::Missing => Token::NoRange,
+        Value::Bad(f) => Token::NoRange(f),
         Value::Of(b) => {
             if p.split == 0 {
                 return Token::Range(b, b);
@@ -151,7 +157,7 @@ fn token_of(p: Part, first: usize) -> Token
             if a <= b {
                 Token::Range(a, b)
             } else {
-                Token::NoRange
+                Token::NoRange(Fault::Slip)
             }
         }
     }
@@ -177,7 +183,7 @@ fn by_digit(p: Part, d: u8) -> Step
             value: grown(p.value, d),
         });
     }
-    Step::Stop
+    Step::Stop(Fault::Slip)
 }
 
 // A token and a joiner.
@@ -185,10 +191,10 @@ fn by_joiner(p: Part, first: usize) -> Step
     ensures { λ r. ⌜ stepOf r ≡ byJoiner (leftOf (p .split) (p .left)) (value first (numberSoFar (p .phase) (p .value))) ⌝ }
 {
     if p.split != 0 {
-        return Step::Stop;
+        return Step::Stop(Fault::Slip);
     }
     match value_of(p.phase, p.value, first) {
-        Value::Missing => Step::Stop,
+        Value::Bad(f) => Step::Stop(f),
         Value::Of(a) => Step::Go(Part {
             split: 1,
             left: a,
@@ -217,7 +223,7 @@ fn step_by(p: Part, k: Kind, first: usize) -> Step
         }
         Kind::Joiner => by_joiner(p, first),
         Kind::Comma => Step::Ends,
-        Kind::Other => Step::Stop,
+        Kind::Other => Step::Stop(Fault::Slip),
     }
 }
 
@@ -228,7 +234,7 @@ fn walk(words: &mut [u64], text: &[u8], style: Style) -> Measured
     let mut top: usize = 0;
     let mut any = false;
     let mut at = 0;
-    'tokens: loop {
+    let fault = 'tokens: loop {
         let mut part = fresh();
         let mut more = false;
         'digits: while at < text.len() {
@@ -240,7 +246,7 @@ fn walk(words: &mut [u64], text: &[u8], style: Style) -> Measured
                     more = true;
                     break 'digits;
                 }
-                Step::Stop => break 'tokens,
+                Step::Stop(f) => break 'tokens f,
             }
         }
         match token_of(part, style.first) {
@@ -254,19 +260,29 @@ fn walk(words: &mut [u64], text: &[u8], style: Style) -> Measured
                         return Measured::Top(top);
                     }
                 }
-                break 'tokens;
+                break 'tokens Fault::Slip;
             }
-            Token::NoRange => break 'tokens,
+            Token::NoRange(f) => break 'tokens f,
         }
         if !more {
             return Measured::Top(top);
         }
         any = true;
-    }
-    Measured::NotList
+    };
+    Measured::NotList(fault)
 }
 
-// The bitmap becomes the set that the text lists in a style, in the words up to its largest number's. 15, then 8, then 7, then 6, each before a word
+// The refusal of a text that is no list.
+fn refusal_of(f: Fault) -> Refusal
+    ensures { λ r. ⌜ r ≡ refusalOf f ⌝ }
+{
+    match f {
+        Fault::Slip => Refusal::NotList,
+        Fault::Huge => Refusal::NumberOver,
+    }
+}
+
+// The bitmap becomes the set that the text lists in a style, in the words up to its largest number's. 15, then 8, then 7 or 16, then 6, each before a word
 // is written. What an allowed style reads depends on its first number and joiner: from 1, with `:`, `1:3, 5` is {0, 1, 2, 4}.
 pub fn from_list(words: &mut [u64], b: Bitmap, text: &[u8], style: Style) -> Change
     ensures { λ r. ⌜ Changes (readingList style (now (text .entry))) (now (words .entry)) b r (now (words .exit)) ⌝ }
@@ -283,9 +299,9 @@ pub fn from_list(words: &mut [u64], b: Bitmap, text: &[u8], style: Style) -> Cha
         return Change::Refused(Refusal::NotAscii, b);
     }
     // The first walk is lent no word: it measures.
-    let m = walk(&mut words[..0], text, style);
-    let Measured::Top(top) = m else {
-        return Change::Refused(Refusal::NotList, b);
+    let top = match walk(&mut words[..0], text, style) {
+        Measured::Top(top) => top,
+        Measured::NotList(f) => return Change::Refused(refusal_of(f), b),
     };
     let count = top / 64 + 1;
     if count > words.len() {

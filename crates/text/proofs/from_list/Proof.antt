@@ -1,4 +1,4 @@
--- The guard, then 15, then 8, then 7, then 6, then the set of the list: a walk over no words measures, and one over zeroed words sets its ranges.
+-- The guard, then 15, then 8, then 7 or 16, then 6, then the set of the list: a walk over no words measures, and one over zeroed words sets its ranges.
 use mathlib.Core.Path.{_≡_, sym, _∙_}
 use mathlib.Core.Bool.{true}
 use borrow.Author.Needs.{needs}
@@ -9,7 +9,7 @@ use Rattle.storage.proofs.Checks.{passed}
 use Rattle.storage.proofs.Stores.{changes-stopped}
 use Rattle.style.specs.Styles.{allowed}
 use Rattle.text.specs.Lists.{plain}
-use Rattle.text.proofs.Taken.{list-refused-15, list-refused-8, list-refused-7, list-refused-6, list-done}
+use Rattle.text.proofs.Taken.{list-refused-15, list-refused-8, list-refused-as, list-refused-6, list-done}
 use Rattle.text.proofs.from_list.Statement.{statement}
 use Rattle.text.proofs.from_list.Tie as tie
 
@@ -68,20 +68,23 @@ slice-aggregate-walk c = search needs
 walk-requires : tie.Need-walk-requires
 walk-requires c κs = search needs
 
-enum-known-m : tie.Need-enum-known-m
-enum-known-m c = search needs
+enum-known-top : tie.Need-enum-known-top
+enum-known-top c = search needs
 
-enum-told-2 : tie.Need-enum-told-2
-enum-told-2 c = search needs
+enum-known-f : tie.Need-enum-known-f
+enum-known-f c = search needs
+
+refusal-of-requires : tie.Need-refusal-of-requires
+refusal-of-requires c κs = search needs
 
 same-length-4 : tie.Need-same-length-4
 same-length-4 c = search needs
 
 returns-4 : tie.Need-returns-4
 returns-4 c =
-    list-refused-7 _ _ _ _ (ok (c .before .before .before .before .before .before .before .before .before .before))
-    (styled (c .before .before .before .before .before .before .before .before)) (ascii (c .before .before .before .before .before .before)) _ _
-    (c .before .before .before .before .walk .ensures) (c .enum-told2 .given .1)
+    list-refused-as _ _ _ _ (ok (c .before .before .before .before .before .before .before .before .before .before .before .before))
+    (styled (c .before .before .before .before .before .before .before .before .before .before)) (ascii (c .before .before .before .before .before .before .before .before)) _ _
+    (c .before .before .before .before .before .before .walk .ensures) _ (c .before .before .f .given .1) _ (c .refusal-of .ensures)
 
 add-count : tie.Need-add-count
 add-count c = search needs
@@ -94,7 +97,7 @@ returns-5 c =
     list-refused-6 _ _ _ _ (ok (c .before .before .before .before .before .before .before .before .before .before .before .before))
     (styled (c .before .before .before .before .before .before .before .before .before .before)) (ascii (c .before .before .before .before .before .before .before .before)) _ _
     (c .before .before .before .before .before .before .walk .ensures) _
-    (c .before .before .m .given .1) (c .if3 .taken)
+    (c .before .before .top .given .1) (c .if3 .taken)
 
 max-requires : tie.Need-max-requires
 max-requires c κs = search needs
@@ -120,7 +123,7 @@ returns-6 c =
     (styled (c .before .before .before .before .before .before .before .before .before .before .before .before .before .before .before .before .before .before .before))
     (ascii (c .before .before .before .before .before .before .before .before .before .before .before .before .before .before .before .before .before)) _ _
     (c .before .before .before .before .before .before .before .before .before .before .before .before .before .before .before .walk .ensures) _
-    (c .before .before .before .before .before .before .before .before .before .before .before .m .given .1)
+    (c .before .before .before .before .before .before .before .before .before .before .before .top .given .1)
     (c .before .before .before .before .before .before .before .before .before .if3 .left) _ (c .before .before .before .before .before .before .before .max .ensures) _
     (c .before .before .before .before .before .before .zero-words .ensures) _ _ (c .before .before .walk2 .ensures)
 
@@ -142,8 +145,9 @@ from-list-spec =
     slice-relend-prefix-walk
     slice-aggregate-walk
     walk-requires
-    enum-known-m
-    enum-told-2
+    enum-known-top
+    enum-known-f
+    refusal-of-requires
     same-length-4
     returns-4
     add-count

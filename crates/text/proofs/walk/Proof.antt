@@ -77,8 +77,8 @@ digits-again c = (
 enum-told : tie.Need-enum-told Inv-digits μ-digits Inv-tokens μ-tokens
 enum-told c = search needs
 
-enum-told-2 : tie.Need-enum-told-2 Inv-digits μ-digits Inv-tokens μ-tokens
-enum-told-2 c = search needs
+enum-known-s-2 : tie.Need-enum-known-s-2 Inv-digits μ-digits Inv-tokens μ-tokens
+enum-known-s-2 c = search needs
 
 token-of-requires : tie.Need-token-of-requires Inv-digits μ-digits Inv-tokens μ-tokens
 token-of-requires c κs = tt
@@ -95,8 +95,8 @@ fill-region-requires c κs = tt
 max-requires : tie.Need-max-requires Inv-digits μ-digits Inv-tokens μ-tokens
 max-requires c κs = tt
 
-enum-told-3 : tie.Need-enum-told-3 Inv-digits μ-digits Inv-tokens μ-tokens
-enum-told-3 c = search needs
+enum-told-2 : tie.Need-enum-told-2 Inv-digits μ-digits Inv-tokens μ-tokens
+enum-told-2 c = search needs
 
 same-length : tie.Need-same-length Inv-digits μ-digits Inv-tokens μ-tokens
 same-length c = going-length _ _ _ _ _ _ _ _ (c .before .before .before .before .before .before .before .before .tokens .inv .1)
@@ -104,10 +104,10 @@ same-length c = going-length _ _ _ _ _ _ _ _ (c .before .before .before .before 
 returns : tie.Need-returns Inv-digits μ-digits Inv-tokens μ-tokens
 returns c =
     empty-last _ _ _ _ _ _ _ _ (c .before .before .before .before .before .before .before .before .tokens .inv .1) _ _ _ (ended-is (c .before .before .before .before .before)) _
-    (c .before .before .before .before .token-of .ensures) (c .before .before .enum-told3 .given .1) (c .before .if1 .taken) (not-true _ (c .if2 .taken))
+    (c .before .before .before .before .token-of .ensures) (c .before .before .enum-told2 .given .1) (c .before .if1 .taken) (not-true _ (c .if2 .taken))
 
-enum-told-4 : tie.Need-enum-told-4 Inv-digits μ-digits Inv-tokens μ-tokens
-enum-told-4 c = search needs
+enum-known-f : tie.Need-enum-known-f Inv-digits μ-digits Inv-tokens μ-tokens
+enum-known-f c = search needs
 
 same-length-2 : tie.Need-same-length-2 Inv-digits μ-digits Inv-tokens μ-tokens
 same-length-2 c =
@@ -140,13 +140,13 @@ tokens-again c = (
 )
 
 same-length-3 : tie.Need-same-length-3 Inv-digits μ-digits Inv-tokens μ-tokens
-same-length-3 c = going-length _ _ _ _ _ _ _ _ (c .before .before .before .before .before .before .before .before .tokens .inv .1)
+same-length-3 c = going-length _ _ _ _ _ _ _ _ (c .before .before .before .before .before .before .before .before .before .tokens .inv .1)
 
 returns-3 : tie.Need-returns-3 Inv-digits μ-digits Inv-tokens μ-tokens
 returns-3 c =
-    stops _ _ _ _ _ _ _ _ (c .before .before .before .before .before .before .before .before .tokens .inv .1)
-    (inside-stop _ _ _ _ _ _ _ (c .before .before .before .before .before .before .digits .inv .0) (c .before .before .before .before .before .digits-test .taken)
-    (c .before .before .before .kind-of .ensures) (c .before .before .step-by .ensures) (ap stepOf (c .enum-told2 .given .1)) _)
+    stops _ _ _ _ _ _ _ _ (c .before .before .before .before .before .before .before .before .before .tokens .inv .1) _
+    (inside-stop _ _ _ _ _ _ _ (c .before .before .before .before .before .before .before .digits .inv .0) (c .before .before .before .before .before .before .digits-test .taken)
+    (c .before .before .before .before .kind-of .ensures) (c .before .before .before .step-by .ensures) _ (ap stepOf (c .before .s2 .given .1)) _)
 
 same-length-4 : tie.Need-same-length-4 Inv-digits μ-digits Inv-tokens μ-tokens
 same-length-4 c = going-length _ _ _ _ _ _ _ _ (c .before .before .before .before .before .before .before .before .tokens .inv .1)
@@ -154,7 +154,7 @@ same-length-4 c = going-length _ _ _ _ _ _ _ _ (c .before .before .before .befor
 returns-4 : tie.Need-returns-4 Inv-digits μ-digits Inv-tokens μ-tokens
 returns-4 c =
     empty-inner _ _ _ _ _ _ _ _ (c .before .before .before .before .before .before .before .before .tokens .inv .1) _ _ _ (ended-is (c .before .before .before .before .before)) _
-    (c .before .before .before .before .token-of .ensures) (c .before .before .enum-told3 .given .1) (not-false _ (c .if2 .left))
+    (c .before .before .before .before .token-of .ensures) (c .before .before .enum-told2 .given .1) (not-false _ (c .if2 .left))
 
 same-length-5 : tie.Need-same-length-5 Inv-digits μ-digits Inv-tokens μ-tokens
 same-length-5 c = going-length _ _ _ _ _ _ _ _ (c .before .before .before .before .before .before .before .tokens .inv .1)
@@ -162,15 +162,15 @@ same-length-5 c = going-length _ _ _ _ _ _ _ _ (c .before .before .before .befor
 returns-5 : tie.Need-returns-5 Inv-digits μ-digits Inv-tokens μ-tokens
 returns-5 c =
     empty-first _ _ _ _ _ _ _ _ (c .before .before .before .before .before .before .before .tokens .inv .1) _ _ _ (ended-is (c .before .before .before .before)) _
-    (c .before .before .before .token-of .ensures) (c .before .enum-told3 .given .1) (c .if1 .left)
+    (c .before .before .before .token-of .ensures) (c .before .enum-told2 .given .1) (c .if1 .left)
 
 same-length-6 : tie.Need-same-length-6 Inv-digits μ-digits Inv-tokens μ-tokens
-same-length-6 c = going-length _ _ _ _ _ _ _ _ (c .before .before .before .before .before .before .tokens .inv .1)
+same-length-6 c = going-length _ _ _ _ _ _ _ _ (c .before .before .before .before .before .before .before .tokens .inv .1)
 
 returns-6 : tie.Need-returns-6 Inv-digits μ-digits Inv-tokens μ-tokens
 returns-6 c =
-    none-at _ _ _ _ _ _ _ _ (c .before .before .before .before .before .before .tokens .inv .1) _ _ _ (ended-is (c .before .before .before)) _ (c .before .before .token-of .ensures)
-    (c .enum-told4 .given .1)
+    none-at _ _ _ _ _ _ _ _ (c .before .before .before .before .before .before .before .tokens .inv .1) _ _ _ (ended-is (c .before .before .before .before)) _ (c .before .before .before .token-of .ensures)
+    _ (c .before .f .given .1)
 
 pub walk-spec : {M : Type 1} → statement M
 walk-spec =
@@ -191,16 +191,16 @@ walk-spec =
     digits-less
     digits-again
     enum-told
-    enum-told-2
+    enum-known-s-2
     token-of-requires
     enum-known-a
     add-fill-region
     fill-region-requires
     max-requires
-    enum-told-3
+    enum-told-2
     same-length
     returns
-    enum-told-4
+    enum-known-f
     same-length-2
     returns-2
     tokens-less

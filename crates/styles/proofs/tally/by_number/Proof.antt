@@ -1,14 +1,14 @@
--- Ends, and each count that is shown is inside the 74: four rows of 18. Loop: n is at most 16.
+-- Ends, and each count that is shown is inside the 78: four rows of 19. Loop: n is at most 17.
 use Prim.Native.Nat.{_-_, _≤_}
 use borrow.Author.Needs.{needs}
 use Rattle.styles.proofs.tally.by_number.Statement.{statement}
 use Rattle.styles.proofs.tally.by_number.Tie as tie
 
 abbrev Inv-loop : tie.InvT-loop
-Inv-loop counts row n₀ n = n ≤ 16
+Inv-loop counts row n₀ n = n ≤ 17
 
 abbrev μ-loop : tie.MeasureT-loop
-μ-loop counts row n₀ n = 16 - n
+μ-loop counts row n₀ n = 17 - n
 
 loop-holds : tie.Need-loop-holds Inv-loop μ-loop
 loop-holds c = search needs
