@@ -1,8 +1,9 @@
-// The mistakes that invite themselves, by document 01: what the mistaken way would have made, beside what is right.
+// The mistakes that invite themselves, by documents 01 and 02: what the mistaken way would have made, beside what is right.
 use crate::show;
 use sheet::Reading;
 use storage::Bitmap;
 use storage::EMPTY;
+use style::PLAIN;
 
 // `append` starts at a word boundary: it undoes `split_off` at a multiple of 64 only.
 fn append_after_split(at: usize) {
@@ -88,10 +89,29 @@ fn half_a_field() {
     );
 }
 
+fn list(typed: &[u8]) {
+    let mut store: [u64; 1] = [7; 1];
+    show::put(b"list ");
+    show::put(typed);
+    show::put(b":");
+    show::change(text::from_list(&mut store, EMPTY, typed, PLAIN), &store);
+}
+
+// A number above the limit is told from a slip of the finger, and is never cut to a smaller one. A token's left number decides before its right.
+fn one_digit_too_many() {
+    list(b"5");
+    list(b"18446744073709551621");
+    list(b"4294967296");
+    list(b"4294967296x");
+    list(b"4294967296-x");
+    list(b"x-4294967296");
+}
+
 pub(crate) fn books() {
     append_after_split(70);
     append_after_split(64);
     trim_before_rotation();
     unknown_record();
     half_a_field();
+    one_digit_too_many();
 }
