@@ -110,6 +110,40 @@ impl Rng {
         y
     }
 
+    // A number just above the upper limit or far above it.
+    fn huge(&mut self, first: u64) -> String {
+        let value = 4_294_967_296 + first + self.below(3);
+        let zeros = self.pick(&["", "", "0", "000000000000000000000000"]);
+        match self.below(4) {
+            0 => format!("{zeros}{value}{}", "0".repeat(self.below(40) as usize)),
+            1 => format!("{zeros}{}", (1u128 << 64) + u128::from(first + self.below(9))),
+            _ => format!("{zeros}{value}"),
+        }
+    }
+
+    // A text of a few tokens in which huge numbers, good ones and slips stand in any order, on either side of a joiner. The greatest number that is
+    // good comes last, because the original makes room for it before it looks at the next.
+    fn huge_text(&mut self, y: &Style) -> Vec<u8> {
+        let (first, joiner) = (y.first.min(1000) as u64, y.joiner as u8);
+        let mut text = vec![];
+        for _ in 0..1 + self.below(6) {
+            let number = match self.below(8) {
+                0..=3 => (first + self.below(60)).to_string(),
+                4 | 5 => self.huge(first),
+                6 => format!("{}{}", self.huge(first), self.pick(&["x", " ", " 5", "\t"])),
+                _ => self.pick(&["", " ", "x", "5 5"]).to_string(),
+            };
+            text.extend(number.bytes());
+            text.push(self.pick(&[b',', b',', joiner]));
+        }
+        match self.below(4) {
+            0 => text.extend((4_294_967_295 + first).to_string().bytes()),
+            1 => {}
+            _ => drop(text.pop()),
+        }
+        text
+    }
+
     // A text whose numbers fit the store and the style now and then.
     fn text(&mut self, capacity: usize, y: &Style) -> Vec<u8> {
         let n = 1 + self.below(12);
@@ -179,6 +213,7 @@ impl Rng {
         }
         match name {
             "set_many" => c.list = (0..self.below(12)).map(|_| self.below(64 * c.a.len() as u64 + 2) as usize).collect(),
+            "from_list" if self.below(4) == 0 => c.bytes = self.huge_text(&c.style),
             "from_list" => c.bytes = self.text(c.a.len(), &c.style),
             "write_list" => c.bytes = self.buffer(most > 100),
             _ => {}

@@ -76,7 +76,7 @@ fn at_limit(words: &mut [u64]) {
     last_number(words);
 }
 
-// The greatest number of list text, which has 33 bits: printed, read back, and one more, which is no list. The last bit alone is set before and after.
+// The greatest number of list text, which has 33 bits: printed, read back, and one more, which is above the limit. The last bit alone is set before and after.
 fn last_number(words: &mut [u64]) {
     let w = words.as_mut_ptr();
     let find = |name: &str| &CALLS.iter().find(|c| c.0 == name).expect("a call").1;
@@ -88,7 +88,7 @@ fn last_number(words: &mut [u64]) {
     let good = unsafe { read(w, LIMIT, &mut n, text.as_ptr(), 10, 1000, 45, 1, 2) == 0 && n == LIMIT };
     assert_at("taxolbin_from_list", good && words[LIMIT - 1] == 1 << 63 && words[..LIMIT - 1].iter().all(|&x| x == 0));
     text[9] = b'6';
-    let good = unsafe { read(w, LIMIT, &mut n, text.as_ptr(), 10, 1000, 45, 1, 2) == 7 && n == LIMIT };
+    let good = unsafe { read(w, LIMIT, &mut n, text.as_ptr(), 10, 1000, 45, 1, 2) == 16 && n == LIMIT };
     assert_at("taxolbin_from_list", good && words[LIMIT - 1] == 1 << 63 && words[LIMIT] == 0);
 }
 

@@ -22,7 +22,7 @@ fn stripped(mut t: &[u8]) -> &[u8] {
     t
 }
 
-// The bit that a number stands for.
+// The bit that a number stands for. Digits only above the limit are 16, anything else that is none is 7.
 fn number(t: &[u8], y: &Style) -> Result<u64, u32> {
     let t = stripped(t);
     if t.is_empty() || t.iter().any(|c| !c.is_ascii_digit()) {
@@ -31,11 +31,12 @@ fn number(t: &[u8], y: &Style) -> Result<u64, u32> {
     let value = t.iter().fold(0u64, |v, c| (v * 10 + (c - b'0') as u64).min(1 << 40));
     match value.checked_sub(y.first as u64) {
         Some(bit) if bit <= u32::MAX as u64 => Ok(bit),
-        _ => Err(7),
+        Some(_) => Err(16),
+        None => Err(7),
     }
 }
 
-// The ranges of a text in an allowed style, or 8 or 7.
+// The ranges of a text in an allowed style, or 8, 7 or 16: the first bad token's, its left number before its right.
 pub fn read(text: &[u8], y: &Style) -> Result<Vec<(u64, u64)>, u32> {
     if text.iter().any(|&c| c >= 128) {
         return Err(8);

@@ -129,9 +129,9 @@ fn expected(out: &Out) -> impl Fn(&Made) -> bool + '_ {
     }
 }
 
-// Whether the original says the same. It is asked where the call is done; where it is refused with 3, 4 or 5, and the original must panic; with 7, and it
-// must find no list; and where the result of a set operation has no space (6), and it must have made more words than there are. Elsewhere it may
-// allocate without bound, or has no such call.
+// Whether the original says the same. It is asked where the call is done; where it is refused with 3, 4 or 5, and the original must panic; with 7 or
+// 16, for which it has one error, and it must find no list; and where the result of a set operation has no space (6), and it must have made more words
+// than there are. Elsewhere it may allocate without bound, or has no such call.
 pub fn agrees(name: &str, c: &Case, out: &Out) -> Option<bool> {
     let gap = name.ends_with("_gap");
     let sets = ["or", "xor", "append"].contains(&name) || name.ends_with("_from") || name.starts_with("dup_");
@@ -139,7 +139,7 @@ pub fn agrees(name: &str, c: &Case, out: &Out) -> Option<bool> {
     if name.ends_with("_list") && c.style != PLAIN {
         return None;
     }
-    if name == "from_list" && out.number == 7 {
+    if name == "from_list" && [7, 16].contains(&out.number) {
         return Some(std::str::from_utf8(&c.bytes).is_ok_and(|t| Bitmap64::from_list(t).is_err()));
     }
     let asked = out.number == 0 || (3..=5).contains(&out.number) && !gap || out.number == 6 && (sets || name == "split_off");
