@@ -76,7 +76,8 @@ enum taxolbin_number {
     TAXOLBIN_BAD_PAYLOAD = 12,
     TAXOLBIN_NEWER_KIND = 13,
     TAXOLBIN_NO_EDITION = 14,
-    TAXOLBIN_BAD_STYLE = 15
+    TAXOLBIN_BAD_STYLE = 15,
+    TAXOLBIN_NUMBER_OVER = 16
 };
 
 /* A number in words. */
@@ -115,6 +116,8 @@ static inline const char *taxolbin_why(uint32_t number)
         return "the edition is neither 1 nor 2";
     case TAXOLBIN_BAD_STYLE:
         return "a style of list text is outside its limits: a first number over 1,000, a joiner that is not printable or is a digit, a comma or a blank, or a shortest range that is not 2 to 9";
+    case TAXOLBIN_NUMBER_OVER:
+        return "a number of the list is above the limit, which is 4,294,967,295 plus the style's first number";
     default:
         return "not a number of this library";
     }

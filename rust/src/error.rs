@@ -4,7 +4,7 @@ use core::fmt;
 use crate::numbers::Error;
 
 impl Error {
-    /// The number that the C calls return for it, 1 to 15.
+    /// The number that the C calls return for it, 1 to 16.
     ///
     /// ```
     /// assert_eq!(taxolbin::Error::NewerKind.number(), 13);

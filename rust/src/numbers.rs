@@ -61,10 +61,13 @@ pub enum Error {
     /// A style of list text is outside its limits: a first number over 1,000, a joiner that is not printable or is a digit, a comma or a blank, or a shortest range that is not 2 to 9.
     /// Brought about by the calling program.
     BadStyle = 15,
+    /// A number of the list is above the limit, which is 4,294,967,295 plus the style's first number.
+    /// Brought about by whoever typed the list.
+    NumberOver = 16,
 }
 
 impl Error {
-    pub(crate) const ALL: [Error; 15] = [
+    pub(crate) const ALL: [Error; 16] = [
         Error::StoreTooLong,
         Error::CountOverStore,
         Error::WidthOver,
@@ -80,6 +83,7 @@ impl Error {
         Error::NewerKind,
         Error::NoEdition,
         Error::BadStyle,
+        Error::NumberOver,
     ];
 
     /// The refusal in words.
@@ -102,6 +106,7 @@ impl Error {
             Error::BadStyle => {
                 "a style of list text is outside its limits: a first number over 1,000, a joiner that is not printable or is a digit, a comma or a blank, or a shortest range that is not 2 to 9"
             }
+            Error::NumberOver => "a number of the list is above the limit, which is 4,294,967,295 plus the style's first number",
         }
     }
 }
