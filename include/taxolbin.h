@@ -49,7 +49,7 @@ extern "C" {
 #endif
 
 /* This version. Before 1.0 a call may change with the second number. */
-#define TAXOLBIN_VERSION "0.2.0"
+#define TAXOLBIN_VERSION "0.3.0"
 
 /* The most words of a store, the newest edition, the most records of a sheet and bytes of a payload, and the most bits of a resize in a sheet. */
 #define TAXOLBIN_CAPACITY_MAX UINT64_C(67108864)
