@@ -345,8 +345,9 @@ TAXOLBIN_MUST_USE uint32_t taxolbin_dup_xor(
 /* The plain style, in which 0-3, 5-7, 11 is written, as the last four arguments of a call. */
 #define TAXOLBIN_PLAIN 0, '-', 1, 2
 
-/* The bitmap becomes the set of the list; the earlier set is discarded. A text of no bytes is 7. A number is at most 4,294,967,295 plus first, and
- * more is 7. [1, 2, 15, 8, 7, 6] */
+/* The bitmap becomes the set of the list; the earlier set is discarded. A text of no bytes is 7. A number is at most 4,294,967,295 plus first: a
+ * larger one of digits only is 16, and what else is no list is 7. The first token that is wrong decides, its left number before its right, so a
+ * text has one of the two. A range that falls is 7. [1, 2, 15, 8, 7 or 16, 6] */
 TAXOLBIN_MUST_USE uint32_t taxolbin_from_list(
     uint64_t *words, size_t capacity, size_t *count, const uint8_t *list, size_t length, size_t first, size_t joiner, uint32_t blank,
     size_t shortest);
@@ -357,7 +358,7 @@ TAXOLBIN_MUST_USE uint32_t taxolbin_write_list(
     size_t shortest);
 
 /* As taxolbin_from_list, but a text of no bytes, or of blanks alone (bytes 9 to 13 and 32), is the empty bitmap: it takes whatever
- * taxolbin_write_list has printed in the same style, given space, also with a line end behind it. [1, 2, 15, 8, 7, 6] */
+ * taxolbin_write_list has printed in the same style, given space, also with a line end behind it. [1, 2, 15, 8, 7 or 16, 6] */
 TAXOLBIN_MUST_USE static inline uint32_t taxolbin_load_list(
     uint64_t *words, size_t capacity, size_t *count, const uint8_t *list, size_t length, size_t first, size_t joiner, uint32_t blank,
     size_t shortest)

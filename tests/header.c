@@ -1,6 +1,6 @@
 /* The header's own functions, in what C and C++ have in common: the bytes of each kind's record, typed from the table of document 01, refusals, the
- * numbers in words, an empty book, styles of list text, and equal bitmaps of different counts. With an argument it prints the numbers in words and
- * nothing else. */
+ * numbers in words, an empty book, styles of list text, huge numbers in a list, and equal bitmaps of different counts. With an argument it prints the
+ * numbers in words and nothing else. */
 #include <stdio.h>
 #include <stdlib.h>
 #include <string.h>
@@ -191,6 +191,40 @@ static void empty_house(void)
     is("its count", count, 0);
 }
 
+/* A text that is refused with this number by both calls, and changes nothing. */
+static void list_refused(const char *text, uint32_t number, size_t first, size_t joiner, uint32_t blank, size_t shortest)
+{
+    const uint8_t *bytes = (const uint8_t *)text;
+    uint64_t words[2] = {0x3B0, 7};
+    size_t count = 1;
+    is(text, taxolbin_from_list(words, 2, &count, bytes, strlen(text), first, joiner, blank, shortest), number);
+    is(text, taxolbin_load_list(words, 2, &count, bytes, strlen(text), first, joiner, blank, shortest), number);
+    is("the words", words[0] == 0x3B0 && words[1] == 7, 1);
+    is("the count", count, 1);
+}
+
+/* A huge number is told from a slip of the finger: the first token that is wrong decides, its left number before its right. */
+static void huge_numbers(void)
+{
+    list_refused("4294967295", TAXOLBIN_NO_SPACE, TAXOLBIN_PLAIN);
+    list_refused("4294967296", TAXOLBIN_NUMBER_OVER, TAXOLBIN_PLAIN);
+    list_refused("4294967296\n", TAXOLBIN_NUMBER_OVER, TAXOLBIN_PLAIN);
+    list_refused("4294967296x", TAXOLBIN_NOT_LIST, TAXOLBIN_PLAIN);
+    list_refused("4294967296 5", TAXOLBIN_NOT_LIST, TAXOLBIN_PLAIN);
+    list_refused("4294967296-x", TAXOLBIN_NUMBER_OVER, TAXOLBIN_PLAIN);
+    list_refused("x-4294967296", TAXOLBIN_NOT_LIST, TAXOLBIN_PLAIN);
+    list_refused("4294967297-4294967296", TAXOLBIN_NUMBER_OVER, TAXOLBIN_PLAIN);
+    list_refused("4294967295-4294967294", TAXOLBIN_NOT_LIST, TAXOLBIN_PLAIN);
+    list_refused("4294967296,x", TAXOLBIN_NUMBER_OVER, TAXOLBIN_PLAIN);
+    list_refused("x,4294967296", TAXOLBIN_NOT_LIST, TAXOLBIN_PLAIN);
+    list_refused("18446744073709551621", TAXOLBIN_NUMBER_OVER, TAXOLBIN_PLAIN);
+    list_refused("4294967296,\xC2\xA0", TAXOLBIN_NOT_ASCII, TAXOLBIN_PLAIN);
+    list_refused("4294968295", TAXOLBIN_NO_SPACE, 1000, '-', 1, 2);
+    list_refused("4294968296", TAXOLBIN_NUMBER_OVER, 1000, '-', 1, 2);
+    list_refused("5:5000000000", TAXOLBIN_NOT_LIST, 10, ':', 1, 2);
+    list_refused("4294968296", TAXOLBIN_BAD_STYLE, 1001, '-', 1, 2);
+}
+
 /* The least bit of what a sheet makes of the notes {4} in so many words. */
 static size_t read_back(size_t words_in_use)
 {
@@ -254,6 +288,7 @@ int main(int argc, char **argv)
     empty_book();
     styles();
     empty_house();
+    huge_numbers();
     counts();
     list_space();
     return wrong;
