@@ -682,10 +682,12 @@ impl<'a> Bitmap<'a> {
 /// List text, such as `0-3, 5-7, 11`, in a publisher's [`Style`]; [`BitSlice::write_list`] prints it.
 impl Bitmap<'_> {
     /// Becomes the set of the list, read in a style; the earlier set is discarded. `BadStyle` where the style is outside its limits, `NotAscii` where
-    /// a byte is 128 or more, `NotList` where the text is no list, a text of no bytes among them, `NoSpace` where the store is too short.
+    /// a byte is 128 or more, `NotList` where the text is no list, a text of no bytes among them, `NumberOver` in its place where a number is above
+    /// the limit, `NoSpace` where the store is too short.
     ///
     /// Ranges may overlap and come in any order, blanks may stand around numbers, and a comma may end the text. A number is a bit plus the style's
-    /// first number: at least that, and at most 4,294,967,295 above it.
+    /// first number: at least that, and at most 4,294,967,295 above it. The first token that is wrong decides between `NotList` and `NumberOver`, its
+    /// left number before its right; `NumberOver` is a number of digits only, and a range that falls is `NotList`.
     ///
     /// ```
     /// use taxolbin::{Bitmap, Error, Style};
@@ -697,6 +699,8 @@ impl Bitmap<'_> {
     /// notes.from_list("1-3", Style { first: 1, ..Style::PLAIN })?;
     /// assert_eq!(notes.iter().collect::<Vec<_>>(), [0, 1, 2]);
     /// assert_eq!(notes.from_list("5-3", Style::PLAIN), Err(Error::NotList));
+    /// assert_eq!(notes.from_list("4294967296", Style::PLAIN), Err(Error::NumberOver));
+    /// assert_eq!(notes.from_list("4294967296x", Style::PLAIN), Err(Error::NotList));
     /// assert_eq!(notes.from_list(b"1\xC2\xA0", Style::PLAIN), Err(Error::NotAscii));
     /// assert_eq!(notes.from_list("", Style::PLAIN), Err(Error::NotList));
     /// assert_eq!(notes.from_list("", Style { shortest: 10, ..Style::PLAIN }), Err(Error::BadStyle));

@@ -24,7 +24,8 @@
 /// ```
 #[derive(Clone, Copy, Debug, PartialEq, Eq, Hash)]
 pub struct Style {
-    /// A number of the text is a bit plus this, 0 to 1,000.
+    /// A number of the text is a bit plus this, 0 to 1,000. A smaller number is [`Error::NotList`](crate::Error::NotList), and one that is larger by
+    /// more than 4,294,967,295 is [`Error::NumberOver`](crate::Error::NumberOver).
     pub first: usize,
     /// The byte between the two numbers of a range: 33 to 126, but no comma (44) and no digit (48 to 57). A value over
     /// 255 is refused too, and not cut to a byte before it is looked at.

@@ -665,7 +665,7 @@ fn sets_are_combined_into_another_store() {
 
 // ---- Lists ----
 
-const PIECES: [&[u8]; 22] = [
+const PIECES: [&[u8]; 24] = [
     b"0",
     b"1",
     b"7",
@@ -680,6 +680,8 @@ const PIECES: [&[u8]; 22] = [
     b"4294967295",
     b"4294968295",
     b"4294968296",
+    b"18446744073709551621",
+    b"999999999999999999999999999999999999999999",
     b"-",
     b":",
     b",",
@@ -690,7 +692,7 @@ const PIECES: [&[u8]; 22] = [
     b"\xC2\xA0",
 ];
 
-// The ranges of a list, each token by itself.
+// The ranges of a list, each token by itself; the first bad one decides.
 fn ranges(text: &[u8], style: Style) -> Result<Vec<(usize, usize)>, Error> {
     if !text.is_ascii() {
         return Err(Error::NotAscii);
@@ -700,28 +702,40 @@ fn ranges(text: &[u8], style: Style) -> Result<Vec<(usize, usize)>, Error> {
     if tokens.len() > 1 && tokens.last() == Some(&"") {
         tokens.pop();
     }
-    tokens.into_iter().map(|token| range(token, style).ok_or(Error::NotList)).collect()
+    tokens.into_iter().map(|token| range(token, style)).collect()
 }
 
 fn blank(c: char) -> bool {
     matches!(c, '\t'..='\r' | ' ')
 }
 
-fn range(token: &str, style: Style) -> Option<(usize, usize)> {
-    let number = |text: &str| {
-        let text = text.trim_matches(blank);
-        let value: u128 = text.bytes().all(|byte| byte.is_ascii_digit()).then(|| text.parse().ok())??;
-        let bit = value.checked_sub(style.first as u128)?;
-        (bit <= 4_294_967_295).then_some(bit as usize)
-    };
+// Digits only, of any length, above the limit are a number over it; anything else that is no number is no list.
+fn number(text: &str, style: Style) -> Result<usize, Error> {
+    let text = text.trim_matches(blank);
+    if text.is_empty() || !text.bytes().all(|byte| byte.is_ascii_digit()) {
+        return Err(Error::NotList);
+    }
+    let value = text.bytes().fold(0u128, |value, digit| value.saturating_mul(10).saturating_add(u128::from(digit - b'0')));
+    match value.checked_sub(style.first as u128) {
+        None => Err(Error::NotList),
+        Some(bit) if bit > 4_294_967_295 => Err(Error::NumberOver),
+        Some(bit) => Ok(bit as usize),
+    }
+}
+
+// The left number is looked at before the right, and both before which is larger.
+fn range(token: &str, style: Style) -> Result<(usize, usize), Error> {
     let (first, last) = token.split_once(char::from(style.joiner as u8)).unwrap_or((token, token));
-    let (first, last) = (number(first)?, number(last)?);
-    (first <= last).then_some((first, last))
+    let (first, last) = (number(first, style)?, number(last, style)?);
+    if first > last {
+        return Err(Error::NotList);
+    }
+    Ok((first, last))
 }
 
 #[test]
 fn lists_are_read() {
-    changes(70, &[Error::NoSpace, Error::NotList, Error::NotAscii, Error::BadStyle], |r, case| {
+    changes(70, &[Error::NoSpace, Error::NotList, Error::NumberOver, Error::NotAscii, Error::BadStyle], |r, case| {
         let (n, style) = (r.below(7), r.style());
         let mut pieces: Vec<&[u8]> = (0..n).map(|_| r.pick(&PIECES)).collect();
         let joiner = [style.joiner as u8];
@@ -754,15 +768,59 @@ fn lists_are_read() {
 fn lists_of_the_paper() {
     let mut store = [0; 2];
     let mut b = Bitmap::empty(&mut store).unwrap();
-    for text in ["", ",", "1,,", "5-3", "4294967296"] {
+    for text in ["", ",", "1,,", "5-3"] {
         assert_eq!(b.from_list(text, Style::PLAIN), Err(Error::NotList), "{text:?}");
     }
+    assert_eq!(b.from_list("4294967296", Style::PLAIN), Err(Error::NumberOver));
     assert_eq!(b.from_list("4294967295", Style::PLAIN), Err(Error::NoSpace));
     assert_eq!(b.from_list([0x31, 0xC2, 0xA0], Style::PLAIN), Err(Error::NotAscii));
     for (text, set) in [("1,", vec![1]), (" 1 - 3 , 2", vec![1, 2, 3]), ("120-127", (120..128).collect())] {
         b.from_list(text, Style::PLAIN).unwrap();
         assert_eq!(b.iter().collect::<Vec<_>>(), set, "{text:?}");
     }
+}
+
+// A huge number is told from a slip of the finger, the first bad token decides, and its left number before its right.
+#[test]
+fn huge_numbers_are_told_from_slips() {
+    const HUGE: [&str; 14] = [
+        "4294967296",
+        "4294967296 ",
+        "4294967296-",
+        "4294967296-x",
+        "4294967296-1",
+        "5-4294967296",
+        "99999999999-5-6",
+        "4294967297-4294967296",
+        "4294967296,x",
+        "4294967296,,",
+        "4294967295,4294967296",
+        "18446744073709551616",
+        "18446744073709551621",
+        "340282366920938463463374607431768211456",
+    ];
+    const SLIPS: [&str; 9] = [
+        "4294967296x",
+        "4294967296 5",
+        "x-4294967296",
+        "-4294967296",
+        "5-99999999999-6",
+        "4294967295-4294967294",
+        "x,4294967296",
+        "1,,4294967296",
+        "5-3,4294967296",
+    ];
+    let mut store = [6, 7];
+    let mut b = Bitmap::with_count(&mut store, 1).unwrap();
+    for (texts, error) in [(&HUGE[..], Error::NumberOver), (&SLIPS, Error::NotList)] {
+        for text in texts {
+            assert_eq!(b.from_list(text, Style::PLAIN), Err(error), "{text:?}");
+            assert_eq!(b.load_list(text, Style::PLAIN), Err(error), "{text:?}");
+        }
+    }
+    assert_eq!(b.from_list("5-5000000000", Style { first: 10, ..Style::PLAIN }), Err(Error::NotList));
+    assert_eq!(b.from_list(b"4294967296,\xFF", Style::PLAIN), Err(Error::NotAscii));
+    assert_eq!((b.count(), b.store()), (1, &[6, 7][..]));
 }
 
 // ---- Styles ----
@@ -786,8 +844,11 @@ fn styles_are_read() {
     assert_eq!(read("01000", THOUSAND), Ok(vec![0]));
     assert_eq!(read("1000-1002, 1127", THOUSAND), Ok(vec![0, 1, 2, 127]));
     assert_eq!(read("1A2", Style { joiner: 65, ..Style::PLAIN }), Ok(vec![1, 2]));
-    for (text, style) in [("1-2", COLON), ("1:2:3", COLON), ("0999", THOUSAND), ("999-1001", THOUSAND), ("4294968296", THOUSAND), ("", THOUSAND)] {
+    for (text, style) in [("1-2", COLON), ("1:2:3", COLON), ("0999", THOUSAND), ("999-1001", THOUSAND), ("", THOUSAND)] {
         assert_eq!(read(text, style), Err(Error::NotList), "{text:?} {style:?}");
+    }
+    for (text, style) in [("4294968296", THOUSAND), ("1000-4294968296", THOUSAND), ("4294967296:x", COLON)] {
+        assert_eq!(read(text, style), Err(Error::NumberOver), "{text:?} {style:?}");
     }
     for (text, style) in [("4294968295", THOUSAND), ("1128", THOUSAND), ("128", COLON)] {
         assert_eq!(read(text, style), Err(Error::NoSpace), "{text:?} {style:?}");
@@ -804,7 +865,7 @@ fn styles_are_looked_at() {
     let joiners = [0, 32, 44, 48, 57, 127, 256 + 45, usize::MAX].map(|joiner| Style { joiner, ..plain });
     let shortests = [0, 1, 10, usize::MAX].map(|shortest| Style { shortest, ..plain });
     for style in firsts.into_iter().chain(joiners).chain(shortests) {
-        for text in [&b"1"[..], b"", b" ", b"x", b"\xFF", b"128"] {
+        for text in [&b"1"[..], b"", b" ", b"x", b"\xFF", b"128", b"4294968297"] {
             assert_eq!(b.from_list(text, style), Err(Error::BadStyle), "{text:?} {style:?}");
             assert_eq!(b.load_list(text, style), Err(Error::BadStyle), "{text:?} {style:?}");
         }

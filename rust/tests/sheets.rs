@@ -263,6 +263,7 @@ fn an_empty_book_is_saved_and_loaded() {
     for text in ["\x08", "\x0e"] {
         assert_eq!(loaded.load_list(text, Style::PLAIN), Err(Error::NotList), "{text:?}");
     }
+    assert_eq!(loaded.load_list("4294967296\n", Style::PLAIN), Err(Error::NumberOver));
 }
 
 // Two sides with notes at 4 in one word and in two.
@@ -293,8 +294,8 @@ fn equal_bitmaps_are_reversed_by_their_lengths() {
 fn each_error_has_its_number_name_and_sentence() {
     let rows: Vec<Vec<&str>> =
         include_str!("../../include/numbers.txt").lines().filter(|line| !line.starts_with('#')).map(|line| line.split('\t').collect()).collect();
-    assert_eq!(rows.len(), 16);
-    assert_eq!((Error::from_number(0), Error::from_number(16), Error::from_number(u32::MAX)), (None, None, None));
+    assert_eq!(rows.len(), 17);
+    assert_eq!((Error::from_number(0), Error::from_number(17), Error::from_number(u32::MAX)), (None, None, None));
     for row in &rows[1..] {
         let number: u32 = row[0].parse().unwrap();
         let error = Error::from_number(number).unwrap();
