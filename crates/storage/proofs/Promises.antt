@@ -72,7 +72,8 @@ range NumberOver = omega arith
 -- the refusals in the order of their numbers
 abbrev ordered : List Refusal
 ordered =
-    StoreTooLong ∷ CountOverStore ∷ WidthOver ∷ IndexOver ∷ PastLength ∷ NoSpace ∷ NotList ∷ NotAscii ∷ NotSheet ∷ CutRecord ∷ BytesRemain ∷ BadPayload ∷ NewerKind ∷ NoEdition ∷ BadStyle ∷ NumberOver ∷ []
+    StoreTooLong ∷ CountOverStore ∷ WidthOver ∷ IndexOver ∷ PastLength ∷ NoSpace ∷ NotList ∷ NotAscii ∷ NotSheet ∷ CutRecord
+    ∷ BytesRemain ∷ BadPayload ∷ NewerKind ∷ NoEdition ∷ BadStyle ∷ NumberOver ∷ []
 
 nth-refusal : (k : ℕ) → k < lastNumber → numberOf (getD ordered k NoEdition) ≡ suc k
 nth-refusal k l =

@@ -10,12 +10,11 @@ use borrow.Author.Tests.{le-leb, lt-leb, leb-true, eq-eqb, eqb-true, eqb-false}
 use Rattle.word.proofs.Cases.{by-test, and-true, or-true}
 use Rattle.style.specs.Promises.{Allowed}
 use Rattle.style.specs.declared.Style.{Style}
-use Rattle.text.specs.Lists.{comma, listLimit, blank, digit, Range, zeroDigit}
+use Rattle.text.specs.Lists.{comma, blank, digit, Range, zeroDigit}
 use Rattle.text.specs.Grammar as g
 use Rattle.text.specs.Faults.{Written, digits}
-use Rattle.text.specs.Readings.{tooLarge, bitOf}
-use Rattle.text.specs.Readings.{kind, NumberSoFar, Unread, Open, Closed, Left, Alone, From, Part, part, fresh, value, unread, empty, ranged, token, byJoiner, byKind, TextSoFar, reading, tokenEnds, after, next, reads}
-use Rattle.text.specs.Readings.{notList, ranges, textEnds, parsed, parse}
+use Rattle.text.specs.Readings.{kind, tooLarge, NumberSoFar, Unread, Open, Closed, Left, Alone, From, Part, part, fresh, bitOf, value, unread, empty, ranged, token}
+use Rattle.text.specs.Readings.{byJoiner, byKind, TextSoFar, reading, tokenEnds, after, next, reads, notList, ranges, textEnds, parsed, parse}
 use Rattle.text.specs.declared.Kind.{Kind}
 use Rattle.text.specs.declared.Value.{Value}
 use Rattle.text.specs.declared.Value.the-variants.{Of, Bad}

@@ -1,10 +1,9 @@
 -- A text is a list, or its first bad token is none, or is huge: it is cut at its commas, and each token at its first joiner. So what is read is what the grammar says.
-use mathlib.Core.Path.{_≡_, refl, sym, ap, _∙_, subst}
+use mathlib.Core.Path.{_≡_, sym, _∙_, subst}
 use mathlib.Core.Logic.{_⊎_, ⊎-elim, inl, inr}
 use mathlib.Core.Bool.{false≢true}
 use mathlib.Core.List.{List, [], _∷_, _++_}
-use Prim.Native.Nat.{ℕ, _+_, _≤_, _<_}
-use native.Mathlib.Omega.{arith}
+use Prim.Native.Nat.{ℕ, _+_}
 use lib.Dec.{eqb}
 use borrow.Author.Tests.{eqb-true, eqb-false}
 use Rattle.word.proofs.Cases.{zero-one, by-lt, by-test}
@@ -13,7 +12,7 @@ use Rattle.style.specs.declared.Style.{Style}
 use Rattle.text.specs.Lists.{comma, blank, Range, range}
 use Rattle.text.specs.Grammar as g
 use Rattle.text.specs.Faults as b
-use Rattle.text.specs.Readings.{Alone, From, Parsed, notList, ranges, parse}
+use Rattle.text.specs.Readings.{Alone, From, notList, ranges, parse}
 use Rattle.text.specs.declared.Fault.{Fault}
 use Rattle.text.specs.declared.Fault.the-variants.{Slip, Huge}
 use Rattle.text.proofs.Accepts.{blank-is, is-blank, complete}

@@ -10,7 +10,7 @@ use Rattle.style.specs.declared.Style.{Style}
 use Rattle.text.specs.Lists.{comma, zeroDigit, listLimit, Range}
 use Rattle.text.specs.Grammar as g
 use Rattle.text.specs.Faults as b
-use Rattle.text.specs.Readings.{kind, tooLarge, grown, NumberSoFar, Unread, Open, Closed, Left, Alone, From, part, unread, byKind, TextSoFar, bad, reading, next, reads}
+use Rattle.text.specs.Readings.{kind, tooLarge, NumberSoFar, Unread, Open, Closed, Left, Alone, From, part, unread, byKind, TextSoFar, bad, reading, next, reads}
 use Rattle.text.specs.declared.Fault.the-variants.{Slip}
 use Rattle.text.specs.declared.Kind.{Kind}
 use Rattle.text.proofs.Tokens.{reads-bad}

@@ -10,7 +10,10 @@ use lib.ListN.{length}
 use borrow.Author.Tests.{ltb-true, ltb-false, leb-true}
 use Rattle.word.proofs.Cases.{by-lt, by-test, and-true, or-true}
 use Rattle.storage.specs.Refusals.{numberOf, changeNumber}
-use Rattle.storage.specs.Stores.{Bits, Bounded, Outcome, refused, done, held, answer}
+use Rattle.storage.specs.Guards.{Passed}
+use Rattle.storage.specs.Stores.{Bits, Bounded, Outcome, refused, done, held, answer, Changes}
+use Rattle.storage.specs.declared.Bitmap.{Bitmap}
+use Rattle.storage.specs.declared.Change.{Change}
 use Rattle.storage.specs.Promises.{Contained}
 use Rattle.storage.proofs.Checks.{within-ok, within-no}
 use Rattle.storage.proofs.Stores.{outcome-ok}
@@ -69,51 +72,6 @@ reads-numbers = record {
   below = λ y ok {d} {v} x l. no-number y ok Slip x (bit-below (y .first) (min tooLarge v) (omega (arith, l)));
   above = λ y ok {d} {v} x l. no-number y ok Huge x (bit-over (y .first) (min tooLarge v) (omega (arith, l)) (omega (arith, l, ok .first)));
 }
-
--- ---- a huge number stands in the text
-
-module _ (y : Style) where
-  number-shows : {t : List ℕ} → HugeNumber y t → Shows y t
-  number-shows (above {v = v} (digits {u = u} {d = d} {w = w} b x c) h) =
-      record { front = u; digits = d; back = w; number = v; stand = refl; mean = x; above = h }
-
-  -- and in what holds that text
-  right-of : {t : List ℕ} → Shows y t → (u : List ℕ) → Shows y (t ++ u)
-  right-of s u = record {
-    front = s .front;
-    digits = s .digits;
-    back = s .back ++ u;
-    number = s .number;
-    stand = ap (λ (z : List ℕ). z ++ u) (s .stand) ∙ append-assoc (s .front ++ s .digits) (s .back) u;
-    mean = s .mean;
-    above = s .above;
-  }
-
-  left-of : {t : List ℕ} → Shows y t → (u : List ℕ) → Shows y (u ++ t)
-  left-of s u = record {
-    front = u ++ s .front;
-    digits = s .digits;
-    back = s .back;
-    number = s .number;
-    stand =
-        ap (λ (z : List ℕ). u ++ z) (s .stand) ∙ sym (append-assoc u (s .front ++ s .digits) (s .back))
-        ∙ ap (λ (z : List ℕ). z ++ s .back) (sym (append-assoc u (s .front) (s .digits)));
-    mean = s .mean;
-    above = s .above;
-  }
-
-  token-shows : {t : List ℕ} → HugeToken y t → Shows y t
-  token-shows (single x) = number-shows x
-  token-shows (left {u = u} x f) = right-of (number-shows x) (y .joiner ∷ u)
-  token-shows (right {t = t} {u = u} x z) = subst (Shows y) (append-assoc t (y .joiner ∷ []) u) (left-of (number-shows z) (t ++ y .joiner ∷ []))
-
-  text-shows : {t : List ℕ} → NumberOver y t → Shows y t
-  text-shows (only x) = token-shows x
-  text-shows (here x u) = right-of (token-shows x) (44 ∷ u)
-  text-shows (later {t = t} {u = u} x h z) = subst (Shows y) (append-assoc t (44 ∷ []) u) (left-of (text-shows z) (t ++ 44 ∷ []))
-
-pub shows-huge : ShowsHuge
-shows-huge y ok t e = text-shows y (huge-correct y ok t e)
 
 -- ---- the ranges as a set
 
@@ -240,20 +198,23 @@ reads-list y t = record {
   why = λ c b d e. subst (Ends y t c) e (end y t c b);
 }
 
--- ---- a style that is not allowed
+-- ---- the call, where neither 1 nor 2 applies
+
+answer-is : (y : Style) (t ws ws' : List ℕ) (b : Bitmap) (r : Change) → Passed ws b → Changes (readingList y t) ws b r ws' → r ≡ answer (readingList y t (length ws) (held ws b)) b
+answer-is y t ws ws' b r p c = c .answers ∙ ap (λ (o : Outcome). answer o b) (outcome-ok (readingList y t) ws b p)
 
 pub refuses-style : RefusesStyle
 unfolding answer
-refuses-style y t ws ws' b r p c = (λ f. refused-15 f, λ e. only-15 (readingList y t (length ws) (held ws b)) (end y t (length ws) (held ws b)) (sym (ap changeNumber is) ∙ e))
+refuses-style y t ws ws' b r p c = (
+  λ f. refused-15 f,
+  λ e. only-15 (readingList y t (length ws) (held ws b)) (end y t (length ws) (held ws b)) (sym (ap changeNumber (answer-is y t ws ws' b r p c)) ∙ e),
+)
   where
-    is : r ≡ answer (readingList y t (length ws) (held ws b)) b
-    is = c .answers ∙ ap (λ (o : Outcome). answer o b) (outcome-ok (readingList y t) ws b p)
-
     refused-15 : (Allowed y → ⊥) → changeNumber r ≡ 15
     refused-15 f =
         by-test (allowed y)
         (λ a. absurd (f (is-allowed y a)))
-        (λ a. ap changeNumber (is ∙ ap (λ (o : Outcome). answer o b) (list-no-style y t (length ws) (held ws b) a)))
+        (λ a. ap changeNumber (answer-is y t ws ws' b r p c ∙ ap (λ (o : Outcome). answer o b) (list-no-style y t (length ws) (held ws b) a)))
 
     only-15 : (o : Outcome) → Ends y t (length ws) o → changeNumber (answer o b) ≡ 15 → Allowed y → ⊥
     only-15 (done s) f e ok = omega (arith, e)
@@ -262,3 +223,57 @@ refuses-style y t ws ws' b r p c = (λ f. refused-15 f, λ e. only-15 (readingLi
     only-15 (refused d) (inr (a, inr (h, inl q))) e ok = omega (arith, e, q .0)
     only-15 (refused d) (inr (a, inr (h, inr (inl q)))) e ok = omega (arith, e, q .0)
     only-15 (refused d) (inr (a, inr (h, inr (inr q)))) e ok = omega (arith, e, q .0)
+
+-- ---- a huge number stands in the text
+
+module _ (y : Style) where
+  number-shows : {t : List ℕ} → HugeNumber y t → Shows y t
+  number-shows (above {v = v} (digits {u = u} {d = d} {w = w} b x c) h) =
+      record { front = u; digits = d; back = w; number = v; stand = refl; mean = x; above = h }
+
+  -- and in what holds that text
+  right-of : {t : List ℕ} → Shows y t → (u : List ℕ) → Shows y (t ++ u)
+  right-of s u = record {
+    front = s .front;
+    digits = s .digits;
+    back = s .back ++ u;
+    number = s .number;
+    stand = ap (λ (z : List ℕ). z ++ u) (s .stand) ∙ append-assoc (s .front ++ s .digits) (s .back) u;
+    mean = s .mean;
+    above = s .above;
+  }
+
+  left-of : {t : List ℕ} → Shows y t → (u : List ℕ) → Shows y (u ++ t)
+  left-of s u = record {
+    front = u ++ s .front;
+    digits = s .digits;
+    back = s .back;
+    number = s .number;
+    stand =
+        ap (λ (z : List ℕ). u ++ z) (s .stand) ∙ sym (append-assoc u (s .front ++ s .digits) (s .back))
+        ∙ ap (λ (z : List ℕ). z ++ s .back) (sym (append-assoc u (s .front) (s .digits)));
+    mean = s .mean;
+    above = s .above;
+  }
+
+  token-shows : {t : List ℕ} → HugeToken y t → Shows y t
+  token-shows (single x) = number-shows x
+  token-shows (left {u = u} x f) = right-of (number-shows x) (y .joiner ∷ u)
+  token-shows (right {t = t} {u = u} x z) = subst (Shows y) (append-assoc t (y .joiner ∷ []) u) (left-of (number-shows z) (t ++ y .joiner ∷ []))
+
+  text-shows : {t : List ℕ} → NumberOver y t → Shows y t
+  text-shows (only x) = token-shows x
+  text-shows (here x u) = right-of (token-shows x) (44 ∷ u)
+  text-shows (later {t = t} {u = u} x h z) = subst (Shows y) (append-assoc t (44 ∷ []) u) (left-of (text-shows z) (t ++ 44 ∷ []))
+
+pub shows-huge : ShowsHuge
+unfolding answer
+shows-huge y t ws ws' b r p c e = go (readingList y t (length ws) (held ws b)) (end y t (length ws) (held ws b)) (sym (ap changeNumber (answer-is y t ws ws' b r p c)) ∙ e)
+  where
+    go : (o : Outcome) → Ends y t (length ws) o → changeNumber (answer o b) ≡ 16 → Shows y t
+    go (done s) f e = absurd (omega (arith, e))
+    go (refused d) (inl q) e = absurd (omega (arith, e, q .0))
+    go (refused d) (inr (a, inl q)) e = absurd (omega (arith, e, q .0))
+    go (refused d) (inr (a, inr (h, inl q))) e = absurd (omega (arith, e, q .0))
+    go (refused d) (inr (a, inr (h, inr (inl q)))) e = text-shows y (q .1)
+    go (refused d) (inr (a, inr (h, inr (inr q)))) e = absurd (omega (arith, e, q .0))

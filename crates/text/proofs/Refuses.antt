@@ -2,23 +2,24 @@
 use mathlib.Core.Path.{_≡_, refl, sym, ap, _∙_}
 use mathlib.Core.Logic.{_⊎_, inl, inr}
 use mathlib.Core.List.{List, [], _∷_, _++_}
-use Prim.Native.Nat.{ℕ, _+_, _≤_, _<_, min}
+use Prim.Native.Nat.{ℕ, _+_, _<_, min}
 use native.Mathlib.Omega.{arith}
 use borrow.Author.Tests.{lt-leb}
 use Rattle.style.specs.Promises.{Allowed}
 use Rattle.style.specs.declared.Style.{Style}
-use Rattle.text.specs.Lists.{comma, listLimit, Range}
+use Rattle.text.specs.Lists.{comma, Range}
 use Rattle.text.specs.Grammar as g
 use Rattle.text.specs.Faults as b
-use Rattle.text.specs.Readings.{tooLarge, NumberSoFar, Unread, Left, Alone, From, Part, part, fresh, value, empty, token, TextSoFar, bad, reading, tokenEnds, reads, notList, textEnds, parsed, parse}
+use Rattle.text.specs.Readings.{tooLarge, NumberSoFar, Unread, Left, Alone, From, Part, part, fresh, value, empty, token}
+use Rattle.text.specs.Readings.{TextSoFar, bad, reading, tokenEnds, reads, notList, textEnds, parsed, parse}
 use Rattle.text.specs.declared.Fault.{Fault}
 use Rattle.text.specs.declared.Fault.the-variants.{Slip, Huge}
-use Rattle.text.specs.declared.Value.the-variants.{Of, Bad}
+use Rattle.text.specs.declared.Value.the-variants.{Bad}
 use Rattle.text.specs.declared.Token.the-variants.{Range as Ranging, Empty, NoRange}
 use Rattle.text.proofs.Steps.{ranged-bad, token-bad, token-empty, other, bit-below, bit-over}
 use Rattle.text.proofs.Tokens.{reads-bad}
 use Rattle.text.proofs.Accepts.{reads-append, reads-cons, blanks-none, Kept, written-read, number-read, part-token, past-joiner, comma-read, upto-comma}
-use Rattle.text.proofs.Numbers.{Joins, cut, any, Text, written, blank, slipped, text}
+use Rattle.text.proofs.Numbers.{cut, any, Text, written, blank, slipped, text}
 
 module _ (st : Style) (ok : Allowed st) where
   -- ---- a bad token

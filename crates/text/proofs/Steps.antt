@@ -10,7 +10,7 @@ use lib.ListN.{length, getD, drop, drop-of-length-le}
 use lib.Seq.{drop-cons}
 use borrow.Author.Tests.{lt-ltb, le-ltb, lt-leb, le-leb, leb-true, ne-eqb, eq-eqb}
 use Rattle.word.specs.Sets.{choose}
-use Rattle.word.proofs.Cases.{and-true, zero-one}
+use Rattle.word.proofs.Cases.{zero-one}
 use Rattle.text.specs.Lists.{comma, zeroDigit, listLimit, blank, digit, plain}
 use Rattle.text.specs.Readings as read
 use Rattle.text.specs.Readings.{kind, NumberSoFar, Unread, Open, Closed, Left, Alone, From, bitOf, value, unread, alone, empty, ranged, token, part, grown}

@@ -24,7 +24,7 @@ pub data NoNumber (y : Style) : List ℕ → Type 0 where
   other : {t : List ℕ} → ((v : ℕ) → Written t v → ⊥) → NoNumber y t
   below : {t : List ℕ} {v : ℕ} → Written t v → v < y .first → NoNumber y t
 
--- a bad token that is too large: its number, its left number whatever the right one is, or, after a good left one, its right number
+-- a bad token that is huge: its number, its left number whatever the right one is, or, after a good left one, its right number
 pub data HugeToken (y : Style) : List ℕ → Type 0 where
   single : {t : List ℕ} → Huge y t → HugeToken y t
   left : {t u : List ℕ} → Huge y t → Free 44 u → HugeToken y (t ++ y .joiner ∷ u)

@@ -25,7 +25,7 @@ use Rattle.text.specs.Readings.{notList, ranges, parse, readingList}
 use Rattle.text.specs.declared.Fault.the-variants.{Slip, Huge}
 
 -- reading in an allowed style, both ways: a text is read as ranges exactly where the grammar gives it those, and is refused for a slip or a huge number
--- exactly where its first bad token is no token or is too large
+-- exactly where its first bad token is none or is huge
 pub record ReadsGrammar : Type 0 where
   pub accepted : (y : Style) → Allowed y → (t : List ℕ) (rs : List Range) → Listed y t rs ↔ (parse y t ≡ ranges rs)
   pub slip : (y : Style) → Allowed y → (t : List ℕ) → NotList y t ↔ (parse y t ≡ notList Slip)
@@ -36,20 +36,6 @@ pub record ReadsNumbers : Type 0 where
   pub bit : (y : Style) → Allowed y → {d : List ℕ} {a : ℕ} → Digits d (a + y .first) → a ≤ 4_294_967_295 → parse y d ≡ ranges (record { low = a; high = a } ∷ [])
   pub below : (y : Style) → Allowed y → {d : List ℕ} {v : ℕ} → Digits d v → v < y .first → parse y d ≡ notList Slip
   pub above : (y : Style) → Allowed y → {d : List ℕ} {v : ℕ} → Digits d v → 4_294_967_295 + y .first < v → parse y d ≡ notList Huge
-
--- digits stand in the text that mean a number above the limit
-pub record Shows (y : Style) (t : List ℕ) : Type 0 where
-  pub front : List ℕ
-  pub digits : List ℕ
-  pub back : List ℕ
-  pub number : ℕ
-  pub stand : t ≡ front ++ digits ++ back
-  pub mean : Digits digits number
-  pub above : 4_294_967_295 + y .first < number
-
--- who is told of a huge number finds it in the text
-abbrev pub ShowsHuge : Type 0
-ShowsHuge = (y : Style) → Allowed y → (t : List ℕ) → parse y t ≡ notList Huge → Shows y t
 
 -- i lies in one of the ranges
 abbrev pub Within : List Range → ℕ → Type 0
@@ -116,6 +102,20 @@ ReadsListExact = (y : Style) (t : List ℕ) → MeetsExactly (readingList y t) (
 abbrev pub RefusesStyle : Type 0
 RefusesStyle =
     (y : Style) (t ws ws' : List ℕ) (b : Bitmap) (r : Change) → Passed ws b → Changes (readingList y t) ws b r ws' → (Allowed y → ⊥) ↔ (changeNumber r ≡ 15)
+
+-- digits stand in the text that mean a number above the limit
+pub record Shows (y : Style) (t : List ℕ) : Type 0 where
+  pub front : List ℕ
+  pub digits : List ℕ
+  pub back : List ℕ
+  pub number : ℕ
+  pub stand : t ≡ front ++ digits ++ back
+  pub mean : Digits digits number
+  pub above : 4_294_967_295 + y .first < number
+
+-- the call: who gets 16 finds such digits
+abbrev pub ShowsHuge : Type 0
+ShowsHuge = (y : Style) (t ws ws' : List ℕ) (b : Bitmap) (r : Change) → Passed ws b → Changes (readingList y t) ws b r ws' → changeNumber r ≡ 16 → Shows y t
 
 -- document 01 has one number for every text that is no list
 abbrev pub before : ℕ → ℕ

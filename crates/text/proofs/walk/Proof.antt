@@ -169,8 +169,8 @@ same-length-6 c = going-length _ _ _ _ _ _ _ _ (c .before .before .before .befor
 
 returns-6 : tie.Need-returns-6 Inv-digits μ-digits Inv-tokens μ-tokens
 returns-6 c =
-    none-at _ _ _ _ _ _ _ _ (c .before .before .before .before .before .before .before .tokens .inv .1) _ _ _ (ended-is (c .before .before .before .before)) _ (c .before .before .before .token-of .ensures)
-    _ (c .before .f .given .1)
+    none-at _ _ _ _ _ _ _ _ (c .before .before .before .before .before .before .before .tokens .inv .1) _ _ _ (ended-is (c .before .before .before .before)) _
+    (c .before .before .before .token-of .ensures) _ (c .before .f .given .1)
 
 pub walk-spec : {M : Type 1} → statement M
 walk-spec =
