@@ -114,7 +114,7 @@ def page():
     replayed = (CRATES / "replay/stdout").read_text().splitlines()
     sheets = (CRATES / "sheets/stdout").read_text().splitlines()
     styles = (CRATES / "styles/stdout").read_text().splitlines()
-    rows = re.findall(r"^\s*(?:∷ )?sample \(", (CRATES / "cases/specs/Cases.antt").read_text(), re.M)
+    rows = re.findall(r"^\s*(?:∷ )?(?:sample|refusing) \(", (CRATES / "cases/specs/Cases.antt").read_text(), re.M)
     bent = sum(1 for p in CRATES.glob("*/must-fail/def_*.edit"))
     way = list(short_way())
 
