@@ -220,21 +220,24 @@ faulted =
     ∷ refusing (120 ∷ 45 ∷ over) 7
     ∷ refusing (45 ∷ over) 7
     ∷ refusing (49 ∷ 45 ∷ over) 16
+    ∷ refusing (49 ∷ 45 ∷ 32 ∷ over ++ 32 ∷ []) 16
     -- cut at the first joiner: `99999999999-5-6`, `5-99999999999-6`
     ∷ refusing (nines ++ 45 ∷ 53 ∷ 45 ∷ 54 ∷ []) 16
     ∷ refusing (53 ∷ 45 ∷ nines ++ 45 ∷ 54 ∷ []) 7
-    -- a left number below the first decides: first 10, `5-5000000000`
+    -- the left number below the first, or the right one: first 10, `5-5000000000`, `5000000000-5`
     ∷ sample (from-list-in (style 10 45 true 2) (53 ∷ 45 ∷ 53 ∷ 48 ∷ 48 ∷ 48 ∷ 48 ∷ 48 ∷ 48 ∷ 48 ∷ 48 ∷ 48 ∷ []) 2) (7 ∷ 0 ∷ 0 ∷ 0 ∷ [])
+    ∷ sample (from-list-in (style 10 45 true 2) (53 ∷ 48 ∷ 48 ∷ 48 ∷ 48 ∷ 48 ∷ 48 ∷ 48 ∷ 48 ∷ 48 ∷ 45 ∷ 53 ∷ []) 2) (16 ∷ 0 ∷ 0 ∷ 0 ∷ [])
     -- falling only where both are within the limit: `4294967297-4294967296`
     ∷ refusing (52 ∷ 50 ∷ 57 ∷ 52 ∷ 57 ∷ 54 ∷ 55 ∷ 50 ∷ 57 ∷ 55 ∷ 45 ∷ over) 16
-    -- the first bad token decides: `4294967296,x`, `4294967296,,`; `x,4294967296`, `1,,4294967296`, `5-3,4294967296`
+    -- the first bad token decides: `4294967296,x`, `4294967296,,`, `1,4294967296,x`; `x,4294967296`, `1,,4294967296`, `5-3,4294967296`
     ∷ refusing (over ++ 44 ∷ 120 ∷ []) 16
     ∷ refusing (over ++ 44 ∷ 44 ∷ []) 16
+    ∷ refusing (49 ∷ 44 ∷ over ++ 44 ∷ 120 ∷ []) 16
     ∷ refusing (120 ∷ 44 ∷ over) 7
     ∷ refusing (49 ∷ 44 ∷ 44 ∷ over) 7
     ∷ refusing (53 ∷ 45 ∷ 51 ∷ 44 ∷ over) 7
-    -- 8 before, 6 after: a byte FF, and 4294967295, which has no space in two words
-    ∷ refusing (over ++ 0xff ∷ []) 8
+    -- 8 before, 6 after: a byte FF in a later token, and 4294967295, which has no space in two words
+    ∷ refusing (over ++ 44 ∷ 0xff ∷ []) 8
     ∷ refusing (52 ∷ 50 ∷ 57 ∷ 52 ∷ 57 ∷ 54 ∷ 55 ∷ 50 ∷ 57 ∷ 53 ∷ 44 ∷ over) 16
     ∷ []
 

@@ -14,13 +14,12 @@ use Rattle.text.specs.Lists.{comma, blank, digit, Range, zeroDigit}
 use Rattle.text.specs.Grammar as g
 use Rattle.text.specs.Faults.{Written, digits}
 use Rattle.text.specs.Readings.{kind, tooLarge, NumberSoFar, Unread, Open, Closed, Left, Alone, From, Part, part, fresh, bitOf, value, unread, empty, ranged, token}
-use Rattle.text.specs.Readings.{byJoiner, byKind, TextSoFar, reading, tokenEnds, after, next, reads, notList, ranges, textEnds, parsed, parse}
+use Rattle.text.specs.Readings.{byJoiner, byKind, TextSoFar, reading, tokenEnds, after, next, reads, noList, ranges, textEnds, parsed, parse}
 use Rattle.text.specs.declared.Kind.{Kind}
 use Rattle.text.specs.declared.Value.{Value}
 use Rattle.text.specs.declared.Value.the-variants.{Of, Bad}
 use Rattle.text.specs.declared.Fault.{Fault}
-use Rattle.text.specs.declared.Fault.the-variants.{Slip}
-use Rattle.text.specs.declared.Token.the-variants.{Range as Ranging, NoRange}
+use Rattle.text.specs.declared.Token.the-variants.{Range as Ranging}
 use Rattle.text.proofs.Steps.{kind-digit, kind-blank, kind-joiner, kind-comma, kind-other, chosen, token-at, bit-of}
 use Rattle.text.specs.declared.Kind.the-variants.{Digit, Blank, Joiner, Comma, Other}
 use Rattle.text.specs.declared.Token.{Token}
@@ -217,7 +216,7 @@ module _ (st : Style) (ok : Allowed st) where
       let s = number-read rs (From a) y in (
         part (From a) (s .n),
         past-joiner rs t (q .n) (q .read) (q .is) u ∙ s .read,
-        part-token (From a) (s .n) (s .is) (s .full) ∙ chosen (Ranging a b) (NoRange Slip) (le-leb a b h),
+        part-token (From a) (s .n) (s .is) (s .full) ∙ chosen _ _ (le-leb a b h),
       )
 
   -- up to a comma
@@ -246,6 +245,6 @@ module _ (st : Style) (ok : Allowed st) where
   complete x = list-read [] x
 
   -- digits that are no number of the style
-  pub no-number : {d : List ℕ} {v : ℕ} (f : Fault) → g.Digits d v → bitOf (st .first) (min tooLarge v) ≡ Bad f → parse st d ≡ notList f
+  pub no-number : {d : List ℕ} {v : ℕ} (f : Fault) → g.Digits d v → bitOf (st .first) (min tooLarge v) ≡ Bad f → parse st d ≡ noList f
   unfolding parse parsed token empty value
   no-number f x e = ap (parsed (st .first)) (digits-read [] Alone x) ∙ ap (λ (z : Value). textEnds [] (ranged Alone z)) e

@@ -3,7 +3,7 @@ use mathlib.Core.Path.{_≡_, sym, _∙_, subst}
 use mathlib.Core.Logic.{_⊎_, ⊎-elim, inl, inr}
 use mathlib.Core.Bool.{false≢true}
 use mathlib.Core.List.{List, [], _∷_, _++_}
-use Prim.Native.Nat.{ℕ, _+_}
+use Prim.Native.Nat.{ℕ}
 use lib.Dec.{eqb}
 use borrow.Author.Tests.{eqb-true, eqb-false}
 use Rattle.word.proofs.Cases.{zero-one, by-lt, by-test}
@@ -12,12 +12,12 @@ use Rattle.style.specs.declared.Style.{Style}
 use Rattle.text.specs.Lists.{comma, blank, Range, range}
 use Rattle.text.specs.Grammar as g
 use Rattle.text.specs.Faults as b
-use Rattle.text.specs.Readings.{Alone, From, notList, ranges, parse}
+use Rattle.text.specs.Readings.{Alone, From, noList, ranges, parse}
 use Rattle.text.specs.declared.Fault.{Fault}
 use Rattle.text.specs.declared.Fault.the-variants.{Slip, Huge}
 use Rattle.text.proofs.Accepts.{blank-is, is-blank, complete}
 use Rattle.text.proofs.Numbers.{cut, any, Judged, good, huge, none, judge}
-use Rattle.text.proofs.Refuses.{slips, huge-ones}
+use Rattle.text.proofs.Refuses.{free-left, free-right, slips, huge-ones}
 
 -- ---- a text and a byte
 
@@ -36,15 +36,6 @@ pieces c (d ∷ t) =
     longer : (d ≡ c → ⊥) → {t : List ℕ} → Pieces c t → Pieces c (d ∷ t)
     longer h (last f) = last (b.cons h f)
     longer h (more {t = t} f p) = more {t = d ∷ t} (b.cons h f) p
-
--- what is on either side of another byte
-free-left : {c : ℕ} (t : List ℕ) (d : ℕ) (u : List ℕ) → b.Free c (t ++ d ∷ u) → b.Free c t
-free-left [] d u f = b.nil
-free-left (x ∷ t) d u (b.cons h f) = b.cons h (free-left t d u f)
-
-free-right : {c : ℕ} (t : List ℕ) (d : ℕ) (u : List ℕ) → b.Free c (t ++ d ∷ u) → b.Free c u
-free-right [] d u (b.cons h f) = f
-free-right (x ∷ t) d u (b.cons h f) = free-right t d u f
 
 all-blank : (t : List ℕ) → g.Blanks t ⊎ (g.Blanks t → ⊥)
 all-blank [] = inl g.nil
@@ -67,26 +58,26 @@ module _ (st : Style) (ok : Allowed st) where
     large : b.HugeToken st t → Told t
     wrong : b.NoToken st t → Told t
 
-  one-number : {t : List ℕ} → b.Free comma t → b.Free (st .joiner) t → Judged st ok t → Told t
-  one-number f j (good a x) = right (range a a) (g.single x)
-  one-number f j (huge x) = large (b.single x)
-  one-number f j (none x) = wrong (b.single f j x)
+  one-number : {t : List ℕ} → b.Free (st .joiner) t → Judged st ok t → Told t
+  one-number j (good a x) = right (range a a) (g.single x)
+  one-number j (huge x) = large (b.single x)
+  one-number j (none x) = wrong (b.single j x)
 
-  second : {t u : List ℕ} (a : ℕ) → g.Numeral st t a → b.Free comma u → Judged st ok u → Told (t ++ st .joiner ∷ u)
-  second a x f (good c y) = by-lt c a (λ h. wrong (b.falling x y h)) (λ h. right (range a c) (g.pair x y h))
-  second a x f (huge y) = large (b.right x y)
-  second a x f (none y) = wrong (b.right x f y)
+  second : {t u : List ℕ} (a : ℕ) → g.Numeral st t a → Judged st ok u → Told (t ++ st .joiner ∷ u)
+  second a x (good c y) = by-lt c a (λ h. wrong (b.falling x y h)) (λ h. right (range a c) (g.pair x y h))
+  second a x (huge y) = large (b.right x y)
+  second a x (none y) = wrong (b.right x y)
 
-  first : {t u : List ℕ} → b.Free comma t → b.Free comma u → b.Free (st .joiner) t → Judged st ok t → Told (t ++ st .joiner ∷ u)
-  first {u = u} f k j (good a x) = second a x k (judge st ok (From a) u k any)
-  first f k j (huge x) = large (b.left x k)
-  first f k j (none x) = wrong (b.left f j x k)
+  first : {t u : List ℕ} → b.Free comma u → b.Free (st .joiner) t → Judged st ok t → Told (t ++ st .joiner ∷ u)
+  first {u = u} k j (good a x) = second a x (judge st ok (From a) u k any)
+  first {u = u} k j (huge x) = large (b.left x u)
+  first {u = u} k j (none x) = wrong (b.left j x u)
 
   token : {t : List ℕ} → Pieces (st .joiner) t → b.Free comma t → Told t
-  token (last {t = t} j) f = one-number f j (judge st ok Alone t f (cut j))
+  token (last {t = t} j) f = one-number j (judge st ok Alone t f (cut j))
   token (more {t = t} {u = u} j p) f =
       let k = free-left t (st .joiner) u f in
-      first k (free-right t (st .joiner) u f) j (judge st ok Alone t k (cut j))
+      first (free-right t (st .joiner) u f) j (judge st ok Alone t k (cut j))
 
   -- ---- so is every text
 
@@ -96,10 +87,10 @@ module _ (st : Style) (ok : Allowed st) where
     over : b.NumberOver st t → Fate t
 
   -- the last token, and one with a comma after it
-  end : {t : List ℕ} → Told t → Fate t
-  end (right r x) = listed (r ∷ []) (g.last x)
-  end (large x) = over (b.only x)
-  end (wrong x) = slip (b.only x)
+  end : {t : List ℕ} → b.Free comma t → Told t → Fate t
+  end f (right r x) = listed (r ∷ []) (g.last x)
+  end f (large x) = over (b.only f x)
+  end f (wrong x) = slip (b.only f x)
 
   after-good : {t u : List ℕ} {r : Range} → g.Token st t r → g.Blanks u ⊎ (g.Blanks u → ⊥) → Fate u → Fate (t ++ comma ∷ u)
   after-good {r = r} x (inl z) y = listed (r ∷ []) (g.ended x z)
@@ -107,14 +98,14 @@ module _ (st : Style) (ok : Allowed st) where
   after-good x (inr h) (slip y) = slip (b.later x h y)
   after-good x (inr h) (over y) = over (b.later x h y)
 
-  on : {t u : List ℕ} → Told t → Fate u → Fate (t ++ comma ∷ u)
-  on {u = u} (large x) y = over (b.here x u)
-  on {u = u} (wrong x) y = slip (b.here x u)
-  on {u = u} (right r x) y = after-good x (all-blank u) y
+  on : {t u : List ℕ} → b.Free comma t → Told t → Fate u → Fate (t ++ comma ∷ u)
+  on {u = u} f (large x) y = over (b.here f x u)
+  on {u = u} f (wrong x) y = slip (b.here f x u)
+  on {u = u} f (right r x) y = after-good x (all-blank u) y
 
   fate-of : {t : List ℕ} → Pieces comma t → Fate t
-  fate-of (last {t = t} f) = end (token (pieces (st .joiner) t) f)
-  fate-of (more {t = t} f p) = on (token (pieces (st .joiner) t) f) (fate-of p)
+  fate-of (last {t = t} f) = end f (token (pieces (st .joiner) t) f)
+  fate-of (more {t = t} f p) = on f (token (pieces (st .joiner) t) f) (fate-of p)
 
   pub fate : (t : List ℕ) → Fate t
   fate t = fate-of (pieces comma t)
@@ -124,10 +115,10 @@ module _ (st : Style) (ok : Allowed st) where
   same-ranges : {rs qs : List Range} → ranges rs ≡ ranges qs → rs ≡ qs
   same-ranges e = cc
 
-  no-ranges : {d : Fault} {qs : List Range} → notList d ≡ ranges qs → ⊥
+  no-ranges : {d : Fault} {qs : List Range} → noList d ≡ ranges qs → ⊥
   no-ranges e = zero-one cc
 
-  two-faults : notList Slip ≡ notList Huge → ⊥
+  two-faults : noList Slip ≡ noList Huge → ⊥
   two-faults e = zero-one cc
 
   pub correct : (t : List ℕ) (rs : List Range) → parse st t ≡ ranges rs → g.Listed st t rs
@@ -138,7 +129,7 @@ module _ (st : Style) (ok : Allowed st) where
       go (slip x) = absurd (no-ranges (sym (slips st ok x) ∙ e))
       go (over x) = absurd (no-ranges (sym (huge-ones st ok x) ∙ e))
 
-  pub slip-correct : (t : List ℕ) → parse st t ≡ notList Slip → b.NotList st t
+  pub slip-correct : (t : List ℕ) → parse st t ≡ noList Slip → b.NotList st t
   slip-correct t e = go (fate t)
     where
       go : Fate t → b.NotList st t
@@ -146,7 +137,7 @@ module _ (st : Style) (ok : Allowed st) where
       go (slip x) = x
       go (over x) = absurd (two-faults (sym e ∙ huge-ones st ok x))
 
-  pub huge-correct : (t : List ℕ) → parse st t ≡ notList Huge → b.NumberOver st t
+  pub huge-correct : (t : List ℕ) → parse st t ≡ noList Huge → b.NumberOver st t
   huge-correct t e = go (fate t)
     where
       go : Fate t → b.NumberOver st t

@@ -7,5 +7,6 @@ pub mod Numbers
 pub mod Refuses
 pub mod Grammar
 pub mod Promises
+pub mod Decides
 pub mod Once
 pub mod Plain

@@ -86,7 +86,7 @@ module _ (st : Style) (ok : Allowed st) where
 
   -- ---- what a number's text is
 
-  -- digits with blanks around them, read so far as said, or blanks, or none of these
+  -- digits with blanks around them, or blanks, or neither, at which the reading stops
   pub data Text (rs : List Range) (l : Left) (t : List ℕ) : Type 0 where
     written : (v : ℕ) → b.Written t v → Text rs l t
     blank : g.Blanks t → Text rs l t

@@ -24,7 +24,7 @@ use Rattle.style.proofs.Promises.{styles-mean}
 use Rattle.text.specs.Lists.{plain, Range, covers, highest}
 use Rattle.text.specs.Grammar as g
 use Rattle.text.specs.Faults.{digits, Huge as HugeNumber, above, HugeToken, single, left, right, only, here, later, NumberOver, NotList}
-use Rattle.text.specs.Readings.{Parsed, tooLarge, notList, ranges, parse, union, readingList}
+use Rattle.text.specs.Readings.{Parsed, tooLarge, noList, ranges, parse, union, readingList}
 use Rattle.text.specs.declared.Fault.the-variants.{Slip, Huge}
 use Rattle.text.specs.Promises.{ReadsGrammar, ReadsNumbers, NoList, TellsApart, Shows, ShowsHuge, Within, Union, High, ListRead, ListRefused, ReadsList, RefusesStyle}
 use Rattle.text.proofs.Steps.{bit-below, bit-over}
@@ -157,12 +157,12 @@ Ends y t c (refused e) = ListRefused y t c (union []) (numberOf e)
 module _ (y : Style) (t : List ℕ) (c : ℕ) (b : Bits) where
   -- a list in an allowed style
   low : allowed y ≡ true → plain t ≡ true → (High t → ⊥) → (p : Parsed) → parse y t ≡ p → Ends y t c (readingList y t c b)
-  low a e h (notList Slip) f =
+  low a e h (noList Slip) f =
       let ok = is-allowed y a in
-      subst (Ends y t c) (sym (list-is y t c b (notList Slip) a e f)) (inr (ok, inr (h, inl (refl, slip-correct y ok t f))))
-  low a e h (notList Huge) f =
+      subst (Ends y t c) (sym (list-is y t c b (noList Slip) a e f)) (inr (ok, inr (h, inl (refl, slip-correct y ok t f))))
+  low a e h (noList Huge) f =
       let ok = is-allowed y a in
-      subst (Ends y t c) (sym (list-is y t c b (notList Huge) a e f)) (inr (ok, inr (h, inr (inl (refl, huge-correct y ok t f)))))
+      subst (Ends y t c) (sym (list-is y t c b (noList Huge) a e f)) (inr (ok, inr (h, inr (inl (refl, huge-correct y ok t f)))))
   low a e h (ranges rs) f =
       let ok = is-allowed y a in
       let x : g.Listed y t rs = correct y ok t rs f in
@@ -258,12 +258,12 @@ module _ (y : Style) where
 
   token-shows : {t : List ℕ} → HugeToken y t → Shows y t
   token-shows (single x) = number-shows x
-  token-shows (left {u = u} x f) = right-of (number-shows x) (y .joiner ∷ u)
+  token-shows (left x u) = right-of (number-shows x) (y .joiner ∷ u)
   token-shows (right {t = t} {u = u} x z) = subst (Shows y) (append-assoc t (y .joiner ∷ []) u) (left-of (number-shows z) (t ++ y .joiner ∷ []))
 
   text-shows : {t : List ℕ} → NumberOver y t → Shows y t
-  text-shows (only x) = token-shows x
-  text-shows (here x u) = right-of (token-shows x) (44 ∷ u)
+  text-shows (only f x) = token-shows x
+  text-shows (here f x u) = right-of (token-shows x) (44 ∷ u)
   text-shows (later {t = t} {u = u} x h z) = subst (Shows y) (append-assoc t (44 ∷ []) u) (left-of (text-shows z) (t ++ 44 ∷ []))
 
 pub shows-huge : ShowsHuge

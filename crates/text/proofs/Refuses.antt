@@ -2,7 +2,7 @@
 use mathlib.Core.Path.{_≡_, refl, sym, ap, _∙_}
 use mathlib.Core.Logic.{_⊎_, inl, inr}
 use mathlib.Core.List.{List, [], _∷_, _++_}
-use Prim.Native.Nat.{ℕ, _+_, _<_, min}
+use Prim.Native.Nat.{ℕ, _<_, min}
 use native.Mathlib.Omega.{arith}
 use borrow.Author.Tests.{lt-leb}
 use Rattle.style.specs.Promises.{Allowed}
@@ -11,7 +11,7 @@ use Rattle.text.specs.Lists.{comma, Range}
 use Rattle.text.specs.Grammar as g
 use Rattle.text.specs.Faults as b
 use Rattle.text.specs.Readings.{tooLarge, NumberSoFar, Unread, Left, Alone, From, Part, part, fresh, value, empty, token}
-use Rattle.text.specs.Readings.{TextSoFar, bad, reading, tokenEnds, reads, notList, textEnds, parsed, parse}
+use Rattle.text.specs.Readings.{TextSoFar, bad, reading, tokenEnds, reads, noList, textEnds, parsed, parse}
 use Rattle.text.specs.declared.Fault.{Fault}
 use Rattle.text.specs.declared.Fault.the-variants.{Slip, Huge}
 use Rattle.text.specs.declared.Value.the-variants.{Bad}
@@ -20,6 +20,15 @@ use Rattle.text.proofs.Steps.{ranged-bad, token-bad, token-empty, other
 use Rattle.text.proofs.Tokens.{reads-bad}
 use Rattle.text.proofs.Accepts.{reads-append, reads-cons, blanks-none, Kept, written-read, number-read, part-token, past-joiner, comma-read, upto-comma}
 use Rattle.text.proofs.Numbers.{cut, any, Text, written, blank, slipped, text}
+
+-- what is on either side of another byte
+pub free-left : {c : ℕ} (t : List ℕ) (d : ℕ) (u : List ℕ) → b.Free c (t ++ d ∷ u) → b.Free c t
+free-left [] d u f = b.nil
+free-left (x ∷ t) d u (b.cons h f) = b.cons h (free-left t d u f)
+
+pub free-right : {c : ℕ} (t : List ℕ) (d : ℕ) (u : List ℕ) → b.Free c (t ++ d ∷ u) → b.Free c u
+free-right [] d u (b.cons h f) = f
+free-right (x ∷ t) d u (b.cons h f) = free-right t d u f
 
 module _ (st : Style) (ok : Allowed st) where
   -- ---- a bad token
@@ -56,34 +65,34 @@ module _ (st : Style) (ok : Allowed st) where
 
   huge-fails : (rs : List Range) {t : List ℕ} → b.HugeToken st t → Fails rs Huge t
   huge-fails rs (b.single x) = single rs Huge (huge-read rs Alone x)
-  huge-fails rs (b.left {t = t} {u = u} x f) = let k = huge-read rs Alone x in left rs Huge t (k .n) (k .read) (k .is) u
+  huge-fails rs (b.left {t = t} x u) = let k = huge-read rs Alone x in left rs Huge t (k .n) (k .read) (k .is) u
   huge-fails rs (b.right {a = a} x y) = right rs Huge x (huge-read rs (From a) y)
 
-  none-fails : (rs : List Range) {t : List ℕ} → b.NoToken st t → Fails rs Slip t
+  none-fails : (rs : List Range) {t : List ℕ} → b.Free comma t → b.NoToken st t → Fails rs Slip t
   unfolding value empty
-  none-fails rs (b.single {t = t} f j (b.other not)) = go (text st ok rs Alone t f (cut j))
+  none-fails rs f (b.single {t = t} j (b.other not)) = go (text st ok rs Alone t f (cut j))
     where
       go : Text st ok rs Alone t → Fails rs Slip t
       go (written v w) = absurd (not v w)
       go (blank x) = blanks refl x
       go (slipped e) = stops e
-  none-fails rs (b.single f j (b.below w h)) = single rs Slip (below-read rs Alone w h)
-  none-fails rs (b.left {t = t} {u = u} f j (b.other not) k) = go (text st ok rs Alone t f (cut j))
+  none-fails rs f (b.single j (b.below w h)) = single rs Slip (below-read rs Alone w h)
+  none-fails rs f (b.left {t = t} j (b.other not) u) = go (text st ok rs Alone t (free-left t (st .joiner) u f) (cut j))
     where
       go : Text st ok rs Alone t → Fails rs Slip (t ++ st .joiner ∷ u)
       go (written v w) = absurd (not v w)
       go (blank x) = left rs Slip t Unread (blanks-none st ok rs Alone x) refl u
       go (slipped e) =
           stops (reads-append st ok (reading rs fresh) t (st .joiner ∷ u) ∙ ap (λ (z : TextSoFar). reads st z (st .joiner ∷ u)) e ∙ reads-bad st Slip (st .joiner ∷ u))
-  none-fails rs (b.left {t = t} {u = u} f j (b.below w h) k) = let q = below-read rs Alone w h in left rs Slip t (q .n) (q .read) (q .is) u
-  none-fails rs (b.right {t = t} {u = u} {a = a} x f (b.other not)) = go (text st ok rs (From a) u f any)
+  none-fails rs f (b.left {t = t} j (b.below w h) u) = let q = below-read rs Alone w h in left rs Slip t (q .n) (q .read) (q .is) u
+  none-fails rs f (b.right {t = t} {u = u} {a = a} x (b.other not)) = go (text st ok rs (From a) u (free-right t (st .joiner) u f) any)
     where
       go : Text st ok rs (From a) u → Fails rs Slip (t ++ st .joiner ∷ u)
       go (written v w) = absurd (not v w)
       go (blank y) = ends (part (From a) Unread) (past rs x u ∙ blanks-none st ok rs (From a) y) (token-bad (st .first) (part (From a) Unread) Slip refl refl)
       go (slipped e) = stops (past rs x u ∙ e)
-  none-fails rs (b.right {a = a} x f (b.below w h)) = right rs Slip x (below-read rs (From a) w h)
-  none-fails rs (b.falling {t = t} {u = u} {a = a} {b = c} x y h) =
+  none-fails rs f (b.right {a = a} x (b.below w h)) = right rs Slip x (below-read rs (From a) w h)
+  none-fails rs f (b.falling {t = t} {u = u} {a = a} {b = c} x y h) =
       let k = number-read st ok rs (From a) y in
       ends (part (From a) (k .n)) (past rs x u ∙ k .read) (part-token st ok (From a) (k .n) (k .is) (k .full) ∙ other (Ranging a c) (NoRange Slip) (lt-leb a c h))
 
@@ -102,26 +111,26 @@ module _ (st : Style) (ok : Allowed st) where
       ∙ ap (λ (z : TextSoFar). reads st z u) (comma-read st ok rs fresh ∙ ap (tokenEnds rs) (token-empty (st .first) fresh refl) ∙ ap bad (sym e)) ∙ reads-bad st d u
 
   -- at the text's end, where blanks are no token after a good one
-  at-end : (rs : List Range) (d : Fault) {t : List ℕ} → Fails rs d t → (rs ≡ []) ⊎ (g.Blanks t → ⊥) → parsed (st .first) (reads st (reading rs fresh) t) ≡ notList d
+  at-end : (rs : List Range) (d : Fault) {t : List ℕ} → Fails rs d t → (rs ≡ []) ⊎ (g.Blanks t → ⊥) → parsed (st .first) (reads st (reading rs fresh) t) ≡ noList d
   unfolding parsed empty
   at-end rs d (stops e) k = ap (parsed (st .first)) e
   at-end rs d (ends p e f) k = ap (parsed (st .first)) e ∙ ap (textEnds rs) f
   at-end rs d (blanks e x) (inl k) =
       ap (parsed (st .first)) (blanks-none st ok rs Alone x) ∙ ap (textEnds rs) (token-empty (st .first) fresh refl)
-      ∙ ap (λ (qs : List Range). textEnds qs Empty) k ∙ ap notList (sym e)
+      ∙ ap (λ (qs : List Range). textEnds qs Empty) k ∙ ap noList (sym e)
   at-end rs d (blanks e x) (inr k) = absurd (k x)
 
-  module _ (kind : List ℕ → Type 0) (d : Fault) (fails : (rs : List Range) (t : List ℕ) → kind t → Fails rs d t) where
-    first-bad : (rs : List Range) {t : List ℕ} → b.FirstBad st kind t → (rs ≡ []) ⊎ (g.Blanks t → ⊥) → parsed (st .first) (reads st (reading rs fresh) t) ≡ notList d
+  module _ (kind : List ℕ → Type 0) (d : Fault) (fails : (rs : List Range) (t : List ℕ) → b.Free comma t → kind t → Fails rs d t) where
+    first-bad : (rs : List Range) {t : List ℕ} → b.FirstBad st kind t → (rs ≡ []) ⊎ (g.Blanks t → ⊥) → parsed (st .first) (reads st (reading rs fresh) t) ≡ noList d
     unfolding parsed
-    first-bad rs (b.only {t = t} x) k = at-end rs d (fails rs t x) k
-    first-bad rs (b.here {t = t} x u) k = ap (parsed (st .first)) (before-comma rs d (fails rs t x) u)
+    first-bad rs (b.only {t = t} f x) k = at-end rs d (fails rs t f x) k
+    first-bad rs (b.here {t = t} f x u) k = ap (parsed (st .first)) (before-comma rs d (fails rs t f x) u)
     first-bad rs (b.later {u = u} {r = r} x h y) k = ap (parsed (st .first)) (upto-comma st ok rs x u) ∙ first-bad (rs ++ r ∷ []) y (inr h)
 
-  pub slips : {t : List ℕ} → b.NotList st t → parse st t ≡ notList Slip
+  pub slips : {t : List ℕ} → b.NotList st t → parse st t ≡ noList Slip
   unfolding parse
-  slips x = first-bad (b.NoToken st) Slip (λ rs t z. none-fails rs z) [] x (inl refl)
+  slips x = first-bad (b.NoToken st) Slip (λ rs t f z. none-fails rs f z) [] x (inl refl)
 
-  pub huge-ones : {t : List ℕ} → b.NumberOver st t → parse st t ≡ notList Huge
+  pub huge-ones : {t : List ℕ} → b.NumberOver st t → parse st t ≡ noList Huge
   unfolding parse
-  huge-ones x = first-bad (b.HugeToken st) Huge (λ rs t z. huge-fails rs z) [] x (inl refl)
+  huge-ones x = first-bad (b.HugeToken st) Huge (λ rs t f z. huge-fails rs z) [] x (inl refl)

@@ -23,12 +23,12 @@ use Rattle.storage.proofs.Stores.{Stored, changes-done, changes-refused, part-s
 use Rattle.style.specs.Styles.{allowed}
 use Rattle.style.specs.declared.Style.{Style}
 use Rattle.text.specs.Lists.{plain, Range, covers, highest}
-use Rattle.text.specs.Readings.{token, empty, reads, Parsed, notList, ranges, parsed, parse, union, refusalOf, listOutcome, readingList}
+use Rattle.text.specs.Readings.{token, empty, reads, Parsed, noList, ranges, parsed, parse, union, refusalOf, listOutcome, readingList}
 use Rattle.text.specs.Kernels.{measuredOf, marked, Walked}
 use Rattle.text.specs.declared.Fault.{Fault}
 use Rattle.text.specs.declared.Fault.the-variants.{Slip}
 use Rattle.text.specs.declared.Measured.{Measured}
-use Rattle.text.specs.declared.Measured.the-variants.{Top, NotList as NoList}
+use Rattle.text.specs.declared.Measured.the-variants.{Top, NoList}
 
 -- ---- the operation's cases
 
@@ -47,21 +47,21 @@ list-is y t c b p a e f = ap₂ (λ (z x : Bool). choose z (choose x (listOutcom
 -- no byte
 pub list-empty : (y : Style) (c : ℕ) (b : Bits) → allowed y ≡ true → readingList y [] c b ≡ refused NotList
 unfolding parse parsed reads token empty plain
-list-empty y c b a = list-is y [] c b (notList Slip) a refl refl
+list-empty y c b a = list-is y [] c b (noList Slip) a refl refl
 
 -- ---- what a measurement says of the text
 
 measured-top : (p : Parsed) (x : ℕ) → measuredOf p ≡ Top x → (rs : List Range) × (p ≡ ranges rs) × (x ≡ highest rs)
-measured-top (notList d) x e = zero-one cc
+measured-top (noList d) x e = zero-one cc
 measured-top (ranges rs) x e = (rs, refl, top-same e)
   where
     top-same : Top (highest rs) ≡ Top x → x ≡ highest rs
     top-same f = cc
 
-measured-none : (p : Parsed) (d : Fault) → measuredOf p ≡ NoList d → p ≡ notList d
-measured-none (notList f) d e = same e
+measured-none : (p : Parsed) (d : Fault) → measuredOf p ≡ NoList d → p ≡ noList d
+measured-none (noList f) d e = same e
   where
-    same : NoList f ≡ NoList d → notList f ≡ notList d
+    same : NoList f ≡ NoList d → noList f ≡ noList d
     same h = cc
 measured-none (ranges rs) d e = zero-one cc
 
@@ -90,7 +90,7 @@ module _ (y : Style) (t ws : List ℕ) (b : Bitmap) (p : Passed ws b) where
       -- 7 or 16
       pub list-refused-as : (d : Fault) → m ≡ NoList d → (r : Refusal) → r ≡ refusalOf d → Changes (readingList y t) ws b (Refused r b) (part ++ ws)
       list-refused-as d f r h =
-          back r (list-is y t (length ws) (view ws (b .count)) (notList d) a e (measured-none (parse y t) d (sym (w .measures) ∙ f)) ∙ ap refused (sym h))
+          back r (list-is y t (length ws) (view ws (b .count)) (noList d) a e (measured-none (parse y t) d (sym (w .measures) ∙ f)) ∙ ap refused (sym h))
 
       module _ (top : ℕ) (f : m ≡ Top top) where
         found : (rs : List Range) × (parse y t ≡ ranges rs) × (top ≡ highest rs)

@@ -12,14 +12,14 @@ use Rattle.word.proofs.Lists.{Fit}
 use Rattle.arch.specs.Scans.{filled}
 use Rattle.style.specs.declared.Style.{Style}
 use Rattle.text.specs.Lists.{Range, range, highest}
-use Rattle.text.specs.Readings.{kind, Part, fresh, token, Step, Go, Ends, Stop, byKind, TextSoFar, bad, reading, tokenEnds, after, next, reads, notList, ranges, textEnds, parsed, parse}
+use Rattle.text.specs.Readings.{kind, Part, fresh, token, Step, Go, Ends, Stop, byKind, TextSoFar, bad, reading, tokenEnds, after, next, reads, noList, ranges, textEnds, parsed, parse}
 use Rattle.text.specs.Kernels.{measuredOf, marked, Walked}
 use Rattle.text.specs.declared.Fault.{Fault}
 use Rattle.text.specs.declared.Fault.the-variants.{Slip}
 use Rattle.text.specs.declared.Kind.{Kind}
 use Rattle.text.specs.declared.Token.{Token}
 use Rattle.text.specs.declared.Token.the-variants.{Range as Ranging, Empty, NoRange}
-use Rattle.text.specs.declared.Measured.the-variants.{Top, NotList}
+use Rattle.text.specs.declared.Measured.the-variants.{Top, NoList}
 use Rattle.text.proofs.Marks.{marked-none, marked-more, length-marked}
 
 -- ---- reading on
@@ -112,10 +112,10 @@ some-end [] r = refl
 some-end (q ∷ rs) r = refl
 
 -- the text is no list
-not-whole : (st : Style) (t : List ℕ) (d : Fault) (rs qs : List Range) → parse st t ≡ notList d → parse st t ≡ ranges rs → qs ≡ rs
+not-whole : (st : Style) (t : List ℕ) (d : Fault) (rs qs : List Range) → parse st t ≡ noList d → parse st t ≡ ranges rs → qs ≡ rs
 not-whole st t d rs qs e f = zero-one cc
 
-pub walked-bad : (st : Style) (t ws ws' : List ℕ) (rs : List Range) (d : Fault) → ws' ≡ marked rs ws → parse st t ≡ notList d → Walked st t (NotList d) ws ws'
+pub walked-bad : (st : Style) (t ws ws' : List ℕ) (rs : List Range) (d : Fault) → ws' ≡ marked rs ws → parse st t ≡ noList d → Walked st t (NoList d) ws ws'
 walked-bad st t ws ws' rs d m e = record { measures = ap measuredOf (sym e); passed = rs; whole = λ qs f. not-whole st t d qs rs e f; marks = m }
 
 pub walked-good : (st : Style) (t ws ws' : List ℕ) (rs : List Range) (top : ℕ) → ws' ≡ marked rs ws → parse st t ≡ ranges rs → top ≡ highest rs → Walked st t (Top top) ws ws'
@@ -128,8 +128,8 @@ module _ (st : Style) (t ws ws' : List ℕ) (top : ℕ) (any : Bool) (a : ℕ) (
   pub going-length : length ws' ≡ length ws
   going-length = ap length (g .marks) ∙ length-marked rs ws
 
-  -- a byte that fits nowhere
-  pub stops : (d : Fault) → reads st (reading rs fresh) (drop a t) ≡ bad d → Walked st t (NotList d) ws ws'
+  -- a byte at which the token stops
+  pub stops : (d : Fault) → reads st (reading rs fresh) (drop a t) ≡ bad d → Walked st t (NoList d) ws ws'
   unfolding parsed
   stops d e = walked-bad st t ws ws' rs d (g .marks) (g .rest ∙ ap (parsed (st .first)) e)
 
@@ -151,18 +151,18 @@ module _ (st : Style) (t ws ws' : List ℕ) (top : ℕ) (any : Bool) (a : ℕ) (
         go (atComma f l h s) e = (l, h, g .rest ∙ ap (parsed (st .first)) (s rs))
 
     -- an empty token, or none
-    bad-at : (w : Fault) → textEnds rs (token (st .first) p) ≡ notList w → tokenEnds rs (token (st .first) p) ≡ bad w → parse st t ≡ notList w
+    bad-at : (w : Fault) → textEnds rs (token (st .first) p) ≡ noList w → tokenEnds rs (token (st .first) p) ≡ bad w → parse st t ≡ noList w
     unfolding parsed
     bad-at w e f = go d
       where
-        go : {j : ℕ} {m : Bool} → Ended st t a p j m → parse st t ≡ notList w
+        go : {j : ℕ} {m : Bool} → Ended st t a p j m → parse st t ≡ noList w
         go (atEnd x s) = g .rest ∙ ap (parsed (st .first)) (s rs) ∙ e
         go (atComma {i = j} x l h s) = g .rest ∙ ap (parsed (st .first)) (s rs ∙ ap (λ (y : TextSoFar). reads st y (drop j t)) f ∙ reads-bad st w (drop j t))
 
-    pub none-at : (w : Fault) → r ≡ NoRange w → Walked st t (NotList w) ws ws'
+    pub none-at : (w : Fault) → r ≡ NoRange w → Walked st t (NoList w) ws ws'
     none-at w e = walked-bad st t ws ws' rs w (g .marks) (bad-at w (ap (textEnds rs) (sym er ∙ e)) (ap (tokenEnds rs) (sym er ∙ e)))
 
-    textEnds-empty : (qs : List Range) → false ≡ some qs → textEnds qs Empty ≡ notList Slip
+    textEnds-empty : (qs : List Range) → false ≡ some qs → textEnds qs Empty ≡ noList Slip
     textEnds-empty [] e = refl
     textEnds-empty (q ∷ qs) e = absurd (false≢true e)
 
@@ -171,13 +171,13 @@ module _ (st : Style) (t ws ws' : List ℕ) (top : ℕ) (any : Bool) (a : ℕ) (
     textEnds-some (q ∷ qs) e = refl
 
     -- the first token
-    pub empty-first : r ≡ Empty → any ≡ false → Walked st t (NotList Slip) ws ws'
+    pub empty-first : r ≡ Empty → any ≡ false → Walked st t (NoList Slip) ws ws'
     empty-first e f =
         walked-bad st t ws ws' rs Slip (g .marks)
         (bad-at Slip (ap (textEnds rs) (sym er ∙ e) ∙ textEnds-empty rs (sym f ∙ g .any-is)) (ap (tokenEnds rs) (sym er ∙ e)))
 
     -- not the last one
-    pub empty-inner : r ≡ Empty → more ≡ true → Walked st t (NotList Slip) ws ws'
+    pub empty-inner : r ≡ Empty → more ≡ true → Walked st t (NoList Slip) ws ws'
     unfolding parsed
     empty-inner e f =
         walked-bad st t ws ws' rs Slip (g .marks)

@@ -1,4 +1,4 @@
--- Texts that are no list in a style (02, T-02): the first bad token has a number of digits only that is above the limit, or it is no token for another reason.
+-- Texts that are no list in a style (02, T-02): the first bad token is bad by a number of digits only that is above the limit, or for another reason.
 use Prim.Native.Nat.{ℕ, _+_, _<_}
 use mathlib.Core.Path.{_≡_}
 use mathlib.Core.List.{List, [], _∷_, _++_}
@@ -27,21 +27,21 @@ pub data NoNumber (y : Style) : List ℕ → Type 0 where
 -- a bad token that is huge: its number, its left number whatever the right one is, or, after a good left one, its right number
 pub data HugeToken (y : Style) : List ℕ → Type 0 where
   single : {t : List ℕ} → Huge y t → HugeToken y t
-  left : {t u : List ℕ} → Huge y t → Free 44 u → HugeToken y (t ++ y .joiner ∷ u)
+  left : {t : List ℕ} → Huge y t → (u : List ℕ) → HugeToken y (t ++ y .joiner ∷ u)
   right : {t u : List ℕ} {a : ℕ} → Numeral y t a → Huge y u → HugeToken y (t ++ y .joiner ∷ u)
 
 -- a bad token that is none: cut at its first joiner, its number, its left number, or, after a good left one, its right number is none; or the range falls
 pub data NoToken (y : Style) : List ℕ → Type 0 where
-  single : {t : List ℕ} → Free 44 t → Free (y .joiner) t → NoNumber y t → NoToken y t
-  left : {t u : List ℕ} → Free 44 t → Free (y .joiner) t → NoNumber y t → Free 44 u → NoToken y (t ++ y .joiner ∷ u)
-  right : {t u : List ℕ} {a : ℕ} → Numeral y t a → Free 44 u → NoNumber y u → NoToken y (t ++ y .joiner ∷ u)
+  single : {t : List ℕ} → Free (y .joiner) t → NoNumber y t → NoToken y t
+  left : {t : List ℕ} → Free (y .joiner) t → NoNumber y t → (u : List ℕ) → NoToken y (t ++ y .joiner ∷ u)
+  right : {t u : List ℕ} {a : ℕ} → Numeral y t a → NoNumber y u → NoToken y (t ++ y .joiner ∷ u)
   falling : {t u : List ℕ} {a b : ℕ} → Numeral y t a → Numeral y u b → b < a → NoToken y (t ++ y .joiner ∷ u)
 
--- a text whose first bad token is of the kind `bad`: its only one, one with a comma after it and whatever follows, or one after a good token. Blanks after
--- the last comma are no token
+-- a text, cut at its commas, whose first bad token is of the kind `bad`: its only one, one with a comma and whatever else after it, or one after a good
+-- token. Blanks after the last comma are no token
 pub data FirstBad (y : Style) (bad : List ℕ → Type 0) : List ℕ → Type 0 where
-  only : {t : List ℕ} → bad t → FirstBad y bad t
-  here : {t : List ℕ} → bad t → (u : List ℕ) → FirstBad y bad (t ++ 44 ∷ u)
+  only : {t : List ℕ} → Free 44 t → bad t → FirstBad y bad t
+  here : {t : List ℕ} → Free 44 t → bad t → (u : List ℕ) → FirstBad y bad (t ++ 44 ∷ u)
   later : {t u : List ℕ} {r : Range} → Token y t r → (Blanks u → ⊥) → FirstBad y bad u → FirstBad y bad (t ++ 44 ∷ u)
 
 -- 16, and 7

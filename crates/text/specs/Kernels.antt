@@ -8,12 +8,12 @@ use Rattle.word.specs.Places.{member, wordsOf}
 use Rattle.style.specs.declared.Style.{Style}
 use Rattle.text.specs.Lists.{Range, covers, highest}
 use Rattle.text.specs.Readings as read
-use Rattle.text.specs.Readings.{NumberSoFar, Unread, Open, Closed, Left, Alone, From, Parsed, notList, ranges, parse}
+use Rattle.text.specs.Readings.{NumberSoFar, Unread, Open, Closed, Left, Alone, From, Parsed, noList, ranges, parse}
 use Rattle.text.specs.declared.Part.{Part}
 use Rattle.text.specs.declared.Step.{Step}
 use Rattle.text.specs.declared.Step.the-variants.{Go, Ends, Stop}
 use Rattle.text.specs.declared.Measured.{Measured}
-use Rattle.text.specs.declared.Measured.the-variants.{Top, NotList}
+use Rattle.text.specs.declared.Measured.the-variants.{Top, NoList}
 
 -- phase 0, 1 or 2, and the number so far
 abbrev pub numberSoFar : ℕ → ℕ → NumberSoFar
@@ -35,7 +35,7 @@ stepOf Ends = read.Ends
 stepOf (Stop e) = read.Stop e
 
 abbrev pub measuredOf : Parsed → Measured
-measuredOf (notList e) = NotList e
+measuredOf (noList e) = NoList e
 measuredOf (ranges rs) = Top (highest rs)
 
 -- the words with the numbers of the ranges, as far as they go

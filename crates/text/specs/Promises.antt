@@ -1,4 +1,5 @@
--- What reading list text promises, in words of its own. Each is proved in proofs/Promises, `ReadsListExact` in proofs/Once, `PlainReads` in proofs/Plain.
+-- What reading list text promises, in words of its own. Each is proved in proofs/Promises, `FirstsDecide` in proofs/Decides, `ReadsListExact` in proofs/Once,
+-- `PlainReads` in proofs/Plain.
 use Prim.Native.Nat.{ℕ, _+_, _/_, _≤_, _<_}
 use mathlib.Core.Path.{_≡_}
 use mathlib.Core.Bool.{true}
@@ -18,24 +19,36 @@ use Rattle.style.specs.Styles.{plainStyle}
 use Rattle.style.specs.Promises.{Allowed}
 use Rattle.style.specs.declared.Style.{Style}
 use Rattle.text.specs.Lists.{Range}
-use Rattle.text.specs.Grammar.{Digits, Listed}
-use Rattle.text.specs.Faults.{NumberOver, NotList}
+use Rattle.text.specs.Grammar.{Blanks, Digits, Numeral, Token, Listed}
+use Rattle.text.specs.Faults.{Free, NumberOver, NotList}
 use Rattle.text.specs.Plain as base
-use Rattle.text.specs.Readings.{notList, ranges, parse, readingList}
+use Rattle.text.specs.Readings.{noList, ranges, parse, readingList}
+use Rattle.text.specs.declared.Fault.{Fault}
 use Rattle.text.specs.declared.Fault.the-variants.{Slip, Huge}
 
 -- reading in an allowed style, both ways: a text is read as ranges exactly where the grammar gives it those, and is refused for a slip or a huge number
 -- exactly where its first bad token is none or is huge
 pub record ReadsGrammar : Type 0 where
   pub accepted : (y : Style) → Allowed y → (t : List ℕ) (rs : List Range) → Listed y t rs ↔ (parse y t ≡ ranges rs)
-  pub slip : (y : Style) → Allowed y → (t : List ℕ) → NotList y t ↔ (parse y t ≡ notList Slip)
-  pub huge : (y : Style) → Allowed y → (t : List ℕ) → NumberOver y t ↔ (parse y t ≡ notList Huge)
+  pub slip : (y : Style) → Allowed y → (t : List ℕ) → NotList y t ↔ (parse y t ≡ noList Slip)
+  pub huge : (y : Style) → Allowed y → (t : List ℕ) → NumberOver y t ↔ (parse y t ≡ noList Huge)
 
 -- digits by themselves: the bit is the number less the first one; a number below the first is a slip, and the limit rises by as much
 pub record ReadsNumbers : Type 0 where
   pub bit : (y : Style) → Allowed y → {d : List ℕ} {a : ℕ} → Digits d (a + y .first) → a ≤ 4_294_967_295 → parse y d ≡ ranges (record { low = a; high = a } ∷ [])
-  pub below : (y : Style) → Allowed y → {d : List ℕ} {v : ℕ} → Digits d v → v < y .first → parse y d ≡ notList Slip
-  pub above : (y : Style) → Allowed y → {d : List ℕ} {v : ℕ} → Digits d v → 4_294_967_295 + y .first < v → parse y d ≡ notList Huge
+  pub below : (y : Style) → Allowed y → {d : List ℕ} {v : ℕ} → Digits d v → v < y .first → parse y d ≡ noList Slip
+  pub above : (y : Style) → Allowed y → {d : List ℕ} {v : ℕ} → Digits d v → 4_294_967_295 + y .first < v → parse y d ≡ noList Huge
+
+-- who is refused alone is refused so with more behind it: a token whatever follows its comma, a token's left number whatever is right of the joiner. And
+-- behind a good one, a token or a left number, the rest is refused as it is alone
+pub record FirstDecides (y : Style) (e : Fault) : Type 0 where
+  pub token : (t u : List ℕ) → Free 44 t → parse y t ≡ noList e → parse y (t ++ 44 ∷ u) ≡ noList e
+  pub left : (t u : List ℕ) → Free 44 (t ++ y .joiner ∷ u) → Free (y .joiner) t → parse y t ≡ noList e → parse y (t ++ y .joiner ∷ u) ≡ noList e
+  pub next : (t u : List ℕ) (r : Range) → Token y t r → (Blanks u → ⊥) → parse y u ≡ noList e → parse y (t ++ 44 ∷ u) ≡ noList e
+  pub right : (t u : List ℕ) (a : ℕ) → Numeral y t a → Free 44 (t ++ y .joiner ∷ u) → Free (y .joiner) u → parse y u ≡ noList e → parse y (t ++ y .joiner ∷ u) ≡ noList e
+
+abbrev pub FirstsDecide : Type 0
+FirstsDecide = (y : Style) → Allowed y → (e : Fault) → FirstDecides y e
 
 -- i lies in one of the ranges
 abbrev pub Within : List Range → ℕ → Type 0
@@ -57,7 +70,7 @@ High t = (k : ℕ) × (k < length t) × (128 ≤ getD t k 0)
 abbrev pub NoList : (List ℕ → List Range → Type 0) → List ℕ → Type 0
 NoList lists t = (rs : List Range) → lists t rs → ⊥
 
--- a text is a list, or no list, or has a number over: one of them always and no two, and the last two together are exactly what is no list
+-- a text is a list, or has a slip, or a number over: one of them always and no two, and the last two together are exactly what is no list
 pub record OneOfThree (y : Style) (t : List ℕ) : Type 0 where
   pub one : ((rs : List Range) × Listed y t rs) ⊎ (NotList y t ⊎ NumberOver y t)
   pub apart : NotList y t → NumberOver y t → ⊥

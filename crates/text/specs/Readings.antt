@@ -140,18 +140,18 @@ reads y x (c ∷ t) = reads y (next y x c) t
 
 -- what a text is: no list, and why, or one of these ranges
 pub data Parsed : Type 0 where
-  notList : Fault → Parsed
+  noList : Fault → Parsed
   ranges : List Range → Parsed
 
 -- an empty last token is allowed after a good one
 abbrev pub textEnds : List Range → Token → Parsed
 textEnds rs (Ranging a b) = ranges (rs ++ range a b ∷ [])
-textEnds [] Empty = notList Slip
+textEnds [] Empty = noList Slip
 textEnds (r ∷ rs) Empty = ranges (r ∷ rs)
-textEnds rs (NoRange e) = notList e
+textEnds rs (NoRange e) = noList e
 
 unfoldable pub parsed : ℕ → TextSoFar → Parsed
-parsed f (bad e) = notList e
+parsed f (bad e) = noList e
 parsed f (reading rs p) = textEnds rs (token f p)
 
 unfoldable pub parse : Style → List ℕ → Parsed
@@ -166,7 +166,7 @@ refusalOf Slip = NotList
 refusalOf Huge = NumberOver
 
 abbrev pub listOutcome : ℕ → Parsed → Outcome
-listOutcome c (notList e) = refused (refusalOf e)
+listOutcome c (noList e) = refused (refusalOf e)
 listOutcome c (ranges rs) = within c (union rs)
 
 -- the earlier set is discarded; refusals 15, 8, 7 or 16, and 6, in this order

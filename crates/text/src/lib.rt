@@ -30,7 +30,7 @@ enum Kind {
     Other,
 }
 
-// Why a text is no list: its first bad token has a slip, or a number of digits only that is above the limit.
+// Why a text is no list: its first bad token is bad by a slip, or by a number of digits only that is above the limit.
 enum Fault {
     Slip,
     Huge,
@@ -69,7 +69,7 @@ enum Token {
 // The largest number of a text, if it is a list.
 enum Measured {
     Top(usize),
-    NotList(Fault),
+    NoList(Fault),
 }
 
 fn kind_of(c: u8, joiner: usize) -> Kind
@@ -269,7 +269,7 @@ fn walk(words: &mut [u64], text: &[u8], style: Style) -> Measured
         }
         any = true;
     };
-    Measured::NotList(fault)
+    Measured::NoList(fault)
 }
 
 // The refusal of a text that is no list.
@@ -301,7 +301,7 @@ pub fn from_list(words: &mut [u64], b: Bitmap, text: &[u8], style: Style) -> Cha
     // The first walk is lent no word: it measures.
     let top = match walk(&mut words[..0], text, style) {
         Measured::Top(top) => top,
-        Measured::NotList(f) => return Change::Refused(refusal_of(f), b),
+        Measured::NoList(f) => return Change::Refused(refusal_of(f), b),
     };
     let count = top / 64 + 1;
     if count > words.len() {
