@@ -76,7 +76,8 @@ fn at_limit(words: &mut [u64]) {
     last_number(words);
 }
 
-// The greatest number of list text, which has 33 bits: printed, read back, and one more, which is above the limit. The last bit alone is set before and after.
+// The greatest number of list text, which has 33 bits: printed, read back, and one more, which is above the limit. The last bit alone is set before
+// and after.
 fn last_number(words: &mut [u64]) {
     let w = words.as_mut_ptr();
     let find = |name: &str| &CALLS.iter().find(|c| c.0 == name).expect("a call").1;

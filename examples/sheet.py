@@ -7,7 +7,7 @@ SIZE, WORD, NUMBER = ctypes.c_size_t, ctypes.c_uint64, ctypes.c_uint32
 OLD, WORDS, BYTES, TEXT = 4, 128, 256, 65536
 # the plain style of list text: first number, joiner, blank after a comma, shortest range
 PLAIN = 0, ord("-"), True, 2
-# what a text is refused with that is no list
+# what a text of no bytes, or of blanks alone, is refused with
 NOT_LIST = 7
 # each kind with its fields, from kind 1 on; a flag is a region's value, or true for right
 KINDS = {

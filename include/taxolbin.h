@@ -346,8 +346,8 @@ TAXOLBIN_MUST_USE uint32_t taxolbin_dup_xor(
 #define TAXOLBIN_PLAIN 0, '-', 1, 2
 
 /* The bitmap becomes the set of the list; the earlier set is discarded. A text of no bytes is 7. A number is at most 4,294,967,295 plus first: a
- * larger one of digits only is 16, and what else is no list is 7. The first token that is wrong decides, its left number before its right, so a
- * text has one of the two. A range that falls is 7. [1, 2, 15, 8, 7 or 16, 6] */
+ * larger one of digits only is 16, and what else is no list is 7, a range of two good numbers that falls too. The first token (a number or a range
+ * between commas) that is wrong decides, its left number before its right, so a text gets one of the two. [1, 2, 15, 8, 7 or 16, 6] */
 TAXOLBIN_MUST_USE uint32_t taxolbin_from_list(
     uint64_t *words, size_t capacity, size_t *count, const uint8_t *list, size_t length, size_t first, size_t joiner, uint32_t blank,
     size_t shortest);

@@ -686,8 +686,9 @@ impl Bitmap<'_> {
     /// the limit, `NoSpace` where the store is too short.
     ///
     /// Ranges may overlap and come in any order, blanks may stand around numbers, and a comma may end the text. A number is a bit plus the style's
-    /// first number: at least that, and at most 4,294,967,295 above it. The first token that is wrong decides between `NotList` and `NumberOver`, its
-    /// left number before its right; `NumberOver` is a number of digits only, and a range that falls is `NotList`.
+    /// first number: at least that, and at most 4,294,967,295 above it. The first token (a number or a range between commas) that is wrong decides
+    /// between `NotList` and `NumberOver`, its left number before its right; `NumberOver` is for a number of digits only, and a range of two good
+    /// numbers that falls is `NotList`.
     ///
     /// ```
     /// use taxolbin::{Bitmap, Error, Style};

@@ -1,4 +1,4 @@
--- A text is a list, or its first bad token is none, or is huge: it is cut at its commas, and each token at its first joiner. So what is read is what the grammar says.
+-- A text is a list, or its first bad token is no token, or is huge: it is cut at its commas, and each token at its first joiner. So what is read is what the grammar says.
 use mathlib.Core.Path.{_≡_, sym, _∙_, subst}
 use mathlib.Core.Logic.{_⊎_, ⊎-elim, inl, inr}
 use mathlib.Core.Bool.{false≢true}

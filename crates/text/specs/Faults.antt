@@ -30,7 +30,7 @@ pub data HugeToken (y : Style) : List ℕ → Type 0 where
   left : {t : List ℕ} → Huge y t → (u : List ℕ) → HugeToken y (t ++ y .joiner ∷ u)
   right : {t u : List ℕ} {a : ℕ} → Numeral y t a → Huge y u → HugeToken y (t ++ y .joiner ∷ u)
 
--- a bad token that is none: cut at its first joiner, its number, its left number, or, after a good left one, its right number is none; or the range falls
+-- a bad token that is no token: cut at its first joiner, its number, its left number, or, after a good left one, its right number is none; or the range falls
 pub data NoToken (y : Style) : List ℕ → Type 0 where
   single : {t : List ℕ} → Free (y .joiner) t → NoNumber y t → NoToken y t
   left : {t : List ℕ} → Free (y .joiner) t → NoNumber y t → (u : List ℕ) → NoToken y (t ++ y .joiner ∷ u)

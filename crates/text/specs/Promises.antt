@@ -27,7 +27,7 @@ use Rattle.text.specs.declared.Fault.{Fault}
 use Rattle.text.specs.declared.Fault.the-variants.{Slip, Huge}
 
 -- reading in an allowed style, both ways: a text is read as ranges exactly where the grammar gives it those, and is refused for a slip or a huge number
--- exactly where its first bad token is none or is huge
+-- exactly where its first bad token is no token or is huge
 pub record ReadsGrammar : Type 0 where
   pub accepted : (y : Style) → Allowed y → (t : List ℕ) (rs : List Range) → Listed y t rs ↔ (parse y t ≡ ranges rs)
   pub slip : (y : Style) → Allowed y → (t : List ℕ) → NotList y t ↔ (parse y t ≡ noList Slip)
