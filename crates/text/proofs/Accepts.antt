@@ -19,7 +19,9 @@ use Rattle.text.specs.declared.Kind.{Kind}
 use Rattle.text.specs.declared.Value.{Value}
 use Rattle.text.specs.declared.Value.the-variants.{Of, Bad}
 use Rattle.text.specs.declared.Fault.{Fault}
+use Rattle.text.specs.declared.Fault.the-variants.{Slip}
 use Rattle.text.specs.declared.Token.the-variants.{Range as Ranging}
+use Rattle.text.proofs.Tokens.{reads-bad}
 use Rattle.text.proofs.Steps.{kind-digit, kind-blank, kind-joiner, kind-comma, kind-other, chosen, token-at, bit-of}
 use Rattle.text.specs.declared.Kind.the-variants.{Digit, Blank, Joiner, Comma, Other}
 use Rattle.text.specs.declared.Token.{Token}
@@ -248,3 +250,29 @@ module _ (st : Style) (ok : Allowed st) where
   pub no-number : {d : List ℕ} {v : ℕ} (f : Fault) → g.Digits d v → bitOf (st .first) (min tooLarge v) ≡ Bad f → parse st d ≡ noList f
   unfolding parse parsed token empty value
   no-number f x e = ap (parsed (st .first)) (digits-read [] Alone x) ∙ ap (λ (z : Value). textEnds [] (ranged Alone z)) e
+
+  -- digits with another byte behind them, or with a digit after blanks
+  pub broken : {d : List ℕ} {v : ℕ} → g.Digits d v → (c : ℕ) → (g.Digit c → ⊥) → (g.Blank c → ⊥) → (c ≡ st .joiner → ⊥) → (c ≡ comma → ⊥) → (t : List ℕ) → parse st (d ++ c ∷ t) ≡ noList Slip
+  unfolding parse parsed byKind
+  broken {d} {v} x c e f g h t =
+      ap (parsed (st .first))
+      (reads-append (reading [] fresh) d (c ∷ t) ∙ ap (λ (z : TextSoFar). reads st z (c ∷ t)) (digits-read [] Alone x)
+      ∙ reads-cons (reading [] (part Alone (Open (min tooLarge v)))) c t
+      ∙ ap (λ (z : TextSoFar). reads st z t) (next-at [] (part Alone (Open (min tooLarge v))) c (kind-other (st .joiner) c no-digit no-blank g h)) ∙ reads-bad st Slip t)
+    where
+      no-digit : digit c ≡ false
+      no-digit = by-test (digit c) (λ q. absurd (e (digit-is c q))) (λ q. q)
+
+      no-blank : blank c ≡ false
+      no-blank = by-test (blank c) (λ q. absurd (f (blank-is c q))) (λ q. q)
+
+  pub parted : {d : List ℕ} {v : ℕ} → g.Digits d v → (c : ℕ) → g.Blank c → {w : List ℕ} → g.Blanks w → (k : ℕ) → g.Digit k → (t : List ℕ) → parse st (d ++ c ∷ (w ++ k ∷ t)) ≡ noList Slip
+  unfolding parse parsed byKind
+  parted {d} {v} x c e {w} b k f t =
+      ap (parsed (st .first))
+      (reads-append (reading [] fresh) d (c ∷ (w ++ k ∷ t)) ∙ ap (λ (z : TextSoFar). reads st z (c ∷ (w ++ k ∷ t))) (digits-read [] Alone x)
+      ∙ reads-cons (reading [] (part Alone (Open (min tooLarge v)))) c (w ++ k ∷ t)
+      ∙ ap (λ (z : TextSoFar). reads st z (w ++ k ∷ t)) (next-at [] (part Alone (Open (min tooLarge v))) c (blank-kind (st .joiner) c e))
+      ∙ reads-append (reading [] (part Alone (Closed (min tooLarge v)))) w (k ∷ t) ∙ ap (λ (z : TextSoFar). reads st z (k ∷ t)) (blanks-closed [] Alone (min tooLarge v) b)
+      ∙ reads-cons (reading [] (part Alone (Closed (min tooLarge v)))) k t
+      ∙ ap (λ (z : TextSoFar). reads st z t) (next-at [] (part Alone (Closed (min tooLarge v))) k (kind-digit (st .joiner) k (is-digit k f))) ∙ reads-bad st Slip t)

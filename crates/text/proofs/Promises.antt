@@ -26,9 +26,9 @@ use Rattle.text.specs.Grammar as g
 use Rattle.text.specs.Faults.{digits, Huge as HugeNumber, above, HugeToken, single, left, right, only, here, later, NumberOver, NotList}
 use Rattle.text.specs.Readings.{Parsed, tooLarge, noList, ranges, parse, union, readingList}
 use Rattle.text.specs.declared.Fault.the-variants.{Slip, Huge}
-use Rattle.text.specs.Promises.{ReadsGrammar, ReadsNumbers, NoList, TellsApart, Shows, ShowsHuge, Within, Union, High, ListRead, ListRefused, ReadsList, RefusesStyle}
+use Rattle.text.specs.Promises.{ReadsGrammar, ReadsNumbers, WholeNumbers, NoList, TellsApart, Shows, ShowsHuge, Within, Union, High, ListRead, ListRefused, ReadsList, RefusesStyle}
 use Rattle.text.proofs.Steps.{bit-below, bit-over}
-use Rattle.text.proofs.Accepts.{complete, no-number}
+use Rattle.text.proofs.Accepts.{complete, no-number, broken, parted}
 use Rattle.text.proofs.Grammar.{Fate, listed, slip, over, fate, correct, slip-correct, huge-correct, slip-not-huge, bad-not-listed}
 use Rattle.text.proofs.Refuses.{slips, huge-ones}
 use Rattle.text.proofs.Marks.{betweenMarks, between-in}
@@ -72,6 +72,9 @@ reads-numbers = record {
   below = λ y ok {d} {v} x l. no-number y ok Slip x (bit-below (y .first) (min tooLarge v) (omega (arith, l)));
   above = λ y ok {d} {v} x l. no-number y ok Huge x (bit-over (y .first) (min tooLarge v) (omega (arith, l)) (omega (arith, l, ok .first)));
 }
+
+pub whole-numbers : WholeNumbers
+whole-numbers = record { broken = λ y ok x. broken y ok x; parted = λ y ok x. parted y ok x }
 
 -- ---- the ranges as a set
 

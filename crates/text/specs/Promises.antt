@@ -19,7 +19,7 @@ use Rattle.style.specs.Styles.{plainStyle}
 use Rattle.style.specs.Promises.{Allowed}
 use Rattle.style.specs.declared.Style.{Style}
 use Rattle.text.specs.Lists.{Range}
-use Rattle.text.specs.Grammar.{Blanks, Digits, Numeral, Token, Listed}
+use Rattle.text.specs.Grammar.{Blank, Digit, Blanks, Digits, Numeral, Token, Listed}
 use Rattle.text.specs.Faults.{Free, NumberOver, NotList}
 use Rattle.text.specs.Plain as base
 use Rattle.text.specs.Readings.{noList, ranges, parse, readingList}
@@ -38,6 +38,13 @@ pub record ReadsNumbers : Type 0 where
   pub bit : (y : Style) → Allowed y → {d : List ℕ} {a : ℕ} → Digits d (a + y .first) → a ≤ 4_294_967_295 → parse y d ≡ ranges (record { low = a; high = a } ∷ [])
   pub below : (y : Style) → Allowed y → {d : List ℕ} {v : ℕ} → Digits d v → v < y .first → parse y d ≡ noList Slip
   pub above : (y : Style) → Allowed y → {d : List ℕ} {v : ℕ} → Digits d v → 4_294_967_295 + y .first < v → parse y d ≡ noList Huge
+
+-- digits are no number, however large, where another byte stands behind them, or blanks and a digit, whatever follows
+pub record WholeNumbers : Type 0 where
+  pub broken : (y : Style) → Allowed y → {d : List ℕ} {v : ℕ} → Digits d v → (c : ℕ) → (Digit c → ⊥) → (Blank c → ⊥) → (c ≡ y .joiner → ⊥) → (c ≡ 44 → ⊥) → (t : List ℕ)
+      → parse y (d ++ c ∷ t) ≡ noList Slip
+  pub parted : (y : Style) → Allowed y → {d : List ℕ} {v : ℕ} → Digits d v → (c : ℕ) → Blank c → {w : List ℕ} → Blanks w → (k : ℕ) → Digit k → (t : List ℕ)
+      → parse y (d ++ c ∷ (w ++ k ∷ t)) ≡ noList Slip
 
 -- who is refused alone is refused so with more behind it: a token whatever follows its comma, a token's left number whatever is right of the joiner. And
 -- behind a good one, a token or a left number, the rest is refused as it is alone
