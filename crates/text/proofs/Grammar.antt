@@ -53,27 +53,27 @@ all-blank (c ∷ t) =
 module _ (st : Style) (ok : Allowed st) where
   -- ---- every token is good, huge or none
 
-  data Told (t : List ℕ) : Type 0 where
-    right : (r : Range) → g.Token st t r → Told t
-    large : b.HugeToken st t → Told t
-    wrong : b.NoToken st t → Told t
+  data Verdict (t : List ℕ) : Type 0 where
+    right : (r : Range) → g.Token st t r → Verdict t
+    large : b.HugeToken st t → Verdict t
+    wrong : b.NoToken st t → Verdict t
 
-  one-number : {t : List ℕ} → b.Free (st .joiner) t → Judged st ok t → Told t
+  one-number : {t : List ℕ} → b.Free (st .joiner) t → Judged st ok t → Verdict t
   one-number j (good a x) = right (range a a) (g.single x)
   one-number j (huge x) = large (b.single x)
   one-number j (none x) = wrong (b.single j x)
 
-  second : {t u : List ℕ} (a : ℕ) → g.Numeral st t a → Judged st ok u → Told (t ++ st .joiner ∷ u)
+  second : {t u : List ℕ} (a : ℕ) → g.Numeral st t a → Judged st ok u → Verdict (t ++ st .joiner ∷ u)
   second a x (good c y) = by-lt c a (λ h. wrong (b.falling x y h)) (λ h. right (range a c) (g.pair x y h))
   second a x (huge y) = large (b.right x y)
   second a x (none y) = wrong (b.right x y)
 
-  first : {t u : List ℕ} → b.Free comma u → b.Free (st .joiner) t → Judged st ok t → Told (t ++ st .joiner ∷ u)
+  first : {t u : List ℕ} → b.Free comma u → b.Free (st .joiner) t → Judged st ok t → Verdict (t ++ st .joiner ∷ u)
   first {u = u} k j (good a x) = second a x (judge st ok (From a) u k any)
   first {u = u} k j (huge x) = large (b.left x u)
   first {u = u} k j (none x) = wrong (b.left j x u)
 
-  token : {t : List ℕ} → Pieces (st .joiner) t → b.Free comma t → Told t
+  token : {t : List ℕ} → Pieces (st .joiner) t → b.Free comma t → Verdict t
   token (last {t = t} j) f = one-number j (judge st ok Alone t f (cut j))
   token (more {t = t} {u = u} j p) f =
       let k = free-left t (st .joiner) u f in
@@ -87,7 +87,7 @@ module _ (st : Style) (ok : Allowed st) where
     over : b.NumberOver st t → Fate t
 
   -- the last token, and one with a comma after it
-  end : {t : List ℕ} → b.Free comma t → Told t → Fate t
+  end : {t : List ℕ} → b.Free comma t → Verdict t → Fate t
   end f (right r x) = listed (r ∷ []) (g.last x)
   end f (large x) = over (b.only f x)
   end f (wrong x) = slip (b.only f x)
@@ -98,7 +98,7 @@ module _ (st : Style) (ok : Allowed st) where
   after-good x (inr h) (slip y) = slip (b.later x h y)
   after-good x (inr h) (over y) = over (b.later x h y)
 
-  on : {t u : List ℕ} → b.Free comma t → Told t → Fate u → Fate (t ++ comma ∷ u)
+  on : {t u : List ℕ} → b.Free comma t → Verdict t → Fate u → Fate (t ++ comma ∷ u)
   on {u = u} f (large x) y = over (b.here f x u)
   on {u = u} f (wrong x) y = slip (b.here f x u)
   on {u = u} f (right r x) y = after-good x (all-blank u) y

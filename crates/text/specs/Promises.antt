@@ -46,7 +46,7 @@ pub record WholeNumbers : Type 0 where
   pub parted : (y : Style) → Allowed y → {d : List ℕ} {v : ℕ} → Digits d v → (c : ℕ) → Blank c → {w : List ℕ} → Blanks w → (k : ℕ) → Digit k → (t : List ℕ)
       → parse y (d ++ c ∷ (w ++ k ∷ t)) ≡ noList Slip
 
--- who is refused alone is refused so with more behind it: a token whatever follows its comma, a token's left number whatever is right of the joiner. And
+-- what is refused alone is refused so with more behind it: a token whatever follows its comma, a token's left number whatever is right of the joiner. And
 -- behind a good one, a token or a left number, the rest is refused as it is alone
 pub record FirstDecides (y : Style) (e : Fault) : Type 0 where
   pub token : (t u : List ℕ) → Free 44 t → parse y t ≡ noList e → parse y (t ++ 44 ∷ u) ≡ noList e
