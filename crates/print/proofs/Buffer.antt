@@ -1,11 +1,14 @@
 -- Bytes put at a place of a buffer.
 use mathlib.Core.Path.{_≡_, refl, sym, ap, ap₂, _∙_, subst}
+use mathlib.Core.Bool.{Bool}
 use mathlib.Core.List.{List, [], _∷_, _++_, append-assoc, append-nil}
 use Prim.Native.Nat.{ℕ, zero, suc, _+_, _-_, _/_, _%_, _≤_, _<_}
 use native.Mathlib.Omega.{arith}
-use lib.ListN.{length, set, drop, length-append, length-drop}
+use lib.ListN.{length, set, take, drop, length-append, length-drop}
+use borrow.Author.Tests.{le-leb, lt-leb}
+use Rattle.word.specs.Sets.{choose}
 use Rattle.text.specs.Lists.{zeroDigit}
-use Rattle.print.specs.Texts.{decimal}
+use Rattle.print.specs.Texts.{decimal, decimalAt, PutsDecimal}
 use Rattle.print.specs.Kernels.{putAt, Puts}
 use Rattle.print.proofs.Decimals.{lastDigits, last-all, last-none, last-more, length-last}
 
@@ -48,6 +51,15 @@ put-before (suc p) c t (x ∷ out) h = ap (λ (y : List ℕ). x ∷ y) (put-befo
 put-one : (at c : ℕ) (out : List ℕ) → at < length out → set out at c ≡ putAt at (c ∷ []) out
 put-one at c out h = ap (λ (y : List ℕ). set y at c) (sym (put-none (suc at) out)) ∙ put-before at c [] out h
 
+-- what stands before them, they, and what stands behind
+put-is : (at : ℕ) (t out : List ℕ) → at ≤ length out → putAt at t out ≡ take at out ++ (t ++ drop (at + length t) out)
+unfolding putAt
+put-is zero t out h = let e : length t ≡ 0 + length t = omega arith in ap (λ (k : ℕ). t ++ drop k out) e
+put-is (suc at) t [] h = absurd (omega arith)
+put-is (suc at) t (c ∷ out) h =
+    let e : suc (at + length t) ≡ suc at + length t = omega arith in
+    ap (λ (y : List ℕ). c ∷ y) (put-is at t out (omega arith)) ∙ ap (λ (k : ℕ). c ∷ (take at out ++ (t ++ drop k (c ∷ out)))) e
+
 -- ---- what a function puts
 
 pub puts-none : (at : ℕ) (out : List ℕ) → Puts at [] at out out
@@ -77,13 +89,13 @@ pub record PuttingDigits (at x : ℕ) (out out' : List ℕ) (p y : ℕ) (s : Lis
   pub leaves : out' ≡ putAt p s out
 
 module _ (at x : ℕ) (out : List ℕ) (h : at + length (decimal x) ≤ length out) where
-  pub putting-start : (d : ℕ) → d ≡ length (decimal x) → PuttingDigits at x out out (at + d) x []
-  putting-start d e =
-      let q : at + d - at ≡ length (decimal x) = omega (arith, e) in
+  pub putting-start : (end : ℕ) → end ≡ at + length (decimal x) → PuttingDigits at x out out end x []
+  putting-start end e =
+      let q : end - at ≡ length (decimal x) = omega (arith, e) in
       record {
         low = omega arith;
         digits = ap (λ (k : ℕ). lastDigits k x ++ []) q ∙ append-nil (lastDigits (length (decimal x)) x) ∙ last-all x;
-        leaves = sym (put-none (at + d) out);
+        leaves = sym (put-none end out);
       }
 
   module _ (out' : List ℕ) (p y : ℕ) (s : List ℕ) (g : PuttingDigits at x out out' p y s) where
@@ -108,14 +120,11 @@ module _ (at x : ℕ) (out : List ℕ) (h : at + length (decimal x) ≤ length o
           ∙ put-before p' c s out (omega (arith, putting-place));
     }
 
-    pub putting-end : (d : ℕ) → d ≡ length (decimal x) → p ≤ at → Puts at (decimal x) (at + d) out out'
-    putting-end d e l = record {
-      next = ap (λ (k : ℕ). at + k) e;
-      leaves =
-          g .leaves
-          ∙ ap₂ (λ (k : ℕ) (t : List ℕ). putAt k t out) (omega (arith, g .low))
-          (sym (ap (λ (z : List ℕ). z ++ s) (ap (λ (k : ℕ). lastDigits k y) (omega arith) ∙ last-none y)) ∙ g .digits);
-    }
+    pub putting-end : p ≤ at → out' ≡ putAt at (decimal x) out
+    putting-end l =
+        g .leaves
+        ∙ ap₂ (λ (k : ℕ) (t : List ℕ). putAt k t out) (omega (arith, g .low))
+        (sym (ap (λ (z : List ℕ). z ++ s) (ap (λ (k : ℕ). lastDigits k y) (omega arith) ∙ last-none y)) ∙ g .digits)
 
   -- two at once
   pub putting-two : (out' : List ℕ) (p y : ℕ) (s : List ℕ) → PuttingDigits at x out out' p y s → at + 2 ≤ p
@@ -127,8 +136,42 @@ module _ (at x : ℕ) (out : List ℕ) (h : at + length (decimal x) ≤ length o
       (p - 2) (y / 100) (zeroDigit + y % 100 / 10) (omega arith) (omega arith) (omega arith) (omega arith)
 
   -- the last one
-  pub putting-last : (out' : List ℕ) (p y : ℕ) (s : List ℕ) → PuttingDigits at x out out' p y s → at < p → p < at + 2 → (d : ℕ) → d ≡ length (decimal x)
-      → Puts at (decimal x) (at + d) out (set out' at (zeroDigit + y % 10))
-  putting-last out' p y s g l h d e =
+  pub putting-last : (out' : List ℕ) (p y : ℕ) (s : List ℕ) → PuttingDigits at x out out' p y s → at < p → p < at + 2
+      → set out' at (zeroDigit + y % 10) ≡ putAt at (decimal x) out
+  putting-last out' p y s g l h =
       putting-end (set out' at (zeroDigit + y % 10)) at (y / 10) ((zeroDigit + y % 10) ∷ s)
-      (putting-more out' p y s g at (y / 10) (zeroDigit + y % 10) l (omega arith) refl refl) d e (omega arith)
+      (putting-more out' p y s g at (y / 10) (zeroDigit + y % 10) l (omega arith) refl refl) (omega arith)
+
+-- ---- the digits of a number, where there is room for them
+
+module _ (at x : ℕ) (out : List ℕ) where
+  abbrev end : ℕ
+  end = at + length (decimal x)
+
+  abbrev there : List ℕ
+  there = decimalAt at x out
+
+  there-is : at ≤ length out → putAt at (decimal x) out ≡ there
+  unfolding decimalAt
+  there-is h = put-is at (decimal x) out h
+
+  pub decimal-lacks : length out < end → PutsDecimal at x at out out
+  decimal-lacks h = record {
+    next = sym (ap (λ (t : Bool). choose t end at) (lt-leb end (length out) h));
+    leaves = sym (ap (λ (t : Bool). choose t there out) (lt-leb end (length out) h));
+  }
+
+  module _ (h : end ≤ length out) (r : ℕ) (out' : List ℕ) where
+    pub decimal-fits : Puts at (decimal x) r out out' → PutsDecimal at x r out out'
+    decimal-fits p = record {
+      next = p .next ∙ sym (ap (λ (t : Bool). choose t end at) (le-leb end (length out) h));
+      leaves =
+          p .leaves ∙ there-is (omega arith) ∙ sym (ap (λ (t : Bool). choose t there out) (le-leb end (length out) h));
+    }
+
+    pub decimal-puts : PutsDecimal at x r out out' → Puts at (decimal x) r out out'
+    decimal-puts p = record {
+      next = p .next ∙ ap (λ (t : Bool). choose t end at) (le-leb end (length out) h);
+      leaves =
+          p .leaves ∙ ap (λ (t : Bool). choose t there out) (le-leb end (length out) h) ∙ sym (there-is (omega arith));
+    }

@@ -1,6 +1,7 @@
 pub mod Decimals
 pub mod Printed
 pub mod Buffer
+pub mod Fitting
 pub mod Runs
 pub mod Pieces
 pub mod Printing

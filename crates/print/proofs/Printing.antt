@@ -4,9 +4,7 @@ use mathlib.Core.Bool.{Bool, true, false}
 use mathlib.Core.List.{List, [], _∷_, _++_, append-assoc, append-nil}
 use Prim.Native.Nat.{ℕ, _+_, _*_, _≤_, _<_}
 use native.Mathlib.Omega.{arith}
-use lib.Dec.{leb}
-use lib.ListN.{length, drop, length-append}
-use borrow.Author.Tests.{le-leb, lt-leb}
+use lib.ListN.{length, length-append}
 use Rattle.word.specs.Sets.{choose}
 use Rattle.storage.specs.Stores.{Bits, Bounded, checked, held, reading}
 use Rattle.storage.specs.Guards.{Passed}
@@ -26,6 +24,7 @@ use Rattle.print.specs.Kernels.{NextRun, Printable, rangeOf, piecesAt, p
 use Rattle.print.specs.Forms.{Runs}
 use Rattle.print.specs.declared.Run.{Run}
 use Rattle.print.proofs.Buffer.{length-put, put-then, puts-none}
+use Rattle.print.proofs.Fitting.{lacks, fitting}
 use Rattle.print.proofs.Runs.{runs-are, next-none, next-some}
 use Rattle.print.proofs.Pieces.{pieces-none, pieces-append, run-most}
 
@@ -178,20 +177,16 @@ module _ (y : Style) (ws : List ℕ) (b : Bitmap) (out : List ℕ) where
       t = textOf y (held ws b)
 
       -- where the style is allowed, whether the text fits is all there is to ask
-      asked : (x : Bool) → leb (length t) (length out) ≡ x
-          → (reading ws b Amount.Refused (listAnswer y out) ≡ choose x (Is (length t)) (Amount.Refused NoSpace))
-          × (reading ws b (λ d. out) (listBuffer y out) ≡ choose x (t ++ drop (length t) out) out)
-      asked x q = (
-        reading-ok ws b Amount.Refused (listAnswer y out) p
-            ∙ ap₂ (λ (u v : Bool). choose u (choose v (Is (length t)) (Amount.Refused NoSpace)) (Amount.Refused BadStyle)) a q,
-        reading-ok ws b (λ d. out) (listBuffer y out) p ∙ ap₂ (λ (u v : Bool). choose u (choose v (t ++ drop (length t) out) out) out) a q,
+      asked : (reading ws b Amount.Refused (listAnswer y out) ≡ fitted t out) × (reading ws b (λ d. out) (listBuffer y out) ≡ replaced t out)
+      asked = (
+        reading-ok ws b Amount.Refused (listAnswer y out) p ∙ ap (λ (x : Bool). choose x (fitted t out) (Amount.Refused BadStyle)) a,
+        reading-ok ws b (λ d. out) (listBuffer y out) p ∙ ap (λ (x : Bool). choose x (replaced t out) out) a,
       )
 
       pub prints-short : length out < len → Prints y ws b out (Amount.Refused NoSpace) out
-      prints-short h = let q = asked false (lt-leb (length t) (length out) (omega arith)) in record { answers = sym (q .0); leaves = sym (q .1) }
+      prints-short h = let e = lacks t out (omega arith) in record { answers = sym (asked .0 ∙ e .0); leaves = sym (asked .1 ∙ e .1) }
 
       pub prints-done : (out' : List ℕ) → len ≤ length out → out' ≡ putAt 0 t out → Prints y ws b out (Amount.Is len) out'
-      unfolding putAt
-      prints-done out' h e =
-          let q = asked true (le-leb (length t) (length out) (omega arith)) in
-          record { answers = ap Amount.Is el ∙ sym (q .0); leaves = e ∙ sym (q .1) }
+      prints-done out' h x =
+          let e = fitting t out (omega arith) in
+          record { answers = ap Amount.Is el ∙ sym (asked .0 ∙ e .0); leaves = x ∙ sym (asked .1 ∙ e .1) }

@@ -1,33 +1,32 @@
 -- The promises of specs/Promises.
-use mathlib.Core.Path.{_≡_, refl, sym, ap, ap₂, _∙_, subst}
+use mathlib.Core.Path.{_≡_, refl, sym, ap, _∙_, subst}
 use mathlib.Core.Bool.{Bool, true, false, false≢true}
-use mathlib.Core.List.{List, [], _∷_, _++_}
+use mathlib.Core.List.{List, [], _∷_, _++_, append-assoc}
 use mathlib.Core.Logic.{inl, inr, _↔_}
 use Prim.Native.Nat.{ℕ, zero, suc, _+_, _-_, _*_, _^_, _≤_, _<_}
 use native.Mathlib.Nat.{pow-suc}
 use native.Mathlib.Omega.{arith}
 use lib.Dec.{leb}
 use lib.ListN.{length, take, drop, length-append}
-use lib.Seq.{take-at, drop-at}
+use lib.Seq.{take-at, drop-at, length-take-le}
 use borrow.Author.Tests.{le-leb, lt-leb}
 use Rattle.word.specs.Sets.{choose}
 use Rattle.word.proofs.Cases.{by-lt, by-test}
-use Rattle.storage.specs.Refusals.{numberOf, amountNumber, amountValue, changeNumber, changeRecord}
-use Rattle.storage.specs.Stores.{Bits, Outcome, done, withCount, spaceOf, checked, view, held, reading, trimmedCount, trimmed, outcome, answer, store}
+use Rattle.storage.specs.Refusals.{amountNumber, amountValue, changeNumber, changeRecord}
+use Rattle.storage.specs.Stores.{Bits, Bounded, Outcome, done, withCount, spaceOf, view, held, trimmedCount, trimmed, outcome, answer, store}
 use Rattle.storage.specs.Guards.{Passed}
 use Rattle.storage.specs.Promises.{LeastCount}
 use Rattle.storage.specs.declared.Bitmap.{Bitmap}
-use Rattle.storage.specs.declared.Refusal.{Refusal}
-use Rattle.storage.specs.declared.Refusal.the-variants.{NoSpace, NotList, BadStyle}
+use Rattle.storage.specs.declared.Refusal.the-variants.{NotList, BadStyle}
 use Rattle.storage.specs.declared.Amount.{Amount}
-use Rattle.storage.specs.declared.Amount.the-variants.{Is, Refused}
+use Rattle.storage.specs.declared.Amount.the-variants.{Refused}
 use Rattle.storage.specs.declared.Change.{Change}
 use Rattle.storage.specs.declared.Change.the-variants.{Done}
-use Rattle.storage.proofs.Checks.{checked-ok, by-guard, reading-ok}
+use Rattle.storage.proofs.Checks.{reading-ok}
 use Rattle.storage.proofs.Views.{view-count, bounded-view}
 use Rattle.storage.proofs.Stores.{view-written, outcome-ok}
 use Rattle.storage.proofs.Trims.{bounded-trimmed}
-use Rattle.storage.proofs.Promises.{guarded, guarded-map, least-count}
+use Rattle.storage.proofs.Promises.{reading-means, least-count}
 use Rattle.style.specs.Styles.{allowed}
 use Rattle.style.specs.Promises.{Allowed}
 use Rattle.style.specs.declared.Style.{Style}
@@ -35,12 +34,14 @@ use Rattle.style.proofs.Promises.{styles-mean}
 use Rattle.text.specs.Lists.{Range, range, covers}
 use Rattle.text.specs.Grammar as g
 use Rattle.text.specs.Readings.{readingList}
-use Rattle.print.specs.Texts.{runs, decimal, pieces, text, textOf, fitted, replaced, listAnswer, listBuffer, Prints}
+use Rattle.print.specs.Texts.{runs, noRun, runFrom, decimal, decimalAt, pieces, text, textOf, fitted, replaced, listAnswer, listBuffer, Prints}
 use Rattle.print.specs.Forms.{Runs, none, more, PrintedRuns, IsText}
-use Rattle.print.specs.Promises.{PrintsShortest, PrintsRuns, PrintsOne, NotPrinted, TextPut, PutOrShort, PrintsText, WriteListMeans, RefusesStyle, TextMeans, ReadsBack}
+use Rattle.print.specs.declared.Run.{Run}
+use Rattle.print.specs.Promises.{PrintsShortest, IsNext, RunFromMeans, FiguresPut, PutDecimalMeans, PrintsRuns, PrintsOne, NotPrinted, TextPut, PutOrShort, PrintsText, WriteListMeans, RefusesStyle, TextMeans, ReadsBack}
 use Rattle.print.proofs.Decimals.{decimal-digits, digits-most}
-use Rattle.print.proofs.Printed.{runs-printed, printed-only}
-use Rattle.print.proofs.Runs.{runs-are, runs-cover}
+use Rattle.print.proofs.Printed.{decimal-figures, runs-printed, printed-only}
+use Rattle.print.proofs.Fitting.{not-put, text-put, put-or-short, guarded-print}
+use Rattle.print.proofs.Runs.{runs-are, runs-cover, run-next, run-past}
 use Rattle.print.proofs.ReadBack.{prints-nothing, text-is-list, lists-members, reads-back}
 use Rattle.text.proofs.Taken.{list-empty}
 use Rattle.text.proofs.Promises.{covers-within, within-covers}
@@ -60,6 +61,37 @@ shortest n = record { means = decimal-digits n; least = λ u d. go (length u) (d
     go : (k : ℕ) → (0 < k) × (n < 10 ^ k) → length (decimal n) ≤ k
     go zero h = absurd (omega (arith, h .0))
     go (suc k) h = digits-most k n (h .1)
+
+-- ---- a number by itself
+
+pub put-decimal-means : PutDecimalMeans
+unfolding decimalAt
+put-decimal-means at x r out out' p = (d, decimal-figures x, by-lt (length out) end (λ h. inr (lacking h)) (λ h. inl (h, there h)))
+  where
+    d : List ℕ
+    d = decimal x
+
+    end : ℕ
+    end = at + length d
+
+    asked : (t : Bool) → leb end (length out) ≡ t → (r ≡ choose t end at) × (out' ≡ choose t (decimalAt at x out) out)
+    asked t e = (p .next ∙ ap (λ (x : Bool). choose x end at) e, p .leaves ∙ ap (λ (u : Bool). choose u (decimalAt at x out) out) e)
+
+    lacking : length out < end → (length out < end) × (r ≡ at) × (out' ≡ out)
+    lacking h = let a = asked false (lt-leb end (length out) h) in (h, a .0, a .1)
+
+    there : end ≤ length out → FiguresPut d at r out out'
+    there h =
+        let a = asked true (le-leb end (length out) h) in
+        let n : length (take at out) ≡ at = length-take-le at out (omega arith) in
+        let m : length (take at out ++ d) ≡ r = length-append (take at out) d ∙ omega (arith, n, a .0) in
+        record {
+          next = a .0;
+          before = ap (take at) (a .1) ∙ take-at (take at out) (d ++ drop end out) at n;
+          there = ap (λ (y : List ℕ). take (length d) (drop at y)) (a .1) ∙ ap (take (length d)) (drop-at (take at out) (d ++ drop end out) at n) ∙ take-at d (drop end out) (length d) refl;
+          behind =
+              ap (drop r) (a .1 ∙ sym (append-assoc (take at out) d (drop end out))) ∙ drop-at (take at out ++ d) (drop end out) r m ∙ ap (λ (k : ℕ). drop k out) (sym (a .0));
+        }
 
 -- ---- runs
 
@@ -91,6 +123,28 @@ prints-runs b h = record {
   only = λ rs x. runs-only (b .members) 0 rs (runs b) x (runs-are b h);
 }
 
+pub run-from-means : RunFromMeans
+run-from-means ws b i r e =
+    reading-means (λ e. noRun) (λ s. runFrom s i) (λ r k. (r .low ≡ 0) × (r .end ≡ 0)) (λ b r. IsNext b i (r .low) (r .end)) (λ e. (refl, refl)) is-next ws b r e
+  where
+    -- the next run by its bounds
+    is-next : (b : Bits) → Bounded b → IsNext b i (runFrom b i .low) (runFrom b i .end)
+    is-next b h = by-lt (64 * b .count) i (λ l. past l) (λ l. within l)
+      where
+        past : 64 * b .count < i → IsNext b i (runFrom b i .low) (runFrom b i .end)
+        past l =
+            subst (λ (r : Run). IsNext b i (r .low) (r .end)) (sym (run-past b i (omega arith)))
+            (record { order = omega arith; some = λ q. absurd (omega arith); none = λ q. (refl, λ j k. h .past j (omega arith)) })
+
+        within : i ≤ 64 * b .count → IsNext b i (runFrom b i .low) (runFrom b i .end)
+        within l =
+            let n = run-next b h i l in
+            record {
+              order = n .order;
+              some = λ q. (n .from, n .before, n .all, n .stops q);
+              none = λ q. (n .none q, λ j k. by-lt j (runFrom b i .low) (λ u. n .before j k u) (λ u. h .past j (omega (arith, q, n .none q))));
+            }
+
 -- ---- the text of a bitmap
 
 pub prints-one : PrintsOne
@@ -116,84 +170,53 @@ module _ (y : Style) (ws : List ℕ) (b : Bitmap) (out : List ℕ) (r : Amount) 
   abbrev t : List ℕ
   t = textOf y (held ws b)
 
-  stopped : (e : Refusal) → r ≡ Amount.Refused e → out' ≡ out → NotPrinted out (amountNumber r) (amountValue r) out' (numberOf e)
-  stopped e q w = record { hands = (ap amountNumber q, ap amountValue q); bytes = w }
-
   module _ (q : Passed ws b) where
     -- where the store passes: a style that is not allowed
-    pub no-style : (Allowed y → ⊥) → NotPrinted out (amountNumber r) (amountValue r) out' 15
-    no-style f = by-test (allowed y) (λ a. absurd (f (styles-mean y .1 a))) (λ a. stopped BadStyle (said a .0) (said a .1))
+    no-style : (Allowed y → ⊥) → NotPrinted out (amountNumber r) (amountValue r) out' 15
+    no-style f = by-test (allowed y) (λ a. absurd (f (styles-mean y .1 a))) said
       where
-        said : allowed y ≡ false → (r ≡ Amount.Refused BadStyle) × (out' ≡ out)
-        said a = (
-          p .answers ∙ reading-ok ws b Amount.Refused (listAnswer y out) q ∙ ap (λ (x : Bool). choose x (fitted t out) (Amount.Refused BadStyle)) a,
-          p .leaves ∙ reading-ok ws b (λ e. out) (listBuffer y out) q ∙ ap (λ (x : Bool). choose x (replaced t out) out) a,
-        )
+        said : allowed y ≡ false → NotPrinted out (amountNumber r) (amountValue r) out' 15
+        said a =
+            let e : r ≡ Amount.Refused BadStyle = p .answers ∙ reading-ok ws b Amount.Refused (listAnswer y out) q
+            ∙ ap (λ (x : Bool). choose x (fitted t out) (Amount.Refused BadStyle)) a in
+            record {
+              hands = (ap amountNumber e, ap amountValue e);
+              bytes = p .leaves ∙ reading-ok ws b (λ e. out) (listBuffer y out) q ∙ ap (λ (x : Bool). choose x (replaced t out) out) a;
+            }
 
     -- else whether the text fits is all there is to ask
     module _ (ok : Allowed y) where
-      asked : (x : Bool) → leb (length t) (length out) ≡ x
-          → (r ≡ choose x (Is (length t)) (Amount.Refused NoSpace)) × (out' ≡ choose x (t ++ drop (length t) out) out)
-      asked x e =
-          let a : allowed y ≡ true = styles-mean y .0 ok in (
-            p .answers ∙ reading-ok ws b Amount.Refused (listAnswer y out) q
-                ∙ ap₂ (λ (u v : Bool). choose u (choose v (Is (length t)) (Amount.Refused NoSpace)) (Amount.Refused BadStyle)) a e,
-            p .leaves ∙ reading-ok ws b (λ e. out) (listBuffer y out) q ∙ ap₂ (λ (u v : Bool). choose u (choose v (t ++ drop (length t) out) out) out) a e,
-          )
+      answer-is : r ≡ fitted t out
+      answer-is =
+          p .answers ∙ reading-ok ws b Amount.Refused (listAnswer y out) q ∙ ap (λ (x : Bool). choose x (fitted t out) (Amount.Refused BadStyle)) (styles-mean y .0 ok)
+
+      buffer-is : out' ≡ replaced t out
+      buffer-is = p .leaves ∙ reading-ok ws b (λ e. out) (listBuffer y out) q ∙ ap (λ (x : Bool). choose x (replaced t out) out) (styles-mean y .0 ok)
+
+      printed : PutOrShort (IsText y (held ws b .members)) out (amountNumber r) (amountValue r) out'
+      printed = put-or-short t out r out' answer-is buffer-is (IsText y (held ws b .members)) (prints-one y ok (held ws b) (bounded-view ws (b .count)) t .1 refl)
 
       lacking : length out < length t → NotPrinted out (amountNumber r) (amountValue r) out' 6
-      lacking l = let a = asked false (lt-leb (length t) (length out) l) in stopped NoSpace (a .0) (a .1)
+      lacking = not-put t out r out' answer-is buffer-is
 
-      pub text-put : length t ≤ length out → TextPut t out (amountNumber r) (amountValue r) out'
-      text-put l =
-          let f = asked true (le-leb (length t) (length out) l) in
-          let v : amountValue r ≡ length t = ap amountValue (f .0) in
-          record {
-            number = ap amountNumber (f .0);
-            value = v;
-            front = ap (take (amountValue r)) (f .1) ∙ take-at t (drop (length t) out) (amountValue r) (sym v);
-            past = ap (drop (amountValue r)) (f .1) ∙ drop-at t (drop (length t) out) (amountValue r) (sym v) ∙ ap (λ (m : ℕ). drop m out) (sym v);
-          }
+      list-put : length t ≤ length out → TextPut t out (amountNumber r) (amountValue r) out'
+      list-put = text-put t out r out' answer-is buffer-is
 
-      pub put-or-short : PutOrShort (IsText y (held ws b .members)) out (amountNumber r) (amountValue r) out'
-      put-or-short = (
-        t,
-        prints-one y ok (held ws b) (bounded-view ws (b .count)) t .1 refl,
-        by-lt (length out) (length t) (λ l. inr (l, lacking l)) (λ l. inl (l, text-put l)),
-      )
-
-      pub text-fits : amountNumber r ≡ 0 → length t ≤ length out
+      text-fits : amountNumber r ≡ 0 → length t ≤ length out
       text-fits z = by-lt (length out) (length t) (λ l. absurd (omega (arith, lacking l .hands .0))) (λ l. l)
 
       not-15 : amountNumber r ≡ 15 → ⊥
-      not-15 z = by-lt (length out) (length t) (λ l. omega (arith, z, lacking l .hands .0)) (λ l. omega (arith, z, text-put l .number))
+      not-15 z = by-lt (length out) (length t) (λ l. omega (arith, z, lacking l .hands .0)) (λ l. omega (arith, z, list-put l .number))
 
     -- a text that was printed has an allowed style
-    pub was-allowed : amountNumber r ≡ 0 → Allowed y
+    was-allowed : amountNumber r ≡ 0 → Allowed y
     was-allowed z = by-test (allowed y) (λ a. styles-mean y .1 a) (λ a. absurd (omega (arith, z, no-style (λ ok. false≢true (sym a ∙ styles-mean y .0 ok)) .hands .0)))
 
     only-15 : (Allowed y → ⊥) ↔ (amountNumber r ≡ 15)
     only-15 = (λ f. no-style f .hands .0, λ z ok. not-15 ok z)
 
-  -- the answer and the buffer are refused by one guard
-  abbrev kept : Refusal → Amount × List ℕ
-  kept e = (Amount.Refused e, out)
-
-  pair-is : (r, out') ≡ checked ws b kept (r, out')
-  unfolding reading
-  pair-is =
-      by-guard ws b
-      (λ e s.
-      ap₂ (λ (x : Amount) (y : List ℕ). (x, y)) (p .answers ∙ s _ Amount.Refused (listAnswer y out (held ws b))) (p .leaves ∙ s _ (λ e. out) (listBuffer y out (held ws b)))
-      ∙ sym (s _ kept (r, out')))
-      (λ q. sym (checked-ok ws b kept (r, out') q))
-
   call-means : PrintsText y ws b out (amountNumber r) (amountValue r) out'
-  call-means =
-      guarded-map
-      (λ q u. record { stop = no-style q; rest = put-or-short q })
-      (guarded ws b kept (r, out') (λ x k. NotPrinted out (amountNumber (x .0)) (amountValue (x .0)) (x .1) k) (λ x. Unit {0})
-      (λ e. record { hands = (refl, refl); bytes = refl }) (λ q. tt) (r, out') pair-is)
+  call-means = guarded-print ws b out (listAnswer y out) (listBuffer y out) r out' (p .answers) (p .leaves) (λ q a l. record { stop = no-style q; rest = printed q })
 
 pub prints-text : WriteListMeans
 prints-text y ws b out r out' p = call-means y ws b out r out' p
@@ -208,7 +231,7 @@ unfolding answer store
 there-and-back y ws b i out out' a q e p z us us' o r m u fewest space c =
     let n = b .count in
     let ok : Allowed y = was-allowed y ws b out a out' p q z in
-    let put = text-put y ws b out a out' p q ok (text-fits y ws b out a out' p q ok z) in
+    let put = list-put y ws b out a out' p q ok (text-fits y ws b out a out' p q ok z) in
     let made : outcome (readingList y (take (amountValue a) out')) us o ≡ done (trimmed (held ws b)) =
     outcome-ok (readingList y (take (amountValue a) out')) us o u
     ∙ ap (λ (t : List ℕ). readingList y t (spaceOf us) (held us o)) (put .front)

@@ -10,7 +10,7 @@ use Rattle.word.specs.Sets.{choose}
 use Rattle.word.proofs.Cases.{by-lt, by-eq, and-false, zero-one}
 use Rattle.storage.specs.Stores.{Bits, Bounded, view, held, reading, nextFrom}
 use Rattle.text.specs.Lists.{Range, range, covers}
-use Rattle.print.specs.Texts.{Nowhere, From, runsFrom, runs, sizeOf, singles, pieces}
+use Rattle.print.specs.Texts.{Nowhere, From, runsFrom, runs, firstRun, runFrom, noRun, sizeOf, singles, pieces}
 use Rattle.print.specs.Kernels.{NextRun}
 use Rattle.print.specs.Forms.{Runs, none, more}
 use Rattle.print.specs.declared.Run.{Run}
@@ -177,6 +177,58 @@ next-some s e i run (r ∷ rs) n h (more a b f m z x) =
     high : r .high ≡ run .end - 1
     high = omega (arith, end)
 
+-- the first of those left, with its ends
+next-first : (s : ℕ → Bool) (e i : ℕ) (rs : List Range) → ((j : ℕ) → e ≤ j → s j ≡ false) → i ≤ e → Runs s i rs → NextRun s e i (firstRun e rs)
+next-first s e i [] past l (none f) = record {
+  from = l;
+  order = omega arith;
+  within = omega arith;
+  before = λ j p q. f j p;
+  all = λ j p q. absurd (omega arith);
+  stops = λ p. absurd (omega arith);
+  none = λ p. refl;
+}
+next-first s e i (r ∷ rs) past l (more a b f m z x) = record {
+  from = a;
+  order = omega arith;
+  within = by-lt (r .high) e (λ q. omega arith) (λ q. absurd (false≢true (sym (past (r .high) q) ∙ m (r .high) b (omega arith))));
+  before = f;
+  all = λ j p q. m j p (omega arith);
+  stops = λ p. z;
+  none = λ p. absurd (omega arith);
+}
+
+module _ (b : Bits) (h : Bounded b) (i : ℕ) (l : i ≤ 64 * b .count) where
+  abbrev e : ℕ
+  e = 64 * b .count
+
+  abbrev rest : List Range
+  rest = runsFrom (b .members) Nowhere (e - i) i
+
+  left : Runs (b .members) i rest
+  left = runs-from (b .members) (e - i) i (λ j q. h .past j (omega arith)) .0
+
+  pub run-next : NextRun (b .members) e i (runFrom b i)
+  unfolding runFrom
+  run-next = next-first (b .members) e i rest (h .past) l left
+
+  pub run-is : (r : Run) → NextRun (b .members) e i r → r ≡ runFrom b i
+  unfolding runFrom
+  run-is r n =
+      by-lt (r .low) (r .end)
+      (λ q.
+      let k : r .end ≡ r .end - 1 + 1 = omega arith in
+      (λ j. record { low = r .low; end = k j }) ∙ ap (firstRun e) (sym (next-some (b .members) e i r rest n q left .1)))
+      (λ q.
+      let p : r .end ≡ e = n .none (omega (arith, n .order)) in
+      let k : r .low ≡ e = omega (arith, n .order) in
+      (λ j. record { low = k j; end = p j }) ∙ ap (firstRun e) (sym (next-none (b .members) e i r rest (h .past) n q left)))
+
+-- past the length there is none
+pub run-past : (b : Bits) (i : ℕ) → 64 * b .count ≤ i → runFrom b i ≡ record { low = 64 * b .count; end = 64 * b .count }
+unfolding runFrom runsFrom
+run-past b i h = let e : 64 * b .count - i ≡ 0 = omega arith in ap (λ (d : ℕ). firstRun (64 * b .count) (runsFrom (b .members) Nowhere d i)) e
+
 -- ---- the next run, by two scans
 
 module _ (ws : List ℕ) (b : Bitmap) (i : ℕ) (p : Passed ws b) where
@@ -266,6 +318,27 @@ module _ (ws : List ℕ) (b : Bitmap) (i : ℕ) (p : Passed ws b) where
 
           all : (j : ℕ) → x ≤ j → j < end → s .members j ≡ true
           all j l k = by-eq j x (λ e. ap (s .members) e ∙ at x ex .1) (λ e. o .between j (omega arith) k)
+
+-- ---- what `run_from` answers
+
+module _ (ws : List ℕ) (b : Bitmap) (i : ℕ) (p : Passed ws b) where
+  abbrev asked : Run
+  asked = reading ws b (λ e. noRun) (λ s. runFrom s i)
+
+  told : asked ≡ runFrom (held ws b) i
+  told = reading-ok ws b (λ e. noRun) (λ s. runFrom s i) p
+
+  pub answer-past : 64 * b .count ≤ i → record { low = 64 * b .count; end = 64 * b .count } ≡ asked
+  unfolding view
+  answer-past h = sym (told ∙ run-past (held ws b) i h)
+
+  pub answer-next : i ≤ 64 * b .count → (r : Run) → NextRun (held ws b .members) (64 * b .count) i r → r ≡ asked
+  unfolding view
+  answer-next h r x = run-is (held ws b) (bounded-view ws (b .count)) i h r x ∙ sym told
+
+  pub next-answer : i ≤ 64 * b .count → (r : Run) → r ≡ asked → NextRun (held ws b .members) (64 * b .count) i r
+  unfolding view
+  next-answer h r x = subst (NextRun (held ws b .members) (64 * b .count) i) (sym (x ∙ told)) (run-next (held ws b) (bounded-view ws (b .count)) i h)
 
 -- a number whose bit is 0 is no member
 pub clear-bit : (ws : List ℕ) (n i : ℕ) → i / 64 < n → bitAnd (getD ws (i / 64) 0 / 2 ^ (i % 64)) 1 ≡ 0 → view ws n .members i ≡ false

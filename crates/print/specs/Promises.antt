@@ -1,12 +1,12 @@
 -- What printed list text promises, in words of its own. Each is proved in proofs/Promises, `PlainAsBefore` in proofs/Plain.
-use Prim.Native.Nat.{ℕ, _≤_, _<_}
+use Prim.Native.Nat.{ℕ, _+_, _*_, _≤_, _<_}
 use mathlib.Core.Path.{_≡_}
 use mathlib.Core.Bool.{true, false}
 use mathlib.Core.List.{List, []}
 use mathlib.Core.Logic.{_↔_, _⊎_}
 use lib.ListN.{length, take, drop}
 use Rattle.storage.specs.Refusals.{numberOf, amountNumber, amountValue, changeNumber, changeRecord}
-use Rattle.storage.specs.Stores.{Bits, Bounded, refused, Space, view, held, Changes}
+use Rattle.storage.specs.Stores.{Bits, Bounded, refused, Space, view, held, reading, Changes}
 use Rattle.storage.specs.Guards.{mostWords, Passed}
 use Rattle.storage.specs.Promises.{Guarded, LeastCount, HandsNone}
 use Rattle.storage.specs.declared.Bitmap.{Bitmap}
@@ -21,9 +21,10 @@ use Rattle.text.specs.Grammar.{Digits, Listed}
 use Rattle.text.specs.Plain as base-text
 use Rattle.text.specs.Readings.{readingList}
 use Rattle.text.specs.Promises.{Within, PlainReads}
-use Rattle.print.specs.Forms.{Runs, IsText}
+use Rattle.print.specs.Forms.{Runs, Figures, IsText}
 use Rattle.print.specs.Plain as base
-use Rattle.print.specs.Texts.{runs, decimal, textOf, Prints}
+use Rattle.print.specs.Texts.{runs, noRun, runFrom, decimal, PutsDecimal, textOf, Prints}
+use Rattle.print.specs.declared.Run.{Run}
 
 -- t means the number n, with the fewest digits
 pub record Shortest (n : ℕ) (t : List ℕ) : Type 0 where
@@ -39,6 +40,33 @@ pub record RunsOf (b : Bits) : Type 0 where
   pub maximal : Runs (b .members) 0 (runs b)
   pub cover : (i : ℕ) → Within (runs b) i ↔ (b .members i ≡ true)
   pub only : (rs : List Range) → Runs (b .members) 0 rs → rs ≡ runs b
+
+-- the numbers from low on, below end, are the next run from i on, and no longer one; none is left exactly where they are none, at the length
+pub record IsNext (b : Bits) (i low end : ℕ) : Type 0 where
+  pub order : low ≤ end
+  pub some : low < end
+      → (i ≤ low) × ((j : ℕ) → i ≤ j → j < low → b .members j ≡ false) × ((j : ℕ) → low ≤ j → j < end → b .members j ≡ true) × (b .members end ≡ false)
+  pub none : low ≡ end → (end ≡ 64 * b .count) × ((j : ℕ) → i ≤ j → b .members j ≡ false)
+
+-- `run_from`, from its contract: none at 0 where 1 or 2 applies
+abbrev pub RunFromMeans : Type 0
+RunFromMeans =
+    (ws : List ℕ) (b : Bitmap) (i : ℕ) (r : Run) → r ≡ reading ws b (λ e. noRun) (λ s. runFrom s i)
+    → Guarded ws b (λ k. (r .low ≡ 0) × (r .end ≡ 0)) (IsNext (held ws b) i (r .low) (r .end))
+
+-- the figures t stand at a place, and every other byte is as it was
+pub record FiguresPut (t : List ℕ) (at r : ℕ) (out out' : List ℕ) : Type 0 where
+  pub next : r ≡ at + length t
+  pub before : take at out' ≡ take at out
+  pub there : take (length t) (drop at out') ≡ t
+  pub behind : drop r out' ≡ drop r out
+
+-- `put_decimal`, from its contract: the figures of x, exactly where there is room for them
+abbrev pub PutDecimalMeans : Type 0
+PutDecimalMeans =
+    (at x r : ℕ) (out out' : List ℕ) → PutsDecimal at x r out out'
+    → (t : List ℕ) × Figures t x
+    × (((at + length t ≤ length out) × FiguresPut t at r out out') ⊎ ((length out < at + length t) × (r ≡ at) × (out' ≡ out)))
 
 -- what is printed
 abbrev pub PrintsRuns : Type 0

@@ -4,7 +4,7 @@ use mathlib.Core.Path.{_≡_}
 use mathlib.Core.Bool.{Bool, true, false}
 use mathlib.Core.List.{List, [], _∷_, _++_}
 use lib.Dec.{ltb, leb, eqb}
-use lib.ListN.{length, drop}
+use lib.ListN.{length, take, drop}
 use Rattle.word.specs.Sets.{choose}
 use Rattle.storage.specs.Stores.{Bits, reading}
 use Rattle.storage.specs.declared.Bitmap.{Bitmap}
@@ -14,6 +14,7 @@ use Rattle.storage.specs.declared.Amount.the-variants.{Is, Refused}
 use Rattle.style.specs.Styles.{allowed}
 use Rattle.style.specs.declared.Style.{Style}
 use Rattle.text.specs.Lists.{comma, space, zeroDigit, Range, range}
+use Rattle.print.specs.declared.Run.{Run}
 
 -- where the run began that is open, if one is
 pub data Opened : Type 0 where
@@ -40,6 +41,18 @@ runsFrom s o (suc d) i =
 abbrev pub runs : Bits → List Range
 runs b = runsFrom (b .members) Nowhere (64 * b .count) 0
 
+-- the first of some runs below e, as its first number and the number after its last; none at e where there is no run
+abbrev pub firstRun : ℕ → List Range → Run
+firstRun e [] = record { low = e; end = e }
+firstRun e (r ∷ rs) = record { low = r .low; end = r .high + 1 }
+
+-- the next run of a bitmap from i on
+unfoldable pub runFrom : Bits → ℕ → Run
+runFrom b i = firstRun (64 * b .count) (runsFrom (b .members) Nowhere (64 * b .count - i) i)
+
+abbrev pub noRun : Run
+noRun = record { low = 0; end = 0 }
+
 -- the digits of n, the first not 0; f bounds their number
 unfoldable pub decimalFrom : ℕ → ℕ → List ℕ
 decimalFrom zero n = (zeroDigit + n % 10) ∷ []
@@ -49,6 +62,15 @@ decimalFrom (suc f) n =
 
 abbrev pub decimal : ℕ → List ℕ
 decimal n = decimalFrom n n
+
+-- a buffer with the digits of x at a place
+unfoldable pub decimalAt : ℕ → ℕ → List ℕ → List ℕ
+decimalAt at x out = take at out ++ (decimal x ++ drop (at + length (decimal x)) out)
+
+-- they are put where the buffer has room for them; r is the place after them
+pub record PutsDecimal (at x r : ℕ) (out out' : List ℕ) : Type 0 where
+  pub next : r ≡ choose (leb (at + length (decimal x)) (length out)) (at + length (decimal x)) at
+  pub leaves : out' ≡ choose (leb (at + length (decimal x)) (length out)) (decimalAt at x out) out
 
 -- how many numbers a range has
 abbrev pub sizeOf : Range → ℕ

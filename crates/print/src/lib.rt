@@ -1,5 +1,5 @@
 // A bitmap printed as list text in a style: its runs upward, in the plain style as `0-3, 5-7, 11`. A run is one piece, or one for each number. The call
-// measures first and writes only what fits.
+// measures first and writes only what fits. Runs and digits have their home here, for other prints too: `run_from`, `decimal_len`, `put_decimal`.
 use storage::Amount;
 use storage::Bitmap;
 use storage::Found;
@@ -13,17 +13,17 @@ ghost use Prim.Native.Nat.{_+_, _-_, _*_, _≤_, _<_};
 ghost use lib.Dec.{leb};
 ghost use mathlib.Core.List.{_++_};
 ghost use lib.ListN.{length};
-ghost use Rattle.storage.specs.Stores.{held};
+ghost use Rattle.storage.specs.Stores.{held, reading};
 ghost use Rattle.storage.specs.Guards.{Passed};
 ghost use Rattle.text.specs.Lists.{listLimit, range};
 ghost use Rattle.style.specs.Promises.{Allowed};
-ghost use Rattle.print.specs.Texts.{decimal, cut, printed, textOf, Prints};
+ghost use Rattle.print.specs.Texts.{decimal, noRun, runFrom, PutsDecimal, cut, printed, textOf, Prints};
 ghost use Rattle.print.specs.Kernels.{NextRun, Printable, rangeOf, separator, piecesAt, putAt, Puts};
 
 const SPACE: u8 = 32;
 
 // A run: its first bit, and the clear bit after its last.
-struct Run {
+pub struct Run {
     pub low: usize,
     pub end: usize,
 }
@@ -56,6 +56,21 @@ fn next_run(words: &[u64], b: Bitmap, i: usize) -> Run
     }
 }
 
+// The next run from i on; an empty one at the length where there is none, and at 0 where 1 or 2 applies. {3, 7, 8}: from 4 on it is 7 to 8.
+pub fn run_from(words: &[u64], b: Bitmap, i: usize) -> Run
+    ensures { λ r. ⌜ r ≡ reading (now (words .entry)) b (λ e. noRun) (λ s. runFrom s i) ⌝ }
+{
+    match storage::check(words, b) {
+        Guard::Stop(_) => return Run { low: 0, end: 0 },
+        Guard::Pass => {}
+    }
+    let end = 64 * b.count;
+    if i > end {
+        return Run { low: end, end: end };
+    }
+    next_run(words, b, i)
+}
+
 // How many digits x has.
 fn digits(x: usize) -> usize
     requires { ⌜ x < 10_000_000_000 ⌝ }
@@ -77,6 +92,16 @@ fn digits(x: usize) -> usize
         return if x < 100_000_000 { 8 } else { 9 };
     }
     10
+}
+
+// How many digits any number has: 1 for 9, 2 for 10.
+pub fn decimal_len(x: usize) -> usize
+    ensures { λ r. ⌜ r ≡ length (decimal x) ⌝ }
+{
+    if x < 10_000_000_000 {
+        return digits(x);
+    }
+    10 + digits(x / 10_000_000_000)
 }
 
 // The length of what stands before a piece.
@@ -136,12 +161,11 @@ fn text_len(words: &[u64], b: Bitmap, style: Style) -> usize
     at
 }
 
-// Puts the digits of x, the last two first; the place after them.
-fn put_number(out: &mut [u8], at: usize, x: usize) -> usize
-    requires { ⌜ (x < 10_000_000_000) × (at + length (decimal x) ≤ length (now out)) ⌝ }
-    ensures { λ r. ⌜ Puts at (decimal x) r (now (out .entry)) (now (out .exit)) ⌝ }
+// Puts the digits of x up to a place, the last two first.
+fn put_digits(out: &mut [u8], at: usize, end: usize, x: usize)
+    requires { ⌜ (end ≡ at + length (decimal x)) × (end ≤ length (now out)) ⌝ }
+    ensures { λ r. ⌜ now (out .exit) ≡ putAt at (decimal x) (now (out .entry)) ⌝ }
 {
-    let end = at + digits(x);
     let mut p = end;
     let mut y = x;
     while p - at >= 2 {
@@ -154,7 +178,31 @@ fn put_number(out: &mut [u8], at: usize, x: usize) -> usize
     if p > at {
         out[at] = ZERO + (y % 10) as u8;
     }
+}
+
+// Puts the digits of x; the place after them.
+fn put_number(out: &mut [u8], at: usize, x: usize) -> usize
+    requires { ⌜ (x < 10_000_000_000) × (at + length (decimal x) ≤ length (now out)) ⌝ }
+    ensures { λ r. ⌜ Puts at (decimal x) r (now (out .entry)) (now (out .exit)) ⌝ }
+{
+    let end = at + digits(x);
+    put_digits(out, at, end, x);
     end
+}
+
+// Puts the digits of x at a place, where the buffer has room for them; the place after them, or the same place where nothing is put.
+pub fn put_decimal(out: &mut [u8], at: usize, x: usize) -> usize
+    ensures { λ r. ⌜ PutsDecimal at x r (now (out .entry)) (now (out .exit)) ⌝ }
+{
+    if at > out.len() {
+        return at;
+    }
+    let len = decimal_len(x);
+    if len > out.len() - at {
+        return at;
+    }
+    put_digits(out, at, at + len, x);
+    at + len
 }
 
 // Puts what stands between two pieces, if one came before; the place after it.

@@ -96,8 +96,9 @@ counts-members = record {
       ap (λ (n : ℕ). countBelow (s .members) (64 * n)) e ∙ one-more (s .members) (b .members) p (64 * b .count) l out has same;
 }
 
-pub count-set-bits-means : CountSetBitsMeans
+pub all-counted : (b : Bits) → Bounded b → AllCounted b (size b)
 unfolding size
-count-set-bits-means =
-    amount-call (λ s. Amount.Is (size s)) (λ b. Hands (AllCounted b))
-    (λ b bounded. (refl, λ e h. counted (b .members) e (size b) (count-flat (b .members) (64 * b .count) e h (bounded .past))))
+all-counted b bounded e h = counted (b .members) e (size b) (count-flat (b .members) (64 * b .count) e h (bounded .past))
+
+pub count-set-bits-means : CountSetBitsMeans
+count-set-bits-means = amount-call (λ s. Amount.Is (size s)) (λ b. Hands (AllCounted b)) (λ b bounded. (refl, all-counted b bounded))
