@@ -1,0 +1,9 @@
+pub mod Lines
+pub mod Ahead
+pub mod Rows
+pub mod Next
+pub mod Printing
+pub mod Forms
+pub mod Pages
+pub mod Taken
+pub mod Promises

@@ -1,0 +1,4 @@
+pub mod Register
+pub mod Kernels
+pub mod Pages
+pub mod Promises
