@@ -1,24 +1,16 @@
-"""The list: its lines, and the styles, stores and random sets that texts and sets share."""
+"""The list: its cases, and the styles, stores and random sets that texts and sets share."""
 
 import pathlib
 import sys
 
 sys.path.append(str(pathlib.Path(__file__).resolve().parent.parent))
 from draw import ONES, Draw
+from lines import put, some_word, store
 
 TEXTS, SETS, ROUND_TRIPS = range(3)
 LAST = 15
 STORE = 4
 BUFFER = 2048
-
-
-def put(*numbers):
-    """A line of numbers in hexadecimal; 0 has no digits."""
-    put.lines += 1
-    print(",".join(format(n, "x") if n else "" for n in numbers))
-
-
-put.lines = 0
 
 
 def stored(words):
@@ -57,13 +49,6 @@ OVER = [((), 1), ((15, 0xABC), 3), ((15, 0xABC), ONES)]
 def some_style(draw):
     joiner = draw.of([c for c in range(33, 127) if chr(c) not in ",0123456789"])
     return draw.of((0, 1, 999, 1000, draw.below(1001))), draw.of((joiner, *JOINERS)), draw.below(2), 2 + draw.below(8)
-
-
-def some_word(draw):
-    """A word of a density that is drawn too, or of long runs."""
-    low, high = draw.below(64), draw.below(64)
-    some = draw.word(), draw.word() | draw.word(), draw.word() & draw.word(), draw.word() & draw.word() & draw.word() & draw.word()
-    return draw.of((0, ONES, *some, ONES >> low, ONES << high & ONES, ONES << high & ONES >> low))
 
 
 def some_store(draw):

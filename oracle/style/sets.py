@@ -1,16 +1,7 @@
 """Sets that are printed, and printed sets that are read back."""
 
 import model
-from listing import BAD, BUFFER, EDGES, HOUSE, ONES, OVER, PLAIN, ROUND_TRIPS, SETS, STORES, case, some_store, some_style
-
-
-def store(*runs):
-    """The fewest words that hold runs, each its first bit and how many there are."""
-    bits = 0
-    for low, size in runs:
-        bits |= (1 << size) - 1 << low
-    words = [bits >> 64 * k & ONES for k in range((bits.bit_length() + 63) // 64)]
-    return words, len(words)
+from listing import BAD, BUFFER, EDGES, HOUSE, ONES, OVER, PLAIN, ROUND_TRIPS, SETS, STORES, case, some_store, some_style, store
 
 
 def printing(held, style, size):
