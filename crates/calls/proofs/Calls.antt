@@ -12,12 +12,13 @@ use Rattle.shapes.specs.Shapes.{Splits}
 use Rattle.shapes.specs.declared.Split.{Split}
 use Rattle.style.specs.declared.Style.{Style}
 use Rattle.print.specs.Texts.{Prints}
+use Rattle.register.specs.Register.{Registers}
 use Rattle.sheet.specs.Reads.{Reads}
 use Rattle.plain.specs.Writer.{Left, Writes}
 use Rattle.sheet.specs.declared.Reading.{Reading}
 use Rattle.sheet.specs.declared.Added.{Added}
 use Rattle.answers.specs.Answers.{ChangeOut, SplitOut, FoundOut, AmountOut, FieldOut, TruthOut, ReadingOut, AddedOut}
-use Rattle.calls.specs.Calls.{Changed, Printed, Read, Written}
+use Rattle.calls.specs.Calls.{Changed, Printed, Registered, Read, Written}
 use Rattle.calls.specs.Calls as calls
 
 pub changed : {op : Op} {ws ws' : List ℕ} {n r n' : ℕ} {a : Change} → Changes op ws (bitmapOf n) a ws' → ChangeOut a r n' → Changed op ws n r ws' n'
@@ -41,6 +42,9 @@ truth h k = rw h at k
 
 pub printed : {y : Style} {ws bs bs' : List ℕ} {n r v : ℕ} {a : Amount} → Prints y ws (bitmapOf n) bs a bs' → AmountOut a r v → Printed y ws n bs r bs' v
 printed h k = record { out = rw (h .answers) at k; leaves = h .leaves }
+
+pub registered : {ws bs bs' : List ℕ} {n r v : ℕ} {a : Amount} → Registers ws (bitmapOf n) bs a bs' → AmountOut a r v → Registered ws n bs r bs' v
+registered h k = record { out = rw (h .answers) at k; leaves = h .leaves }
 
 pub read : {e : ℕ} {sheet ws res res' : List ℕ} {n r i m : ℕ} {a : Reading} → Reads e sheet ws (bitmapOf n) res a res' → ReadingOut a r i m → Read e sheet ws n res r res' i m
 read h k = record { out = rw (h .answers) at k; leaves = h .leaves }

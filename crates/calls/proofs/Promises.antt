@@ -31,6 +31,8 @@ use Rattle.style.proofs.Promises.{styles-mean}
 use Rattle.print.specs.Promises.{NotPrinted, TextPut, PrintsText}
 use Rattle.storage.specs.declared.Bitmap.{Bitmap}
 use Rattle.print.proofs.Promises.{prints-text}
+use Rattle.register.specs.Promises.{PrintsRegister}
+use Rattle.register.proofs.Promises.{write-register-means}
 use Rattle.plain.specs.Writer.{started, added, requested}
 use Rattle.plain.specs.Promises.{LeavesRest}
 use Rattle.sheet.specs.declared.Fields.{Fields}
@@ -39,7 +41,7 @@ use Rattle.sheet.specs.declared.Added.the-variants.{Done, Refused}
 use Rattle.sheet.proofs.Readings.{reading-means}
 use Rattle.plain.proofs.Writings.{starting-means, adding-means}
 use Rattle.answers.specs.Answers.{AddedOut}
-use Rattle.calls.specs.Calls.{Changed, SplitOff, Printed, Written}
+use Rattle.calls.specs.Calls.{Changed, SplitOff, Printed, Registered, Written}
 use Rattle.calls.specs.Promises.{ChangesMean, ReadingsOut, OthersMean, TruthIn, StyleIn, RefusedChangesNothing}
 
 -- ---- what crosses is what the answer is
@@ -123,6 +125,9 @@ others-mean = record {
       (halves.split-means at ws (bitmapOf n) ts _ ws' ts' (record { answers = refl; head = h .head; tail = h .tail }));
   print = λ y ws bs bs' n r v h.
       carry (λ x z. PrintsText y ws (bitmapOf n) bs x z bs') (h .out .number) (h .out .value) (prints-text y ws (bitmapOf n) bs _ bs' (record { answers = refl; leaves = h .leaves }));
+  register = λ ws bs bs' n r v h.
+      carry (λ x z. PrintsRegister ws (bitmapOf n) bs x z bs') (h .out .number) (h .out .value)
+      (write-register-means ws (bitmapOf n) bs _ bs' (record { answers = refl; leaves = h .leaves }));
   read = λ e sheet ws res res' n r k m h. (_, h .out, reading-means e sheet ws (bitmapOf n) res _ res' (record { answers = refl; leaves = h .leaves }));
   start = λ bs bs' n r n' h. (_, h .out, starting-means bs _ bs' (record { answers = refl; leaves = h .leaves }));
   add-duty = λ bs bs' payload f n kind r n' h. (_, h .out, adding-means .duties bs n kind f payload _ bs' (record { answers = refl; leaves = h .leaves }));
@@ -153,6 +158,11 @@ split at ws ts ws' ts' n r n' t h p =
     let k = halves.split-keeps at ws (bitmapOf n) ts _ ws' ts' (record { answers = refl; head = h .head; tail = h .tail }) (omega (arith, h .out .number)) in
     (h .out .count ∙ ap (λ (b : Bitmap). b .count) (k .0), k .2, k .3)
 
+-- put or too short a buffer, and refused: the buffer was too short
+not-put : {t bs bs' : List ℕ} {r v : ℕ} → 0 < r → ((length t ≤ length bs) × TextPut t bs r v bs') ⊎ ((length bs < length t) × NotPrinted bs r v bs' 6) → bs' ≡ bs
+not-put p (inl x) = absurd (omega (arith, x .1 .number))
+not-put p (inr x) = x .1 .bytes
+
 print : (y : Style) (ws bs bs' : List ℕ) (n r v : ℕ) → Printed y ws n bs r bs' v → 0 < r → bs' ≡ bs
 print y ws bs bs' n r v h p =
     way (which-way ws (bitmapOf n))
@@ -160,16 +170,23 @@ print y ws bs bs' n r v h p =
     q : PrintsText y ws (bitmapOf n) bs r v bs'
     q = others-mean .print y ws bs bs' n r v h
 
-    ends : {t : List ℕ} → ((length t ≤ length bs) × TextPut t bs r v bs') ⊎ ((length bs < length t) × NotPrinted bs r v bs' 6) → bs' ≡ bs
-    ends (inl x) = absurd (omega (arith, x .1 .number))
-    ends (inr x) = x .1 .bytes
-
     way : ((x : ℕ) × Stopped ws (bitmapOf n) x) ⊎ Passed ws (bitmapOf n) → bs' ≡ bs
     way (inl (x, s)) = q .stop x s .bytes
     way (inr t) =
         by-test (allowed y)
-        (λ a. ends (q .rest t .rest (styles-mean y .1 a) .2))
+        (λ a. not-put p (q .rest t .rest (styles-mean y .1 a) .2))
         (λ a. q .rest t .stop (λ ok. false≢true (sym a ∙ styles-mean y .0 ok)) .bytes)
+
+register : (ws bs bs' : List ℕ) (n r v : ℕ) → Registered ws n bs r bs' v → 0 < r → bs' ≡ bs
+register ws bs bs' n r v h p =
+    way (which-way ws (bitmapOf n))
+  where
+    q : PrintsRegister ws (bitmapOf n) bs r v bs'
+    q = others-mean .register ws bs bs' n r v h
+
+    way : ((x : ℕ) × Stopped ws (bitmapOf n) x) ⊎ Passed ws (bitmapOf n) → bs' ≡ bs
+    way (inl (x, s)) = q .stop x s .bytes
+    way (inr t) = not-put p (q .rest t .2)
 
 kept : (a : Added) (bs bs' : List ℕ) (n r n' : ℕ) → AddedOut a n r n' → LeavesRest bs a bs' → 0 < r → (n' ≡ n) × (bs' ≡ bs)
 kept (Done m) bs bs' n r n' o k p = absurd (omega (arith, o .number))
@@ -186,4 +203,4 @@ add bs bs' payload false f n kind r n' h =
     kept _ bs bs' n r n' (h .out) (adding-means .remarks bs n kind f payload _ bs' (record { answers = refl; leaves = h .leaves }) .leaves)
 
 pub refused-changes-nothing : RefusedChangesNothing
-refused-changes-nothing = record { change = change; split = split; print = print; start = start; add = add }
+refused-changes-nothing = record { change = change; split = split; print = print; register = register; start = start; add = add }

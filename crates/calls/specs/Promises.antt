@@ -18,6 +18,7 @@ use Rattle.combine.specs.Combine.{besideBoth}
 use Rattle.shapes.specs.Promises.{SplitMeans}
 use Rattle.style.specs.declared.Style.{Style}
 use Rattle.print.specs.Promises.{PrintsText}
+use Rattle.register.specs.Promises.{PrintsRegister}
 use Rattle.plain.specs.Writer.{duty, remark, started, added, requested}
 use Rattle.sheet.specs.Promises.{ReadingMeans}
 use Rattle.plain.specs.Promises.{StartMeans, AddMeans}
@@ -25,7 +26,7 @@ use Rattle.sheet.specs.declared.Fields.{Fields}
 use Rattle.sheet.specs.declared.Reading.{Reading}
 use Rattle.sheet.specs.declared.Added.{Added}
 use Rattle.answers.specs.Answers.{FoundOut, AmountOut, FieldOut, TruthOut, ReadingOut, AddedOut}
-use Rattle.calls.specs.Calls.{truth, styleOf, Changed, SplitOff, Printed, Read, Written}
+use Rattle.calls.specs.Calls.{truth, styleOf, Changed, SplitOff, Printed, Registered, Read, Written}
 
 -- a changing call keeps what its operation promises: by itself, with a second bitmap, with two
 pub record ChangesMean : Type 1 where
@@ -66,10 +67,11 @@ pub record ReadingsOut : Type 1 where
       → (ws os : List ℕ) (n m r v : ℕ) → TruthOut (readingBoth ws (bitmapOf n) os (bitmapOf m) Truth.Refused g) r v
       → GuardedBoth ws (bitmapOf n) os (bitmapOf m) (HandsNone r v) (rule (view ws n) (view os m) r v)
 
--- the other calls: `split_off`, `write_list`, and those of the sheet
+-- the other calls: `split_off`, `write_list`, `write_register`, and those of the sheet
 pub record OthersMean : Type 0 where
   pub split : (at : ℕ) (ws ts ws' ts' : List ℕ) (n r n' t : ℕ) → SplitOff at ws n ts r ws' n' ts' t → SplitMeans at ws (bitmapOf n) ts r n' t ws' ts'
   pub print : (y : Style) (ws bs bs' : List ℕ) (n r v : ℕ) → Printed y ws n bs r bs' v → PrintsText y ws (bitmapOf n) bs r v bs'
+  pub register : (ws bs bs' : List ℕ) (n r v : ℕ) → Registered ws n bs r bs' v → PrintsRegister ws (bitmapOf n) bs r v bs'
   pub read : (e : ℕ) (sheet ws res res' : List ℕ) (n r k m : ℕ) → Read e sheet ws n res r res' k m
       → (a : Reading) × ReadingOut a r k m × ReadingMeans e sheet ws (bitmapOf n) res a res'
   pub start : (bs bs' : List ℕ) (n r n' : ℕ) → Written (started bs) n r bs' n' → (a : Added) × AddedOut a n r n' × StartMeans bs a bs'
@@ -96,6 +98,7 @@ pub record RefusedChangesNothing : Type 0 where
   pub change : (op : Op) (ws ws' : List ℕ) (n r n' : ℕ) → Changed op ws n r ws' n' → 0 < r → (n' ≡ n) × (ws' ≡ ws)
   pub split : (at : ℕ) (ws ts ws' ts' : List ℕ) (n r n' t : ℕ) → SplitOff at ws n ts r ws' n' ts' t → 0 < r → (n' ≡ n) × (ws' ≡ ws) × (ts' ≡ ts)
   pub print : (y : Style) (ws bs bs' : List ℕ) (n r v : ℕ) → Printed y ws n bs r bs' v → 0 < r → bs' ≡ bs
+  pub register : (ws bs bs' : List ℕ) (n r v : ℕ) → Registered ws n bs r bs' v → 0 < r → bs' ≡ bs
   pub start : (bs bs' : List ℕ) (n r n' : ℕ) → Written (started bs) n r bs' n' → 0 < r → (n' ≡ n) × (bs' ≡ bs)
   pub add : (bs bs' payload : List ℕ) (d : Bool) (f : Fields) (n kind r n' : ℕ) → Written (added bs n (requested d kind f payload)) n r bs' n' → 0 < r
       → (n' ≡ n) × (bs' ≡ bs)

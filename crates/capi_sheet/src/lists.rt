@@ -1,9 +1,9 @@
-// List text.
+// List text, and the printed register.
 use storage::Bitmap;
 use storage::EMPTY;
 use style::Style;
 ghost use Rattle.text.specs.Readings.{readingList};
-ghost use Rattle.calls.specs.Calls.{styleOf, Changed, Printed};
+ghost use Rattle.calls.specs.Calls.{styleOf, Changed, Printed, Registered};
 
 // The bitmap becomes the set of a list such as `0-3, 5-7, 11`, in a style.
 #[no_mangle]
@@ -50,5 +50,19 @@ pub extern "C" fn taxolbin_write_list(
         shortest,
     };
     let a = print::write_list(words, Bitmap { count, ..EMPTY }, out, style);
+    answers::amount(a, length)
+}
+
+// The register of a bitmap, at the front of a buffer; its length goes out.
+#[no_mangle]
+pub extern "C" fn taxolbin_write_register(
+    words: &[u64],
+    count: usize,
+    out: &mut [u8],
+    length: &mut usize,
+) -> u32
+    ensures { λ r. ⌜ Registered (now (words .entry)) count (now (out .entry)) r (now (out .exit)) (now (length .exit)) ⌝ }
+{
+    let a = register::write_register(words, Bitmap { count, ..EMPTY }, out);
     answers::amount(a, length)
 }
