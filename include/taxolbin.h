@@ -1,4 +1,4 @@
-/* Taxolbin: bitmaps in lent memory, list text and the change sheet.
+/* Taxolbin: bitmaps in lent memory, list text, the printed register and the change sheet.
  *
  * Link with libtaxolbin.a, or libtaxolbin.so, which needs memcpy, memmove and memset of the C library and nothing else. It allocates nothing and
  * keeps nothing between calls, so calls on different memory may run at the same time.
@@ -49,7 +49,7 @@ extern "C" {
 #endif
 
 /* This version. Before 1.0 a call may change with the second number. */
-#define TAXOLBIN_VERSION "0.3.0"
+#define TAXOLBIN_VERSION "0.4.0"
 
 /* The most words of a store, the newest edition, the most records of a sheet and bytes of a payload, and the most bits of a resize in a sheet. */
 #define TAXOLBIN_CAPACITY_MAX UINT64_C(67108864)
@@ -370,6 +370,20 @@ TAXOLBIN_MUST_USE static inline uint32_t taxolbin_load_list(
     }
     return i == length && number == TAXOLBIN_NOT_LIST ? taxolbin_resize_bits(words, capacity, count, 0) : number;
 }
+
+/* ---- The printed register ----
+ *
+ * For marking up paper: pages of 50 lines, each line 72 bytes and a line end (byte 10). A line holds one maximal run of set bits, upward: its first
+ * bit, its last and its size, each right-aligned in 12 bytes; the other 36 are blanks (byte 32). Line 50 holds in the same columns the page, from 1,
+ * the pages, and the count of all set bits. A page begins only where the last has 49 runs, lines without a run are blank, and an empty bitmap has one
+ * page. A bit is printed as it is: no style and no first number play a part. */
+
+/* The bytes of a page. */
+#define TAXOLBIN_REGISTER_PAGE UINT64_C(3650)
+
+/* Prints the register to the front of the buffer and hands out its length; no zero byte follows. One page, and one more for each 49 set bits, are
+ * always enough. {7} is 7, 7, 1 on line 1 and 1, 1, 1 on line 50. [1, 2, 6] */
+TAXOLBIN_MUST_USE uint32_t taxolbin_write_register(const uint64_t *words, size_t capacity, size_t count, uint8_t *out, size_t size, size_t *length);
 
 /* ---- The change sheet ----
  *

@@ -1,12 +1,12 @@
 /* The header's own functions, in what C and C++ have in common: the bytes of each kind's record, typed from the table of document 01, refusals, the
- * numbers in words, an empty book, styles of list text, huge numbers in a list, and equal bitmaps of different counts. With an argument it prints the
- * numbers in words and nothing else. */
+ * numbers in words, an empty book, styles of list text, huge numbers in a list, registers, and equal bitmaps of different counts. With an argument it
+ * prints the numbers in words and nothing else. */
 #include <stdio.h>
 #include <stdlib.h>
 #include <string.h>
 #include <taxolbin.h>
 
-enum { SIZE = 64 };
+enum { SIZE = 64, LINE = 73, PAGE = TAXOLBIN_REGISTER_PAGE };
 
 static int wrong = 0;
 
@@ -225,6 +225,77 @@ static void huge_numbers(void)
     list_refused("4294968296", TAXOLBIN_BAD_STYLE, 1001, '-', 1, 2);
 }
 
+/* A line of a register, from 0, has these numbers. */
+static void row(const uint8_t *text, size_t line, size_t first, size_t last, size_t size)
+{
+    char expected[2 * LINE];
+    sprintf(expected, "%12zu%12zu%12zu%36s\n", first, last, size, "");
+    if (memcmp(text + line * LINE, expected, LINE) != 0) {
+        wrong = 1;
+        printf("line %zu: %.*s, not %s", line, LINE, (const char *)text + line * LINE, expected);
+    }
+}
+
+/* The lines of a register from one to another, which is left out, are blank. */
+static void blank(const uint8_t *text, size_t from, size_t to)
+{
+    size_t i;
+    for (i = from * LINE; i < to * LINE; i++) {
+        is("a blank line", text[i], i % LINE == LINE - 1 ? 10 : ' ');
+    }
+}
+
+/* The register of two words, of so many pages: into as many bytes, and into one less, which is refused. */
+static const uint8_t *registered(const char *what, uint64_t low, uint64_t high, size_t pages)
+{
+    static uint8_t text[2 * PAGE + 1];
+    const uint64_t words[2] = {low, high};
+    size_t i, n = 9;
+    memset(text, 'x', sizeof text);
+    is(what, taxolbin_write_register(words, 2, 2, text, pages * PAGE - 1, &n), TAXOLBIN_NO_SPACE);
+    is("its length", n, 0);
+    for (i = 0; i < sizeof text; i++) {
+        is("a byte of a refused call", text[i], 'x');
+    }
+    is(what, taxolbin_write_register(words, 2, 2, text, pages * PAGE, &n), 0);
+    is("its length", n, pages * PAGE);
+    is("the byte behind", text[n], 'x');
+    return text;
+}
+
+static void registers(void)
+{
+    static const uint64_t notes[2] = {0x3B0, 0};
+    uint8_t none[1] = {'x'};
+    size_t n = 9;
+    const uint8_t *text = registered("{4, 5, 7, 8, 9, 63, 64}", UINT64_C(0x80000000000003B0), 1, 1);
+    row(text, 0, 4, 5, 2);
+    row(text, 1, 7, 9, 3);
+    row(text, 2, 63, 64, 2);
+    blank(text, 3, 49);
+    row(text, 49, 1, 1, 7);
+    text = registered("{7}", 0x80, 0, 1);
+    row(text, 0, 7, 7, 1);
+    blank(text, 1, 49);
+    row(text, 49, 1, 1, 1);
+    text = registered("no bit", 0, 0, 1);
+    blank(text, 0, 49);
+    row(text, 49, 1, 1, 0);
+    text = registered("49 runs", UINT64_C(0x5555555555555555), UINT64_C(0x155555555), 1);
+    row(text, 48, 96, 96, 1);
+    row(text, 49, 1, 1, 49);
+    text = registered("50 runs", UINT64_C(0x5555555555555555), UINT64_C(0x555555555), 2);
+    row(text, 48, 96, 96, 1);
+    row(text, 49, 1, 2, 50);
+    row(text, 50, 98, 98, 1);
+    blank(text, 51, 99);
+    row(text, 99, 2, 2, 50);
+    is("a count over the store", taxolbin_write_register(notes, 2, 3, none, 1, &n), TAXOLBIN_COUNT_OVER_STORE);
+    is("its length", n, 0);
+    is("no byte", taxolbin_write_register(notes, 2, 2, none, 0, &n), TAXOLBIN_NO_SPACE);
+    is("the byte", none[0], 'x');
+}
+
 /* The least bit of what a sheet makes of the notes {4} in so many words. */
 static size_t read_back(size_t words_in_use)
 {
@@ -273,6 +344,26 @@ static void list_space(void)
     free(words);
 }
 
+/* The longest store with every bit set: the longest numbers of a register. */
+static void longest_run(void)
+{
+    uint8_t text[PAGE];
+    uint64_t *words = (uint64_t *)malloc(TAXOLBIN_CAPACITY_MAX * sizeof(uint64_t));
+    size_t n = 9;
+    if (words == NULL) {
+        wrong = 1;
+        printf("no memory for the longest store\n");
+        return;
+    }
+    memset(words, 0xFF, TAXOLBIN_CAPACITY_MAX * sizeof(uint64_t));
+    is("the longest run", taxolbin_write_register(words, TAXOLBIN_CAPACITY_MAX, TAXOLBIN_CAPACITY_MAX, text, PAGE, &n), 0);
+    is("its length", n, PAGE);
+    row(text, 0, 0, 4294967295, 4294967296);
+    blank(text, 1, 49);
+    row(text, 49, 1, 1, 4294967296);
+    free(words);
+}
+
 int main(int argc, char **argv)
 {
     uint32_t i;
@@ -289,7 +380,9 @@ int main(int argc, char **argv)
     styles();
     empty_house();
     huge_numbers();
+    registers();
     counts();
     list_space();
+    longest_run();
     return wrong;
 }

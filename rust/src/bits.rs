@@ -333,6 +333,34 @@ impl BitSlice {
         done(unsafe { ffi::taxolbin_write_list(bits.as_ptr(), bits.len(), bits.len(), to, size, &mut length, first, joiner, blank, shortest) })?;
         Ok(core::str::from_utf8(&out[..length]).expect("a list is ASCII"))
     }
+
+    /// Prints the register to the front of the buffer, and gives the text: pages of 50 lines, each line 72 bytes and a line end. A line has one maximal
+    /// run of set bits, upward: its first bit, its last and its size, each right-aligned in 12 bytes; the rest is blank. Line 50 has in the same
+    /// columns the page, from 1, the pages and the count of all set bits. A page has up to 49 runs, and with no bit set there is one page.
+    /// `NoSpace` where the buffer is too short, and then no byte of it changes. A page has [`REGISTER_PAGE`](crate::REGISTER_PAGE) bytes; one page, and
+    /// one more for each 49 set bits, are always enough.
+    ///
+    /// ```
+    /// use taxolbin::{BitSlice, Error, REGISTER_PAGE};
+    ///
+    /// let bits = BitSlice::new(&[0b1_1010_0000])?;
+    /// let mut page = [0; REGISTER_PAGE];
+    /// let lines: Vec<_> = bits.write_register(&mut page)?.lines().collect();
+    /// assert_eq!(lines.len(), 50);
+    /// assert_eq!(lines[0].trim_end(), "           5           5           1");
+    /// assert_eq!(lines[1].trim_end(), "           7           8           2");
+    /// assert_eq!(lines[2], " ".repeat(72));
+    /// assert_eq!(lines[49].trim_end(), "           1           1           3");
+    /// assert_eq!(bits.write_register(&mut page[1..]), Err(Error::NoSpace));
+    /// # Ok::<(), Error>(())
+    /// ```
+    pub fn write_register<'b>(&self, out: &'b mut [u8]) -> Result<&'b str, Error> {
+        let (bits, mut length) = (&self.0, 0);
+        let (to, size) = (out.as_mut_ptr(), out.len());
+        // SAFETY: each slice's pointer goes with its length, and the buffer is lent to this call alone.
+        done(unsafe { ffi::taxolbin_write_register(bits.as_ptr(), bits.len(), bits.len(), to, size, &mut length) })?;
+        Ok(core::str::from_utf8(&out[..length]).expect("a register is ASCII"))
+    }
 }
 
 /// Reading two bitmaps, which may have different lengths: bits past a length are clear.

@@ -1,6 +1,6 @@
 // The calls of the archive as include/taxolbin.h has them, in its order; whoever builds this names the archive to the linker.
 unsafe extern "C" {
-    static taxolbin_version_0_3: u8;
+    static taxolbin_version_0_4: u8;
     pub fn taxolbin_get(words: *const u64, capacity: usize, count: usize, i: usize, value: *mut usize) -> u32;
     pub fn taxolbin_get_field(words: *const u64, capacity: usize, count: usize, i: usize, width: usize, value: *mut u64) -> u32;
     pub fn taxolbin_first_set(words: *const u64, capacity: usize, count: usize, found: *mut usize, place: *mut usize) -> u32;
@@ -270,6 +270,7 @@ unsafe extern "C" {
         blank: u32,
         shortest: usize,
     ) -> u32;
+    pub fn taxolbin_write_register(words: *const u64, capacity: usize, count: usize, out: *mut u8, size: usize, length: *mut usize) -> u32;
     pub fn taxolbin_read(
         edition: usize,
         sheet: *const u8,
@@ -305,5 +306,5 @@ unsafe extern "C" {
 #[inline]
 pub fn linked() {
     // SAFETY: the byte is there wherever this links, and nothing writes it.
-    unsafe { core::ptr::read_volatile(&raw const taxolbin_version_0_3) };
+    unsafe { core::ptr::read_volatile(&raw const taxolbin_version_0_4) };
 }

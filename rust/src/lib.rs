@@ -92,6 +92,8 @@ pub use style::Style;
 pub const VERSION: &str = env!("CARGO_PKG_VERSION");
 /// The most words of a store.
 pub const CAPACITY_MAX: usize = 67_108_864;
+/// The bytes of a page of a printed register.
+pub const REGISTER_PAGE: usize = 3_650;
 /// The most records of a sheet.
 pub const RECORDS_MAX: usize = 65_535;
 /// The most bytes of a remark's payload.

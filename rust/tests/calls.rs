@@ -3,7 +3,7 @@
 
 use std::collections::BTreeSet;
 
-use taxolbin::{BitSlice, Bitmap, Error, Style, CAPACITY_MAX};
+use taxolbin::{BitSlice, Bitmap, Error, Style, CAPACITY_MAX, REGISTER_PAGE};
 
 const CASES: usize = 2000;
 
@@ -254,6 +254,74 @@ fn list_of(set: &BTreeSet<usize>, style: Style) -> String {
         }
     };
     starts.flat_map(run).collect::<Vec<_>>().join(if style.blank { ", " } else { "," })
+}
+
+// A register into a buffer that is longer, one of exactly its length, and one that is a byte short.
+fn registered(words: &[u64]) {
+    let bits = BitSlice::new(words).unwrap();
+    let register = register_of(&members(&bits_of(words)));
+    let mut out = vec![b'#'; register.len() + 3];
+    assert_eq!(bits.write_register(&mut out), Ok(&register[..]));
+    assert_eq!(&out[register.len()..], b"###");
+    out.fill(b'#');
+    assert_eq!(bits.write_register(&mut out[..register.len()]), Ok(&register[..]));
+    out.fill(b'#');
+    for size in [0, REGISTER_PAGE - 1, register.len() - 1] {
+        assert_eq!(bits.write_register(&mut out[..size]), Err(Error::NoSpace));
+        assert!(out.iter().all(|&byte| byte == b'#'));
+    }
+}
+
+// The lines of the runs, 49 on a page and the last page filled up with blank ones, and under them the foot.
+fn register_of(set: &BTreeSet<usize>) -> String {
+    let line = |numbers: [usize; 3]| format!("{:<72}\n", numbers.map(|n| format!("{n:>12}")).concat());
+    let starts = set.iter().filter(|&&i| i == 0 || !set.contains(&(i - 1)));
+    let ends = set.iter().filter(|&&i| !set.contains(&(i + 1)));
+    let runs: Vec<_> = starts.zip(ends).map(|(&low, &high)| line([low, high, high - low + 1])).collect();
+    let pages = runs.len().div_ceil(49).max(1);
+    let row = |k: usize| runs.get(k).cloned().unwrap_or_else(|| " ".repeat(72) + "\n");
+    let page = |p: usize| (49 * p..49 * p + 49).map(row).collect::<String>() + &line([p + 1, pages, set.len()]);
+    (0..pages).map(page).collect()
+}
+
+#[test]
+fn registers_are_printed() {
+    let mut r = Random(5);
+    for case in 0..CASES / 4 {
+        let n = if case % 10 == 0 { r.below(40) } else { r.below(5) };
+        registered(&r.words(n));
+    }
+}
+
+// So many runs, each of one bit or over the edge of a word: where a page is full, and where the next begins.
+#[test]
+fn registers_have_49_runs_a_page() {
+    for (runs, pages) in [(0, 1), (1, 1), (48, 1), (49, 1), (50, 2), (98, 2), (99, 3), (147, 3), (148, 4)] {
+        let singles: Vec<bool> = (0..2 * runs).map(|i| i % 2 == 1).collect();
+        let edges: Vec<bool> = (0..64 * (runs + 1)).map(|i| i >= 60 && (i % 64 >= 60 || i % 64 < 7) && i < 64 * runs + 7).collect();
+        for bits in [singles, edges] {
+            let words = words_of(&bits);
+            assert_eq!(register_of(&members(&bits_of(&words))).len(), pages * REGISTER_PAGE, "{runs}");
+            registered(&words);
+        }
+    }
+    registered(&[u64::MAX; 40]);
+    registered(&[0; 40]);
+}
+
+// The lines as they are seen, typed by hand.
+#[test]
+fn a_register_is_typed_by_hand() {
+    let mut out = [b'#'; 2 * REGISTER_PAGE];
+    let lines: Vec<_> = BitSlice::new(&[0x80, 0]).unwrap().write_register(&mut out).unwrap().split('\n').map(str::to_owned).collect();
+    assert_eq!(lines.len(), 51);
+    assert_eq!(lines[0], "           7           7           1                                    ");
+    assert_eq!(lines[49], "           1           1           1                                    ");
+    assert!(lines[1..49].iter().all(|line| *line == " ".repeat(72)) && lines[50].is_empty());
+    let text = BitSlice::new(&[]).unwrap().write_register(&mut out).unwrap();
+    assert_eq!(&text[49 * 73..], "           1           1           0                                    \n");
+    let text = BitSlice::new(&[u64::MAX; 200]).unwrap().write_register(&mut out).unwrap();
+    assert_eq!(&text[..73], "           0       12799       12800                                    \n");
 }
 
 // ---- Changes within the length ----

@@ -2,7 +2,8 @@
 use std::error::Error as _;
 
 use taxolbin::{
-    read, BitSlice, Bitmap, Direction, Edit, Edition, Error, ReadError, Sheet, Style, CAPACITY_MAX, PAYLOAD_MAX, RECORDS_MAX, RESIZE_MAX,
+    read, BitSlice, Bitmap, Direction, Edit, Edition, Error, ReadError, Sheet, Style, CAPACITY_MAX, PAYLOAD_MAX, RECORDS_MAX, REGISTER_PAGE,
+    RESIZE_MAX,
 };
 
 const NONE: &[u64] = &[];
@@ -324,6 +325,7 @@ fn constants_are_the_header_s() {
         ("RECORDS_MAX", RECORDS_MAX),
         ("PAYLOAD_MAX", PAYLOAD_MAX),
         ("RESIZE_MAX", RESIZE_MAX),
+        ("REGISTER_PAGE", REGISTER_PAGE),
     ];
     for (name, value) in rows {
         assert!(header.contains(&format!("#define TAXOLBIN_{name} UINT64_C({value})\n")), "{name}");
