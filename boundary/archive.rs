@@ -45,6 +45,7 @@ calls! {
     Split(w: M, c: N, n: O, x: N, t: M, tc: N, tn: O): taxolbin_split_off;
     FromList(w: M, c: N, n: O, t: B, k: N, first: N, joiner: N, blank: u32, shortest: N): taxolbin_from_list;
     WriteList(w: W, c: N, n: N, t: T, k: N, v: O, first: N, joiner: N, blank: u32, shortest: N): taxolbin_write_list;
+    WriteRegister(w: W, c: N, n: N, t: T, k: N, v: O): taxolbin_write_register;
     Read(x: N, s: B, k: N, w: W, c: N, n: N, r: M, rc: N, at: O, rn: O): taxolbin_read;
     Start(b: T, c: N, n: O): taxolbin_start;
     Add(b: T, c: N, n: O, duty: u32, kind: N, p: u32, k: u32, flag: u32, width: N, value: u64, bits: N, l: B, ln: N): taxolbin_add;
@@ -114,6 +115,7 @@ pub fn run(call: &Call, c: &Case) -> Option<Out> {
             Call::Split(f) => f(a.ptr_mut(), cap, &mut n, x, b.ptr_mut(), bcap, &mut v),
             Call::FromList(f) => f(a.ptr_mut(), cap, &mut n, bytes.ptr(), size, first, joiner, blank, shortest),
             Call::WriteList(f) => f(a.ptr(), cap, n, bytes.ptr_mut(), size, &mut v, first, joiner, blank, shortest),
+            Call::WriteRegister(f) => f(a.ptr(), cap, n, bytes.ptr_mut(), size, &mut v),
             Call::Read(f) => f(x, bytes.ptr(), size, a.ptr(), cap, n, b.ptr_mut(), bcap, &mut v, &mut u),
             Call::Start(f) => f(bytes.ptr_mut(), size, &mut n),
             Call::Add(f) => {
@@ -124,7 +126,8 @@ pub fn run(call: &Call, c: &Case) -> Option<Out> {
     };
     match *call {
         Call::Field(_) => outs.push(w),
-        Call::Value(_) | Call::ValueAt(_) | Call::ValueOf(_) | Call::Pair(_) | Call::WriteList(_) => outs.push(v as u64),
+        Call::Value(_) | Call::ValueAt(_) | Call::ValueOf(_) | Call::Pair(_) => outs.push(v as u64),
+        Call::WriteList(_) | Call::WriteRegister(_) => outs.push(v as u64),
         Call::Found(_) | Call::FoundAt(_) | Call::PairAt(_) | Call::Read(_) => outs.extend([v as u64, u as u64]),
         Call::Split(_) => outs.extend([n as u64, v as u64]),
         _ => outs.push(n as u64),

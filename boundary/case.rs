@@ -182,6 +182,20 @@ impl Rng {
         vec![0xab; self.below(size) as usize]
     }
 
+    // Lone bits, as many as fill a page or more, or one less or more.
+    fn lone_bits(&mut self) -> Vec<u64> {
+        let bits = (49 * self.below(4) + self.below(3)).saturating_sub(1);
+        let mut words = vec![0; (bits as usize).div_ceil(32)];
+        (0..bits).for_each(|i| words[i as usize / 32] |= 2 << (2 * i % 64));
+        words
+    }
+
+    // A buffer for so many pages of a register, or one byte less or more.
+    fn pages(&mut self, most: u64) -> Vec<u8> {
+        let size = 3650 * self.below(most + 1) + self.below(3);
+        vec![0xab; size.saturating_sub(1) as usize]
+    }
+
     pub fn case(&mut self, name: &str, most: u64) -> Case {
         let mut c = Case::default();
         (c.a, c.n) = self.store(most);
@@ -216,6 +230,13 @@ impl Rng {
             "from_list" if self.below(4) == 0 => c.bytes = self.huge_text(&c.style),
             "from_list" => c.bytes = self.text(c.a.len(), &c.style),
             "write_list" => c.bytes = self.buffer(most > 100),
+            "write_register" => {
+                if self.below(2) == 0 {
+                    c.a = self.lone_bits();
+                    c.n = c.a.len();
+                }
+                c.bytes = self.pages(if most > 100 { 400 } else { 4 });
+            }
             _ => {}
         }
         c

@@ -36,6 +36,7 @@ pub fn huge() -> usize {
                 Call::Split(f) => f(w, big, &mut n, 0, s, 2, &mut v),
                 Call::FromList(f) => f(w, big, &mut n, t, 8, usize::MAX, 0, 1, 0),
                 Call::WriteList(f) => f(w, big, n, t, 8, &mut v, usize::MAX, 0, 1, 0),
+                Call::WriteRegister(f) => f(w, big, n, t, 8, &mut v),
                 Call::Read(f) => f(1, t, 8, w, big, n, s, 2, &mut v, &mut u),
                 Call::Start(_) | Call::Add(_) => continue,
             }
@@ -74,6 +75,7 @@ fn at_limit(words: &mut [u64]) {
     let good = unsafe { last_set(w, LIMIT, n, &mut found, &mut place) == 0 && (found, place) == (1, last) };
     assert_at("taxolbin_last_set", good);
     last_number(words);
+    last_page(words);
 }
 
 // The greatest number of list text, which has 33 bits: printed, read back, and one more, which is above the limit. The last bit alone is set before
@@ -91,6 +93,20 @@ fn last_number(words: &mut [u64]) {
     text[9] = b'6';
     let good = unsafe { read(w, LIMIT, &mut n, text.as_ptr(), 10, 1000, 45, 1, 2) == 16 && n == LIMIT };
     assert_at("taxolbin_from_list", good && words[LIMIT - 1] == 1 << 63 && words[LIMIT] == 0);
+}
+
+// The register of the last bit alone, and then of every bit, whose size has 33 bits: one run on one page.
+fn last_page(words: &mut [u64]) {
+    let Some((_, Call::WriteRegister(write))) = CALLS.iter().find(|c| c.0 == "taxolbin_write_register") else { panic!("another form") };
+    for (fill, run) in [(0, "  4294967295  4294967295           1"), (!0, "           0  4294967295  4294967296")] {
+        words[..LIMIT - 1].fill(fill);
+        words[LIMIT - 1] |= fill;
+        let (mut text, mut length) = ([b'x'; 3651], 7);
+        let good = unsafe { write(words.as_ptr(), LIMIT, LIMIT, text.as_mut_ptr(), 3651, &mut length) == 0 && length == 3650 };
+        let foot = format!("           1           1{}", &run[24..]);
+        let page = format!("{run:72}\n{}{foot:72}\nx", format!("{:72}\n", "").repeat(48));
+        assert_at("taxolbin_write_register", good && text == *page.as_bytes());
+    }
 }
 
 // What is only read may overlap: a bitmap beside itself.

@@ -1,4 +1,4 @@
-// List text, naively: 01's grammar over slices of bytes, with 02's styles.
+// List text and the register, naively: 01's grammar over slices of bytes, with 02's styles, and 02's pages.
 use crate::case::Style;
 
 fn blank(c: &u8) -> bool {
@@ -59,18 +59,37 @@ pub fn read(text: &[u8], y: &Style) -> Result<Vec<(u64, u64)>, u32> {
     Ok(ranges)
 }
 
-// Maximal runs upward, in an allowed style.
+// Maximal runs upward, each with the place behind it.
+fn runs(s: &[bool]) -> Vec<(usize, usize)> {
+    let starts = (0..s.len()).filter(|&i| s[i] && (i == 0 || !s[i - 1]));
+    starts.map(|i| (i, (i..s.len()).find(|&p| !s[p]).unwrap_or(s.len()))).collect()
+}
+
+// The runs in an allowed style.
 pub fn text(s: &[bool], y: &Style) -> Vec<u8> {
     let printed = |p: usize| (p as u64 + y.first as u64).to_string();
-    let (mut parts, mut i) = (vec![], 0);
-    while i < s.len() {
-        let end = (i..s.len()).find(|&p| !s[p]).unwrap_or(s.len());
+    let mut parts = vec![];
+    for (i, end) in runs(s) {
         if end - i >= y.shortest {
             parts.push(format!("{}{}{}", printed(i), y.joiner as u8 as char, printed(end - 1)));
         } else {
             parts.extend((i..end).map(printed));
         }
-        i = end + 1;
     }
     parts.join(if y.blank != 0 { ", " } else { "," }).into_bytes()
+}
+
+// The runs on pages of 50 lines: 49 runs, or blank lines where there are no more, and the foot. There is a page where no run is.
+pub fn register(s: &[bool]) -> Vec<u8> {
+    let line = |a: usize, b: usize, c: usize| format!("{a:12}{b:12}{c:12}{:36}\n", "");
+    let mut left = runs(s).into_iter();
+    let pages = left.len().div_ceil(49).max(1);
+    let mut text = String::new();
+    for page in 1..=pages {
+        for _ in 0..49 {
+            text += &left.next().map_or_else(|| format!("{:72}\n", ""), |(i, end)| line(i, end - 1, end - i));
+        }
+        text += &line(page, pages, s.iter().filter(|&&v| v).count());
+    }
+    text.into_bytes()
 }

@@ -1,4 +1,4 @@
-// A naive model of document 01's bitmaps and list text, with document 02's styles: sets as lists of truth values, sums in 128 bits, no words but at the edges.
+// A naive model of document 01's bitmaps and list text, with document 02's styles and register: sets as lists of truth values, sums in 128 bits, no words but at the edges.
 use crate::case::{Case, Out};
 use crate::lists;
 
@@ -63,6 +63,14 @@ fn within(r: Result<Vec<u64>, u32>, capacity: usize) -> Done {
         Err(e) => Refused(e),
         Ok(w) if w.len() > capacity => Refused(6),
         Ok(w) => Words(w),
+    }
+}
+
+// A text that fits its buffer, or 6.
+fn put(t: Vec<u8>, c: &Case) -> Done {
+    match t {
+        t if t.len() > c.bytes.len() => Refused(6),
+        t => Text(t),
     }
 }
 
@@ -214,10 +222,8 @@ fn outcome(name: &str, c: &Case, s: &Bits) -> Done {
             let held = |p: u128| rs.iter().any(|r| r.0 as u128 <= p && p <= r.1 as u128);
             within(grown(&vec![], last as u128, capacity).map(|g| words(&tabled(g.len(), held))), capacity)
         }),
-        "write_list" => match lists::text(s, &c.style) {
-            t if t.len() > c.bytes.len() => Refused(6),
-            t => Text(t),
-        },
+        "write_list" => put(lists::text(s, &c.style), c),
+        "write_register" => put(lists::register(s), c),
         _ => panic!("no model of {name}"),
     }
 }
@@ -254,7 +260,8 @@ fn written(store: &mut [u64], old: usize, new: &[u64]) {
 fn reads(name: &str) -> usize {
     match name {
         "first_set" | "last_set" | "next_set" | "select" | "iter_and" | "iter_or" | "iter_xor" | "iter_andnot" => 2,
-        "get" | "get_field" | "first_clear" | "next_clear" | "rank" | "eq" | "is_subset" | "is_disjoint" | "write_list" => 1,
+        "get" | "get_field" | "first_clear" | "next_clear" | "rank" | "eq" | "is_subset" | "is_disjoint" => 1,
+        "write_list" | "write_register" => 1,
         _ if name.starts_with("count_") || name.ends_with("_count") => 1,
         _ => 0,
     }
