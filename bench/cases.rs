@@ -4,8 +4,8 @@ use crate::timing::{changing, random, reading};
 use std::hint::black_box as bb;
 use vbitmap::{BitSlice, Bitmap64};
 
-/// The densities of the walks and of list text: each bit is set with probability 1/2^k.
-const DENSITIES: [(u32, &str); 3] = [(1, "1/2"), (6, "1/64"), (12, "1/4096")];
+/// The densities of the walks and of printed text: each bit is set with probability 1/2^k.
+pub const DENSITIES: [(u32, &str); 3] = [(1, "1/2"), (6, "1/64"), (12, "1/4096")];
 
 /// A bitmap on both sides.
 pub struct Both {

@@ -153,6 +153,12 @@ pub fn write_list(w: &[u64], out: &mut [u8]) -> usize {
     length
 }
 
+pub fn write_register(w: &[u64], out: &mut [u8]) -> usize {
+    let mut length = 0;
+    assert_eq!(unsafe { raw::taxolbin_write_register(w.as_ptr(), w.len(), w.len(), out.as_mut_ptr(), out.len(), &mut length) }, 0);
+    length
+}
+
 pub fn from_list(w: &mut [u64], count: &mut usize, text: &[u8]) {
     assert_eq!(unsafe { raw::taxolbin_from_list(w.as_mut_ptr(), w.len(), count, text.as_ptr(), text.len(), 0, 45, 1, 2) }, 0);
 }

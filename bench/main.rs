@@ -4,6 +4,7 @@ mod ffi;
 #[allow(dead_code)]
 #[path = "../rust/src/ffi.rs"]
 mod raw;
+mod registers;
 #[path = "../oracle/rng.rs"]
 mod rng;
 mod sheets;
@@ -21,5 +22,6 @@ fn main() {
         cases::regions(n);
         cases::lists(n);
     }
+    registers::times();
     sheets::times();
 }

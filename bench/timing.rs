@@ -39,9 +39,8 @@ fn measure(times: u64, f: &mut impl FnMut() -> u64) -> f64 {
     start.elapsed().as_nanos() as f64 / times as f64
 }
 
-/// A call that can be repeated on the same input: both sides answer a number that must be the same.
-pub fn reading(name: &str, n: usize, mut ours: impl FnMut() -> u64, mut theirs: impl FnMut() -> u64) {
-    assert_eq!(ours(), theirs(), "{name}, {n} words");
+/// The least time of each of two calls that can be repeated on the same input.
+pub fn least(mut ours: impl FnMut() -> u64, mut theirs: impl FnMut() -> u64) -> (f64, f64) {
     let (times, rounds) = plan(|| {
         bb(theirs());
     });
@@ -50,6 +49,13 @@ pub fn reading(name: &str, n: usize, mut ours: impl FnMut() -> u64, mut theirs: 
         a = a.min(measure(times, &mut ours));
         b = b.min(measure(times, &mut theirs));
     }
+    (a, b)
+}
+
+/// A call that can be repeated on the same input: both sides answer a number that must be the same.
+pub fn reading(name: &str, n: usize, mut ours: impl FnMut() -> u64, mut theirs: impl FnMut() -> u64) {
+    assert_eq!(ours(), theirs(), "{name}, {n} words");
+    let (a, b) = least(ours, theirs);
     report(name, n, a, b);
 }
 
