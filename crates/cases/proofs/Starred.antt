@@ -32,14 +32,16 @@ use Rattle.storage.specs.declared.Found.{Found}
 use Rattle.storage.specs.declared.Found.the-variants.{Refused}
 use Rattle.storage.specs.declared.Truth.{Truth}
 use Rattle.storage.specs.declared.Truth.the-variants.{Is, Refused}
-use Rattle.print.specs.Texts.{listAnswer, listBuffer}
+use Rattle.print.specs.Texts.{listAnswer, listBuffer, fitted, replaced}
+use Rattle.register.specs.Register.{column, ended, line, pagesFor, footOf, lineOf, linesOf, registerOf}
+use Rattle.register.specs.Register as register
 use Rattle.style.specs.Styles.{plainStyle}
 use Rattle.sheet.specs.Reads.{readAnswer, readStore, readingCount}
 use Rattle.shapes.specs.declared.Split.{Split}
 use Rattle.sheet.specs.declared.Reading.{Reading}
-use Rattle.cases.specs.Cases.{from-list-in, write-list-in}
+use Rattle.cases.specs.Cases.{from-list-in, write-list-in, write-register}
 use Rattle.cases.specs.Cases.{Question, from-list, next-clear, first-clear, get-field, select, eq, rotate-right, xori, split-off, read, zeros, whole, changed, found, counted, fielded}
-use Rattle.cases.specs.Cases.{tested, parted, sheeted, listed, Comes, Sample, sample, Hold, starred, StarredHold, styled, StyledHold, faulted, FaultedHold}
+use Rattle.cases.specs.Cases.{tested, parted, sheeted, listed, Comes, Sample, sample, Hold, starred, StarredHold, styled, StyledHold, faulted, FaultedHold, registered, RegisteredHold}
 
 -- a reading's answer, and its result printed
 printing : Reading → List ℕ → List ℕ
@@ -56,6 +58,7 @@ outOf : Question → List ℕ
 outOf (from-list bytes c) = changedBy (outcome (read.readingList plainStyle bytes) (zeros c) noWords) noWords (zeros c)
 outOf (from-list-in y bytes c) = changedBy (outcome (read.readingList y bytes) (zeros c) noWords) noWords (zeros c)
 outOf (write-list-in y ws n) = listed (reading ws (whole ws) Amount.Refused (listAnswer y (zeros n))) (reading ws (whole ws) (λ e. zeros n) (listBuffer y (zeros n)))
+outOf (write-register ws n) = listed (reading ws (whole ws) Amount.Refused (λ s. fitted (registerOf s) (zeros n))) (reading ws (whole ws) (λ e. zeros n) (λ s. replaced (registerOf s) (zeros n)))
 outOf (next-clear ws i) = counted (reading ws (whole ws) Amount.Refused (λ s. Amount.Is (nextClear s i)))
 outOf (first-clear ws) = counted (reading ws (whole ws) Amount.Refused (λ s. Amount.Is (nextClear s 0)))
 outOf (get-field ws i width) = fielded (reading ws (whole ws) Field.Refused (fieldAt i width))
@@ -74,6 +77,7 @@ unfolding printing changedBy outOf
 comes (from-list bytes c) = λ r ws h. ap₂ changed (h .answers) (h .leaves)
 comes (from-list-in y bytes c) = λ r ws h. ap₂ changed (h .answers) (h .leaves)
 comes (write-list-in y ws n) = λ r bytes h. ap₂ listed (h .answers) (h .leaves)
+comes (write-register ws n) = λ r bytes h. ap₂ listed (h .answers) (h .leaves)
 comes (next-clear ws i) = λ r h. ap counted h
 comes (first-clear ws) = λ r h. ap counted h
 comes (get-field ws i width) = λ r h. ap fielded h
@@ -126,3 +130,10 @@ faults-computed = refl
 
 pub faulted-hold : FaultedHold
 faulted-hold = subst Hold faults-computed (each faulted)
+
+registers-computed : again registered ≡ registered
+unfolding countBelow bit member checked view reading size runsFrom decimalFrom column ended line register.rowOf pagesFor footOf lineOf linesOf outOf again
+registers-computed = refl
+
+pub registered-hold : RegisteredHold
+registered-hold = subst Hold registers-computed (each registered)

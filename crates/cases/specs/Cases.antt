@@ -1,10 +1,10 @@
 -- The starred cases of 01, "Small books to try", the sentences behind them, and cases of the requests of 02: tables of what is asked and what must come out.
 -- proofs/Starred: every row holds.
-use Prim.Native.Nat.{ℕ, zero, suc}
+use Prim.Native.Nat.{ℕ, zero, suc, _+_, _/_, _%_}
 use mathlib.Core.Path.{_≡_}
 use mathlib.Core.Bool.{Bool, true, false}
 use mathlib.Core.List.{List, [], _∷_, _++_}
-use lib.ListN.{length, take}
+use lib.ListN.{length, take, replicate}
 use Rattle.storage.specs.Refusals.{changeNumber, changeRecord, foundNumber, foundFlag, foundValue, amountNumber, amountValue, fieldNumber, fieldValue, truthNumber, truthValue}
 use Rattle.storage.specs.Stores.{noWords, reading, readingBoth, Changes, bitmapOf}
 use Rattle.storage.specs.declared.Bitmap.{Bitmap}
@@ -24,6 +24,7 @@ use Rattle.style.specs.Styles.{plainStyle}
 use Rattle.style.specs.declared.Style.{Style}
 use Rattle.text.specs.Readings.{readingList}
 use Rattle.print.specs.Texts.{Prints}
+use Rattle.register.specs.Register.{Registers}
 use Rattle.sheet.specs.Reads.{readingNumber, readingRecord, readingCount, Reads}
 use Rattle.sheet.specs.declared.Reading.{Reading}
 
@@ -41,6 +42,8 @@ pub data Question : Type 0 where
   -- in a style: first number, joiner, whether there is a blank, shortest run; into an empty bitmap, and from all words of a store
   from-list-in : Style → (text : List ℕ) (capacity : ℕ) → Question
   write-list-in : Style → (words : List ℕ) (size : ℕ) → Question
+  -- from all words of a store
+  write-register : (words : List ℕ) (size : ℕ) → Question
   -- from an empty bitmap
   read : (edition : ℕ) (sheet : List ℕ) (capacity : ℕ) → Question
 
@@ -86,6 +89,7 @@ abbrev pub Comes : Question → List ℕ → Type 0
 Comes (from-list text c) out = (r : Change) (ws : List ℕ) → Changes (readingList plainStyle text) (zeros c) noWords r ws → changed r ws ≡ out
 Comes (from-list-in y text c) out = (r : Change) (ws : List ℕ) → Changes (readingList y text) (zeros c) noWords r ws → changed r ws ≡ out
 Comes (write-list-in y ws n) out = (r : Amount) (bytes : List ℕ) → Prints y ws (whole ws) (zeros n) r bytes → listed r bytes ≡ out
+Comes (write-register ws n) out = (r : Amount) (bytes : List ℕ) → Registers ws (whole ws) (zeros n) r bytes → listed r bytes ≡ out
 Comes (next-clear ws i) out = (r : Amount) → r ≡ reading ws (whole ws) Amount.Refused (λ s. Amount.Is (nextClear s i)) → counted r ≡ out
 Comes (first-clear ws) out = (r : Amount) → r ≡ reading ws (whole ws) Amount.Refused (λ s. Amount.Is (nextClear s 0)) → counted r ≡ out
 Comes (get-field ws i width) out = (r : Field) → r ≡ reading ws (whole ws) Field.Refused (fieldAt i width) → fielded r ≡ out
@@ -241,6 +245,61 @@ faulted =
     ∷ refusing (52 ∷ 50 ∷ 57 ∷ 52 ∷ 57 ∷ 54 ∷ 55 ∷ 50 ∷ 57 ∷ 53 ∷ 44 ∷ over) 16
     ∷ []
 
+-- ---- T-03
+
+-- n blanks
+abbrev pub blanks : ℕ → List ℕ
+blanks n = replicate n 32
+
+-- n blank lines
+abbrev pub unused : ℕ → List ℕ
+unused zero = []
+unused (suc n) = blanks 72 ++ 10 ∷ unused n
+
+-- a line of three digits, each the last byte of its twelve
+abbrev pub three : ℕ → ℕ → ℕ → List ℕ
+three a b c = blanks 11 ++ a ∷ (blanks 11 ++ b ∷ (blanks 11 ++ c ∷ (blanks 36 ++ 10 ∷ [])))
+
+-- a foot: two digits, and a number of two
+abbrev pub foot : ℕ → ℕ → ℕ → ℕ → List ℕ
+foot a b c d = blanks 11 ++ a ∷ (blanks 11 ++ b ∷ (blanks 10 ++ c ∷ d ∷ (blanks 36 ++ 10 ∷ [])))
+
+-- the lines of n bits that stand alone, the first is k, from 10 to 99, and each is two above the last
+abbrev pub lone : ℕ → ℕ → List ℕ
+lone zero k = []
+lone (suc n) k =
+    let d = 48 + k / 10 in
+    let e = 48 + k % 10 in
+    blanks 10 ++ d ∷ e ∷ (blanks 10 ++ d ∷ e ∷ (blanks 11 ++ 49 ∷ (blanks 36 ++ 10 ∷ lone n (k + 2))))
+
+-- those of the 49 even numbers from 0 to 96
+abbrev pub evens : List ℕ
+evens = three 48 48 49 ++ (three 50 50 49 ++ (three 52 52 49 ++ (three 54 54 49 ++ (three 56 56 49 ++ lone 44 10))))
+
+abbrev pub registered : List Sample
+registered =
+    -- no bit: 49 blank lines, and 1, 1, 0
+    sample (write-register (0 ∷ []) 3650) (0 ∷ 3650 ∷ (unused 49 ++ three 49 49 48))
+    -- no word, and a byte past the text, which stays
+    ∷ sample (write-register [] 3651) (0 ∷ 3650 ∷ (unused 49 ++ (three 49 49 48 ++ 0 ∷ [])))
+    -- {7} is 7, 7, 1
+    ∷ sample (write-register (0x80 ∷ []) 3650) (0 ∷ 3650 ∷ (three 55 55 49 ++ (unused 48 ++ three 49 49 49)))
+    -- a byte short: 6, and no byte is touched
+    ∷ sample (write-register (0x80 ∷ []) 3649) (6 ∷ 0 ∷ zeros 3649)
+    -- {1, 2, 3, 5}, with a zero word last: a run is one line
+    ∷ sample (write-register (0x2e ∷ 0 ∷ []) 3650) (0 ∷ 3650 ∷ (three 49 51 51 ++ (three 53 53 49 ++ (unused 47 ++ three 49 49 52))))
+    -- {63, 64}: a word's edge cuts no run
+    ∷ sample (write-register (0x8000_0000_0000_0000 ∷ 1 ∷ []) 3650)
+    (0 ∷ 3650 ∷ (blanks 10 ++ 54 ∷ 51 ∷ (blanks 10 ++ 54 ∷ 52 ∷ (blanks 11 ++ 50 ∷ (blanks 36 ++ 10 ∷ (unused 48 ++ three 49 49 50))))))
+    -- 49 runs: one page, and no blank line
+    ∷ sample (write-register (0x5555_5555_5555_5555 ∷ 0x1_5555_5555 ∷ []) 3650) (0 ∷ 3650 ∷ (evens ++ foot 49 49 52 57))
+    -- 50 runs: two pages, and both feet count all
+    ∷ sample (write-register (0x5555_5555_5555_5555 ∷ 0x5_5555_5555 ∷ []) 7300)
+    (0 ∷ 7300 ∷ (evens ++ (foot 49 50 53 48 ++ (lone 1 98 ++ (unused 48 ++ foot 50 50 53 48)))))
+    -- which have no space on one
+    ∷ sample (write-register (0x5555_5555_5555_5555 ∷ 0x5_5555_5555 ∷ []) 3650) (6 ∷ 0 ∷ zeros 3650)
+    ∷ []
+
 -- every row comes out as it says
 abbrev pub Hold : List Sample → Type 0
 Hold [] = Unit {0}
@@ -254,3 +313,6 @@ StyledHold = Hold styled
 
 abbrev pub FaultedHold : Type 0
 FaultedHold = Hold faulted
+
+abbrev pub RegisteredHold : Type 0
+RegisteredHold = Hold registered
