@@ -133,7 +133,7 @@ package_tidy() {
 # listed PROGRAM FOLDER: the program answers a list of another seed as the model in the folder of oracle/ does
 listed() {
     rt check "$1" && python3 "oracle/$2/make.py" 2 3 > "$out/$1.list" && "target/bin/$1" < "$out/$1.list" > "$out/$1" &&
-        tail -1 "$out/$1" | grep "^total: [1-9][0-9]* cases, 0 mismatches"
+        tail -1 "$out/$1" | grep ": [1-9][0-9]* cases, 0 mismatches"
 }
 
 replay() {
@@ -166,6 +166,7 @@ try format python3 tests/format.py "$prefix/lib/libtaxolbin.so"
 try readme python3 tests/readme.py "$reader"
 try sheets listed sheets sheet
 try styles listed styles style
+try registers listed registers register
 if [ -n "$src" ]; then
     try replay replay
     try boundary boundary/run.sh "$src"
