@@ -114,6 +114,7 @@ def page():
     replayed = (CRATES / "replay/stdout").read_text().splitlines()
     sheets = (CRATES / "sheets/stdout").read_text().splitlines()
     styles = (CRATES / "styles/stdout").read_text().splitlines()
+    registers = (CRATES / "registers/stdout").read_text().splitlines()
     rows = re.findall(r"^\s*(?:∷ )?(?:sample|refusing) \(", (CRATES / "cases/specs/Cases.antt").read_text(), re.M)
     bent = sum(1 for p in CRATES.glob("*/must-fail/def_*.edit"))
     way = list(short_way())
@@ -129,6 +130,7 @@ def page():
             ["calls that `replay` compares, and its cases with the rules of 01", f"{sum('::' in line for line in replayed)}, {number(int(replayed[-1].split()[1]))}"],
             ["readings and writer calls that `sheets` compares", number(cases(sheets))],
             ["texts and sets in house styles that `styles` compares", number(cases(styles))],
+            ["registers that `registers` compares", number(cases(registers))],
             ["rows of starred cases and of a request's (cases/specs/Cases)", len(rows)],
             ["must-fail edits, of them of definitions", f"{sums['edits']}, {bent}"],
             ["lines of READING's short way", number(sum(n for _, _, n in way))],

@@ -22,7 +22,7 @@
  * What the caller must see to, because no call can look: a pointer is aligned and not null, also with a length of 0; the memory of the whole length
  * is there; and what a call writes (a store, a buffer, a count, a value) overlaps nothing else that the call is given. What is only read may overlap.
  *
- * For C99 and C++11 on. FORMAT.md has the change sheet byte by byte and the list text.
+ * For C99 and C++11 on. FORMAT.md has the change sheet byte by byte, the list text and the printed register.
  */
 #ifndef TAXOLBIN_H
 #define TAXOLBIN_H

@@ -1,5 +1,5 @@
-"""What docs/FORMAT.md says, asked of the library: the sheet byte by byte, each kind's fields, the lists and their styles, and that the definitions it
-names are there: format.py SHARED"""
+"""What docs/FORMAT.md says, asked of the library: the sheet byte by byte, each kind's fields, the lists and their styles, the register, and that the
+definitions it names are there: format.py SHARED"""
 import ctypes
 import re
 import sys
@@ -121,6 +121,24 @@ def styles(lib):
             same(f"printing in {style}", lib.write_list(words, 32, count, text, 64, length, *style), number)
 
 
+def register(lib):
+    """Each line by the table of its parts; the cases, by the lines that are not blank."""
+    places = [(int(low), int(high) + 1) for low, high, _ in table("| from | to | what")]
+    same("bytes of a line", (places[0][0], places[-1][1], [a[1] == b[0] for a, b in zip(places, places[1:])]), (0, 73, [True] * 4))
+    for notes, pages, *expected in table("| notes | pages"):
+        words, text, length = (ctypes.c_uint64 * 2)(), ctypes.create_string_buffer(3651), size()
+        for note in map(int, notes.split()):
+            words[note // 64] |= 1 << note % 64
+        same(f"number of {notes}", lib.write_register(words, 2, 2, text, 3651, length), 0)
+        same(f"pages of {notes}", (length.value, text.raw[3650]), (3650 * int(pages), 0))
+        lines = [text.raw[at : at + 73].decode() for at in range(0, 3650, 73)]
+        got = [f"`{line.rstrip()}`" if line.strip() else "" for line in (lines[0], lines[1], lines[49])]
+        same(f"lines of {notes}", got, expected)
+        for line in lines:
+            *numbers, blanks, end = [line[low:high] for low, high in places]
+            same(f"parts of {line!r}", (blanks, end, [part for part in numbers if part.lstrip() != part.strip()]), (" " * 36, "\n", []))
+
+
 def definitions():
     cited = re.findall(r"((?:`[\w-]+`(?:, )?)+): (\w+/(?:specs|proofs)/\w+)", PAGE)
     same("there are citations", len(cited) > 10, True)
@@ -136,5 +154,6 @@ worked_sheet(library)
 kinds(library)
 lists(library)
 styles(library)
+register(library)
 definitions()
 sys.exit("\n".join(wrong) or 0)

@@ -36,4 +36,4 @@ commands = commands.replace("$HOME/taxolbin", f"{FOLDER}/prefix")
 run = subprocess.run(["sh", "-ec", commands], stdout=subprocess.PIPE, text=True, check=False, env={**os.environ, "PKG_CONFIG_PATH": ""})
 got = [line for line in run.stdout.splitlines() if not line.startswith("installed ")]
 print("\n".join(got))
-sys.exit(0 if run.returncode == 0 and got == expected and len(expected) == 10 else f"ended with {run.returncode}; README says: {expected}")
+sys.exit(0 if run.returncode == 0 and got == expected and len(expected) == 14 else f"ended with {run.returncode}; README says: {expected}")
