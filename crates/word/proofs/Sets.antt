@@ -44,6 +44,11 @@ unfolding countBelow
 count-none s zero h = refl
 count-none s (suc m) h = ap₂ (λ (b : Bool) (x : ℕ). val b + x) (h m (omega arith)) (count-none s m (λ i l. h i (omega arith)))
 
+pub count-ones : (s : ℕ → Bool) (m : ℕ) → ((i : ℕ) → i < m → s i ≡ true) → countBelow s m ≡ m
+unfolding countBelow
+count-ones s zero h = refl
+count-ones s (suc m) h = ap₂ (λ (b : Bool) (x : ℕ). val b + x) (h m (omega arith)) (count-ones s m (λ i l. h i (omega arith))) ∙ omega arith
+
 -- a set with no member from a on has no more below e
 pub count-flat : (s : ℕ → Bool) (a e : ℕ) → a ≤ e → ((i : ℕ) → a ≤ i → s i ≡ false) → countBelow s e ≡ countBelow s a
 count-flat s a e h z =
