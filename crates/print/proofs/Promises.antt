@@ -37,7 +37,7 @@ use Rattle.text.specs.Readings.{readingList}
 use Rattle.print.specs.Texts.{runs, noRun, runFrom, decimal, decimalAt, pieces, text, textOf, fitted, replaced, listAnswer, listBuffer, Prints}
 use Rattle.print.specs.Forms.{Runs, none, more, PrintedRuns, IsText}
 use Rattle.print.specs.declared.Run.{Run}
-use Rattle.print.specs.Promises.{PrintsShortest, IsNext, RunFromMeans, FiguresPut, PutDecimalMeans, PrintsRuns, PrintsOne, NotPrinted, TextPut, PutOrShort, PrintsText, WriteListMeans, RefusesStyle, TextMeans, ReadsBack}
+use Rattle.print.specs.Promises.{PrintsShortest, IsNext, RunFromMeans, DecimalLenMeans, FiguresPut, PutDecimalMeans, PrintsRuns, PrintsOne, NotPrinted, TextPut, PutOrShort, PrintsText, WriteListMeans, RefusesStyle, TextMeans, ReadsBack}
 use Rattle.print.proofs.Decimals.{decimal-digits, digits-most}
 use Rattle.print.proofs.Printed.{decimal-figures, runs-printed, printed-only}
 use Rattle.print.proofs.Fitting.{not-put, text-put, put-or-short, guarded-print}
@@ -63,6 +63,9 @@ shortest n = record { means = decimal-digits n; least = λ u d. go (length u) (d
     go (suc k) h = digits-most k n (h .1)
 
 -- ---- a number by itself
+
+pub decimal-len-means : DecimalLenMeans
+decimal-len-means x r e = (decimal x, decimal-figures x, e)
 
 pub put-decimal-means : PutDecimalMeans
 unfolding decimalAt

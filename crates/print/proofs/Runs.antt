@@ -212,7 +212,7 @@ module _ (b : Bits) (h : Bounded b) (i : ℕ) (l : i ≤ 64 * b .count) where
   unfolding runFrom
   run-next = next-first (b .members) e i rest (h .past) l left
 
-  pub run-is : (r : Run) → NextRun (b .members) e i r → r ≡ runFrom b i
+  run-is : (r : Run) → NextRun (b .members) e i r → r ≡ runFrom b i
   unfolding runFrom
   run-is r n =
       by-lt (r .low) (r .end)

@@ -6,7 +6,7 @@ use mathlib.Core.List.{List, []}
 use mathlib.Core.Logic.{_↔_, _⊎_}
 use lib.ListN.{length, take, drop}
 use Rattle.storage.specs.Refusals.{numberOf, amountNumber, amountValue, changeNumber, changeRecord}
-use Rattle.storage.specs.Stores.{Bits, Bounded, refused, Space, view, held, reading, Changes}
+use Rattle.storage.specs.Stores.{Bits, Bounded, refused, Space, view, held, Changes}
 use Rattle.storage.specs.Guards.{mostWords, Passed}
 use Rattle.storage.specs.Promises.{Guarded, LeastCount, HandsNone}
 use Rattle.storage.specs.declared.Bitmap.{Bitmap}
@@ -23,7 +23,7 @@ use Rattle.text.specs.Readings.{readingList}
 use Rattle.text.specs.Promises.{Within, PlainReads}
 use Rattle.print.specs.Forms.{Runs, Figures, IsText}
 use Rattle.print.specs.Plain as base
-use Rattle.print.specs.Texts.{runs, noRun, runFrom, decimal, PutsDecimal, textOf, Prints}
+use Rattle.print.specs.Texts.{runs, AnswersRun, decimal, decimalLen, PutsDecimal, textOf, Prints}
 use Rattle.print.specs.declared.Run.{Run}
 
 -- t means the number n, with the fewest digits
@@ -41,7 +41,12 @@ pub record RunsOf (b : Bits) : Type 0 where
   pub cover : (i : ℕ) → Within (runs b) i ↔ (b .members i ≡ true)
   pub only : (rs : List Range) → Runs (b .members) 0 rs → rs ≡ runs b
 
--- the numbers from low on, below end, are the next run from i on, and no longer one; none is left exactly where they are none, at the length
+-- what is printed
+abbrev pub PrintsRuns : Type 0
+PrintsRuns = (b : Bits) → Bounded b → RunsOf b
+
+-- the numbers from low on, below end, are the next run from i on, and no longer one; where there are none of them, they stand at the length, and no member
+-- is left from i on
 pub record IsNext (b : Bits) (i low end : ℕ) : Type 0 where
   pub order : low ≤ end
   pub some : low < end
@@ -51,8 +56,12 @@ pub record IsNext (b : Bits) (i low end : ℕ) : Type 0 where
 -- `run_from`, from its contract: none at 0 where 1 or 2 applies
 abbrev pub RunFromMeans : Type 0
 RunFromMeans =
-    (ws : List ℕ) (b : Bitmap) (i : ℕ) (r : Run) → r ≡ reading ws b (λ e. noRun) (λ s. runFrom s i)
+    (ws : List ℕ) (b : Bitmap) (i : ℕ) (r : Run) → AnswersRun ws b i r
     → Guarded ws b (λ k. (r .low ≡ 0) × (r .end ≡ 0)) (IsNext (held ws b) i (r .low) (r .end))
+
+-- `decimal_len`, from its contract: as many as the figures of x, whatever x is
+abbrev pub DecimalLenMeans : Type 0
+DecimalLenMeans = (x r : ℕ) → r ≡ decimalLen x → (t : List ℕ) × Figures t x × (r ≡ length t)
 
 -- the figures t stand at a place, and every other byte is as it was
 pub record FiguresPut (t : List ℕ) (at r : ℕ) (out out' : List ℕ) : Type 0 where
@@ -67,10 +76,6 @@ PutDecimalMeans =
     (at x r : ℕ) (out out' : List ℕ) → PutsDecimal at x r out out'
     → (t : List ℕ) × Figures t x
     × (((at + length t ≤ length out) × FiguresPut t at r out out') ⊎ ((length out < at + length t) × (r ≡ at) × (out' ≡ out)))
-
--- what is printed
-abbrev pub PrintsRuns : Type 0
-PrintsRuns = (b : Bits) → Bounded b → RunsOf b
 
 -- the text of a bitmap is of that form, and no other text is
 abbrev pub PrintsOne : Type 0

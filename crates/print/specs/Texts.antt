@@ -1,4 +1,4 @@
--- `write_list`: the text of a set in a style, from its maximal runs upward.
+-- `write_list`: the text of a set in a style, from its maximal runs upward; and what other prints share with it, the next run and a number's digits.
 use Prim.Native.Nat.{ℕ, zero, suc, _+_, _-_, _*_, _/_, _%_}
 use mathlib.Core.Path.{_≡_}
 use mathlib.Core.Bool.{Bool, true, false}
@@ -50,8 +50,13 @@ firstRun e (r ∷ rs) = record { low = r .low; end = r .high + 1 }
 unfoldable pub runFrom : Bits → ℕ → Run
 runFrom b i = firstRun (64 * b .count) (runsFrom (b .members) Nowhere (64 * b .count - i) i)
 
+-- what is answered where 1 or 2 applies
 abbrev pub noRun : Run
 noRun = record { low = 0; end = 0 }
+
+-- `run_from` of the bitmap b in ws, from i on, answers r
+abbrev pub AnswersRun : List ℕ → Bitmap → ℕ → Run → Type 0
+AnswersRun ws b i r = r ≡ reading ws b (λ e. noRun) (λ s. runFrom s i)
 
 -- the digits of n, the first not 0; f bounds their number
 unfoldable pub decimalFrom : ℕ → ℕ → List ℕ
@@ -62,6 +67,10 @@ decimalFrom (suc f) n =
 
 abbrev pub decimal : ℕ → List ℕ
 decimal n = decimalFrom n n
+
+-- how many digits n has
+abbrev pub decimalLen : ℕ → ℕ
+decimalLen n = length (decimal n)
 
 -- a buffer with the digits of x at a place
 unfoldable pub decimalAt : ℕ → ℕ → List ℕ → List ℕ

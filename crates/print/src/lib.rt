@@ -13,11 +13,11 @@ ghost use Prim.Native.Nat.{_+_, _-_, _*_, _≤_, _<_};
 ghost use lib.Dec.{leb};
 ghost use mathlib.Core.List.{_++_};
 ghost use lib.ListN.{length};
-ghost use Rattle.storage.specs.Stores.{held, reading};
+ghost use Rattle.storage.specs.Stores.{held};
 ghost use Rattle.storage.specs.Guards.{Passed};
 ghost use Rattle.text.specs.Lists.{listLimit, range};
 ghost use Rattle.style.specs.Promises.{Allowed};
-ghost use Rattle.print.specs.Texts.{decimal, noRun, runFrom, PutsDecimal, cut, printed, textOf, Prints};
+ghost use Rattle.print.specs.Texts.{AnswersRun, decimal, decimalLen, PutsDecimal, cut, printed, textOf, Prints};
 ghost use Rattle.print.specs.Kernels.{NextRun, Printable, rangeOf, separator, piecesAt, putAt, Puts};
 
 const SPACE: u8 = 32;
@@ -56,9 +56,10 @@ fn next_run(words: &[u64], b: Bitmap, i: usize) -> Run
     }
 }
 
-// The next run from i on; an empty one at the length where there is none, and at 0 where 1 or 2 applies. {3, 7, 8}: from 4 on it is 7 to 8.
+// The next run from i on; one that began before i is taken from i on. Where there is none, an empty one at the length; where 1 or 2 applies, at 0.
+// {3, 7, 8}: from 4 on it is 7 to 8, from 8 on 8 alone.
 pub fn run_from(words: &[u64], b: Bitmap, i: usize) -> Run
-    ensures { λ r. ⌜ r ≡ reading (now (words .entry)) b (λ e. noRun) (λ s. runFrom s i) ⌝ }
+    ensures { λ r. ⌜ AnswersRun (now (words .entry)) b i r ⌝ }
 {
     match storage::check(words, b) {
         Guard::Stop(_) => return Run { low: 0, end: 0 },
@@ -96,7 +97,7 @@ fn digits(x: usize) -> usize
 
 // How many digits any number has: 1 for 9, 2 for 10.
 pub fn decimal_len(x: usize) -> usize
-    ensures { λ r. ⌜ r ≡ length (decimal x) ⌝ }
+    ensures { λ r. ⌜ r ≡ decimalLen x ⌝ }
 {
     if x < 10_000_000_000 {
         return digits(x);
