@@ -10,8 +10,8 @@ use Rattle.storage.specs.declared.Amount.{Amount}
 use Rattle.storage.specs.declared.Amount.the-variants.{Refused}
 use Rattle.shapes.specs.Shapes.{headOutcome, tailOutcome, splitAnswer}
 use Rattle.style.specs.declared.Style.{Style}
-use Rattle.print.specs.Texts.{listAnswer, listBuffer, fitted, replaced}
-use Rattle.register.specs.Register.{registerOf}
+use Rattle.print.specs.Texts.{listAnswer, listBuffer}
+use Rattle.register.specs.Register.{registerAnswer, registerBuffer}
 use Rattle.sheet.specs.Reads.{course, readAnswer, readStore}
 use Rattle.plain.specs.Writer.{Left}
 use Rattle.answers.specs.Answers.{ChangeOut, SplitOut, AmountOut, ReadingOut, AddedOut}
@@ -42,8 +42,8 @@ pub record Printed (y : Style) (ws : List ℕ) (n : ℕ) (bs : List ℕ) (r : �
 
 -- `write_register` of the first n words of ws into the buffer bs: the text's length goes out
 pub record Registered (ws : List ℕ) (n : ℕ) (bs : List ℕ) (r : ℕ) (bs' : List ℕ) (v : ℕ) : Type 0 where
-  pub out : AmountOut (reading ws (bitmapOf n) Amount.Refused (λ s. fitted (registerOf s) bs)) r v
-  pub leaves : bs' ≡ reading ws (bitmapOf n) (λ e. bs) (λ s. replaced (registerOf s) bs)
+  pub out : AmountOut (reading ws (bitmapOf n) Amount.Refused (registerAnswer bs)) r v
+  pub leaves : bs' ≡ reading ws (bitmapOf n) (λ e. bs) (registerBuffer bs)
 
 -- a reading in edition e of a sheet, from the first n words of ws, into the store res: record and count go out
 pub record Read (e : ℕ) (sheet ws : List ℕ) (n : ℕ) (res : List ℕ) (r : ℕ) (res' : List ℕ) (k m : ℕ) : Type 0 where

@@ -32,8 +32,8 @@ use Rattle.storage.specs.declared.Found.{Found}
 use Rattle.storage.specs.declared.Found.the-variants.{Refused}
 use Rattle.storage.specs.declared.Truth.{Truth}
 use Rattle.storage.specs.declared.Truth.the-variants.{Is, Refused}
-use Rattle.print.specs.Texts.{listAnswer, listBuffer, fitted, replaced}
-use Rattle.register.specs.Register.{column, ended, line, pagesFor, footOf, lineOf, linesOf, registerOf}
+use Rattle.print.specs.Texts.{listAnswer, listBuffer}
+use Rattle.register.specs.Register.{column, ended, line, pagesFor, footOf, lineOf, linesOf, registerAnswer, registerBuffer}
 use Rattle.register.specs.Register as register
 use Rattle.style.specs.Styles.{plainStyle}
 use Rattle.sheet.specs.Reads.{readAnswer, readStore, readingCount}
@@ -58,7 +58,7 @@ outOf : Question → List ℕ
 outOf (from-list bytes c) = changedBy (outcome (read.readingList plainStyle bytes) (zeros c) noWords) noWords (zeros c)
 outOf (from-list-in y bytes c) = changedBy (outcome (read.readingList y bytes) (zeros c) noWords) noWords (zeros c)
 outOf (write-list-in y ws n) = listed (reading ws (whole ws) Amount.Refused (listAnswer y (zeros n))) (reading ws (whole ws) (λ e. zeros n) (listBuffer y (zeros n)))
-outOf (write-register ws n) = listed (reading ws (whole ws) Amount.Refused (λ s. fitted (registerOf s) (zeros n))) (reading ws (whole ws) (λ e. zeros n) (λ s. replaced (registerOf s) (zeros n)))
+outOf (write-register ws n) = listed (reading ws (whole ws) Amount.Refused (registerAnswer (zeros n))) (reading ws (whole ws) (λ e. zeros n) (registerBuffer (zeros n)))
 outOf (next-clear ws i) = counted (reading ws (whole ws) Amount.Refused (λ s. Amount.Is (nextClear s i)))
 outOf (first-clear ws) = counted (reading ws (whole ws) Amount.Refused (λ s. Amount.Is (nextClear s 0)))
 outOf (get-field ws i width) = fielded (reading ws (whole ws) Field.Refused (fieldAt i width))

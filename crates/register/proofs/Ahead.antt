@@ -22,14 +22,14 @@ pub data Below (e : ℕ) : List Range → Type 0 where
   cons : {r : Range} {rs : List Range} → r .low ≤ r .high → r .high < e → Below e rs → Below e (r ∷ rs)
 
 module _ (s : ℕ → Bool) (e : ℕ) (past : (j : ℕ) → e ≤ j → s j ≡ false) where
-  high-below : (i : ℕ) → s i ≡ true → i < e
+  pub high-below : (i : ℕ) → s i ≡ true → i < e
   high-below i m = by-lt i e (λ h. h) (λ h. absurd (false≢true (sym (past i h) ∙ m)))
 
-  pub runs-below : (i : ℕ) (rs : List Range) → Runs s i rs → Below e rs
+  runs-below : (i : ℕ) (rs : List Range) → Runs s i rs → Below e rs
   runs-below i [] x = nil
   runs-below i (r ∷ rs) (more a b f m z x) = cons b (high-below (r .high) (m (r .high) b (omega arith))) (runs-below (r .high + 1) rs x)
 
-  pub runs-few : (i : ℕ) (rs : List Range) → i ≤ e → Runs s i rs → length rs + i ≤ e
+  runs-few : (i : ℕ) (rs : List Range) → i ≤ e → Runs s i rs → length rs + i ≤ e
   runs-few i [] h x = omega arith
   runs-few i (r ∷ rs) h (more a b f m z x) =
       omega (arith, a, b, runs-few (r .high + 1) rs (omega (arith, high-below (r .high) (m (r .high) b (omega arith)))) x)

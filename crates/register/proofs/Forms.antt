@@ -3,7 +3,7 @@ use mathlib.Core.Path.{_≡_, refl, sym, ap, ap₂, _∙_}
 use mathlib.Core.List.{List, [], _∷_, _++_, append-assoc}
 use Prim.Native.Nat.{ℕ, zero, suc, _+_, _-_, _*_, _≤_}
 use native.Mathlib.Omega.{arith}
-use lib.ListN.{length, getD, take, drop, replicate, length-append}
+use lib.ListN.{length, getD, take, drop, replicate, length-append, length-replicate}
 use lib.Seq.{take-at, drop-at, getD-at}
 use Rattle.text.specs.Lists.{space}
 use Rattle.print.specs.Texts.{decimal}
@@ -74,12 +74,8 @@ shown-figures (figures {t = t} {v = v} {d = d} p h x) = shown-last 0 t (48 + d) 
 shown-column : {t : List ℕ} {n : ℕ} → Column t n → shown 0 t ≡ n
 shown-column (aligned {t = t} b f e) = shown-blanks b t ∙ shown-figures f
 
-length-blanks : {n : ℕ} {t : List ℕ} → Blanks n t → length t ≡ n
-length-blanks none = refl
-length-blanks (blank x) = ap suc (length-blanks x)
-
 column-long : {t : List ℕ} {n : ℕ} → Column t n → length t ≡ 12
-column-long (aligned {u = u} {t = t} b f e) = length-append u t ∙ omega (arith, length-blanks b)
+column-long (aligned {u = u} {t = t} {k = k} b f e) = length-append u t ∙ omega (arith, ap length (blanks-only b), length-replicate k space)
 
 -- the numbers in the three columns
 row-first : {t : List ℕ} {a b c : ℕ} → Row t a b c → shown 0 (take 12 t) ≡ a

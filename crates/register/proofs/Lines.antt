@@ -17,7 +17,7 @@ use Rattle.register.specs.Kernels.{Narrow}
 pub narrow-digits : (x : ℕ) → Narrow x → length (decimal x) ≤ 10
 narrow-digits x h = digits-most 9 x (omega arith)
 
-pub length-column : (x : ℕ) → Narrow x → length (column x) ≡ 12
+length-column : (x : ℕ) → Narrow x → length (column x) ≡ 12
 unfolding column
 length-column x h = simp (length-append, length-replicate) (omega (arith, narrow-digits x h))
 
@@ -78,9 +78,6 @@ module _ (at n : ℕ) (out : List ℕ) (room : at + n ≤ length out) where
 
 -- ---- a column, a line's end, a line
 
-pub column-left : (x : ℕ) → Narrow x → (d : ℕ) → d ≡ length (decimal x) → d ≤ 12
-column-left x small d e = omega (arith, narrow-digits x small)
-
 module _ (at x : ℕ) (out : List ℕ) (small : Narrow x) (room : at + 12 ≤ length out) (d : ℕ) (e : d ≡ length (decimal x)) where
   pub column-puts : (p r : ℕ) (out' out'' : List ℕ) → Puts at (replicate (12 - d) space) p out out' → PutsDecimal p x r out' out'' → Puts at (column x) r out out''
   unfolding column
@@ -88,8 +85,8 @@ module _ (at x : ℕ) (out : List ℕ) (small : Narrow x) (room : at + 12 ≤ le
       let n : length (replicate (12 - d) space) ≡ 12 - d = length-replicate (12 - d) space in
       let m : length out' ≡ length out = puts-long at p (replicate (12 - d) space) out out' (omega (arith, n)) b in
       puts-is at r (replicate (12 - d) space ++ decimal x) (column x) out out'' (ap (λ (k : ℕ). replicate (12 - k) space ++ decimal x) e)
-      (puts-then at p r (replicate (12 - d) space) (decimal x) out out' out'' (omega (arith, n, column-left x small d e)) b
-      (decimal-puts p x out' (omega (arith, m, n, b .next, column-left x small d e)) r out'' q))
+      (puts-then at p r (replicate (12 - d) space) (decimal x) out out' out'' (omega (arith, n, narrow-digits x small)) b
+      (decimal-puts p x out' (omega (arith, m, n, b .next, narrow-digits x small)) r out'' q))
 
 module _ (at n : ℕ) (out : List ℕ) (room : at + n + 1 ≤ length out) (p : ℕ) (out' : List ℕ) (b : Puts at (replicate n space) p out out') where
   end-long : length out' ≡ length out

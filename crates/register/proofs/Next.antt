@@ -13,7 +13,7 @@ use Rattle.storage.specs.declared.Amount.{Amount}
 use Rattle.storage.specs.declared.Amount.the-variants.{Is, Refused}
 use Rattle.storage.proofs.Checks.{reading-ok}
 use Rattle.storage.proofs.Views.{bounded-view}
-use Rattle.print.specs.Texts.{runs, noRun, runFrom}
+use Rattle.print.specs.Texts.{runs, AnswersRun}
 use Rattle.print.specs.declared.Run.{Run}
 use Rattle.print.proofs.Runs.{next-answer}
 use Rattle.register.specs.Kernels.{Ahead}
@@ -24,7 +24,7 @@ unfolding view
 small p = omega (arith, p)
 
 module _ (ws : List ℕ) (b : Bitmap) (p : Passed ws b) where
-  pub next-first : (r : Run) → r ≡ reading ws b (λ e. noRun) (λ s. runFrom s 0) → Ahead (held ws b) 0 r
+  pub next-first : (r : Run) → AnswersRun ws b 0 r → Ahead (held ws b) 0 r
   unfolding view
   next-first r e = ahead-start (held ws b) (bounded-view ws (b .count)) r (next-answer ws b 0 p (omega arith) r e)
 
@@ -37,12 +37,12 @@ module _ (ws : List ℕ) (b : Bitmap) (p : Passed ws b) where
     unfolding view
     within = ahead-within (held ws b) (bounded-view ws (b .count)) n run g
 
-    pub next-more : (r : Run) → r ≡ reading ws b (λ e. noRun) (λ s. runFrom s (run .end)) → Ahead (held ws b) (n + 1) r
+    pub next-more : (r : Run) → AnswersRun ws b (run .end) r → Ahead (held ws b) (n + 1) r
     unfolding view
     next-more r e = ahead-more (held ws b) (bounded-view ws (b .count)) n run g r (next-answer ws b (run .end) p within r e)
 
     -- and it does not come before
-    pub next-from : (r : Run) → r ≡ reading ws b (λ e. noRun) (λ s. runFrom s (run .end)) → run .end ≤ r .low
+    pub next-from : (r : Run) → AnswersRun ws b (run .end) r → run .end ≤ r .low
     next-from r e = next-answer ws b (run .end) p within r e .from
 
   module _ (a : Amount) (e : a ≡ reading ws b Amount.Refused (λ s. Amount.Is (size s))) where

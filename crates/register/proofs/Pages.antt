@@ -17,14 +17,14 @@ use Rattle.print.specs.Texts.{runs, sizeOf}
 use Rattle.print.specs.Forms.{Runs, more}
 use Rattle.print.proofs.Promises.{prints-runs}
 use Rattle.register.specs.Register.{line, ended, rowOf, pagesFor, pagesOf, footOf, lineOf, linesOf, registerOf}
-use Rattle.register.specs.Pages.{Row, BlankRow, lineAt, Nth, here, later, IsRegister}
+use Rattle.register.specs.Pages.{Row, BlankRow, lineAt, Nth, here, later, Paged, IsRegister}
 use Rattle.register.proofs.Ahead.{Below, cons, all-below}
 use Rattle.register.proofs.Rows.{size-narrow, pages-narrow, length-line-of, length-lines, foot-line, row-line}
 use Rattle.register.proofs.Forms.{row-is, row-only, blank-is, blank-only}
 
 -- ---- runs by their number
 
-pub nth-drop : {rs : List Range} {i : ℕ} {r : Range} → Nth rs i r → (qs : List Range) × (drop i rs ≡ r ∷ qs)
+nth-drop : {rs : List Range} {i : ℕ} {r : Range} → Nth rs i r → (qs : List Range) × (drop i rs ≡ r ∷ qs)
 nth-drop (here {rs = rs}) = (rs, refl)
 nth-drop (later x) = nth-drop x
 
@@ -32,10 +32,6 @@ pub nth-some : (rs : List Range) (i : ℕ) → i < length rs → (r : Range) × 
 nth-some [] i h = absurd (omega arith)
 nth-some (r ∷ rs) zero h = (r, here)
 nth-some (r ∷ rs) (suc i) h = let x = nth-some rs i (omega arith) in (x .0, later (x .1))
-
-pub nth-within : {rs : List Range} {i : ℕ} {r : Range} → Nth rs i r → i < length rs
-nth-within here = omega arith
-nth-within (later x) = omega (arith, nth-within x)
 
 nth-below : {e : ℕ} {rs : List Range} {i : ℕ} {r : Range} → Below e rs → Nth rs i r → (r .low ≤ r .high) × (r .high < e)
 nth-below (cons l h x) here = (l, h)
@@ -96,11 +92,6 @@ no-row rs i h = ap rowOf (sym (drop-of-length-le rs {i = i} h))
 
 -- ---- the pages of n runs: enough of them, and each but the first begins with a run
 
-pub record Paged (n pages : ℕ) : Type 0 where
-  pub some : 0 < pages
-  pub all : n ≤ 49 * pages
-  pub full : (k : ℕ) → 0 < k → k < pages → 49 * k < n
-
 paged : (n : ℕ) → Paged n (pagesFor n)
 unfolding pagesFor
 paged n = record { some = omega arith; all = omega arith; full = λ k h l. omega arith }
@@ -121,9 +112,7 @@ module _ (b : Bits) (bound : Bounded b) (small : b .count ≤ mostWords) where
     maximal = prints-runs b bound .maximal;
     counted = all-counted b bound;
     bytes = length-lines b bound small (50 * pagesOf b) (omega arith);
-    some = pg .some;
-    all = pg .all;
-    full = pg .full;
+    paged = paged (length (runs b));
     run = λ k j n r hk hj x e.
         let l = nth-below (all-below b bound) x in
         subst (λ (u : List ℕ). Row u (r .low) (r .high) n) (nth-row x n e ∙ row-place b k j hj ∙ sym (at (50 * k + j) (omega arith)))
@@ -134,20 +123,17 @@ module _ (b : Bits) (bound : Bounded b) (small : b .count ≤ mostWords) where
         (row-is (k + 1) (pagesOf b) (size b) (omega (arith, pages-narrow b bound small)) (pages-narrow b bound small) (size-narrow b bound small));
   }
     where
-      pg : Paged (length (runs b)) (pagesOf b)
-      pg = paged (length (runs b))
-
       at : (k : ℕ) → k < 50 * pagesOf b → lineAt (registerOf b) k ≡ lineOf b k
       at k h = line-is b bound small (50 * pagesOf b) k (omega arith) h
 
 module _ (b : Bits) (bound : Bounded b) (t : List ℕ) (x : IsRegister b t) where
-  pub same-runs : x .runs ≡ runs b
+  same-runs : x .runs ≡ runs b
   same-runs = prints-runs b bound .only (x .runs) (x .maximal)
 
-  pub same-pages : x .pages ≡ pagesOf b
+  same-pages : x .pages ≡ pagesOf b
   same-pages =
       paged-only (length (runs b)) (x .pages) (pagesOf b)
-      (subst (λ (rs : List Range). Paged (length rs) (x .pages)) same-runs (record { some = x .some; all = x .all; full = x .full })) (paged (length (runs b)))
+      (subst (λ (rs : List Range). Paged (length rs) (x .pages)) same-runs (x .paged)) (paged (length (runs b)))
 
   same-members : x .members ≡ size b
   unfolding size

@@ -4,7 +4,7 @@ use mathlib.Core.List.{List}
 use Prim.Native.Nat.{ℕ, suc, _+_, _-_, _*_, _/_, _%_, _≤_, _<_}
 use native.Mathlib.Omega.{arith}
 use lib.ListN.{length}
-use Rattle.storage.specs.Stores.{Bits, Bounded, checked, view, held, reading}
+use Rattle.storage.specs.Stores.{Bits, Bounded, checked, held, reading}
 use Rattle.storage.specs.Guards.{mostWords, Passed}
 use Rattle.storage.specs.declared.Bitmap.{Bitmap}
 use Rattle.storage.specs.declared.Refusal.{Refusal}
@@ -19,9 +19,10 @@ use Rattle.print.specs.Kernels.{putAt}
 use Rattle.print.specs.declared.Run.{Run}
 use Rattle.print.proofs.Buffer.{length-put, put-then, puts-none}
 use Rattle.print.proofs.Fitting.{lacks, fitting}
-use Rattle.register.specs.Register.{line, pagesOf, footOf, lineOf, linesOf, registerOf, Registers}
+use Rattle.register.specs.Register.{line, pagesOf, footOf, lineOf, linesOf, registerOf, registerAnswer, registerBuffer, Registers}
 use Rattle.register.specs.Kernels.{Narrow, Ahead, NextLine, rowFor, Ready}
 use Rattle.register.proofs.Ahead.{ahead-within}
+use Rattle.register.proofs.Next.{small}
 use Rattle.register.proofs.Rows.{size-narrow, pages-narrow, length-line-of, length-lines, foot-line, row-line, row-ahead}
 
 -- ---- one line
@@ -101,20 +102,19 @@ module _ (b : Bits) (bound : Bounded b) (small : b .count ≤ mostWords) (pages 
 module _ (ws : List ℕ) (b : Bitmap) (out : List ℕ) where
   pub registers-stopped : (e : Refusal) → Stop e ≡ checked ws b Stop Pass → Registers ws b out (Amount.Refused e) out
   registers-stopped e q = record {
-    answers = sym (reading-stopped ws b e Amount.Refused (λ s. fitted (registerOf s) out) q);
-    leaves = sym (reading-stopped ws b e (λ d. out) (λ s. replaced (registerOf s) out) q);
+    answers = sym (reading-stopped ws b e Amount.Refused (registerAnswer out) q);
+    leaves = sym (reading-stopped ws b e (λ d. out) (registerBuffer out) q);
   }
 
   module _ (p : Passed ws b) (pages : ℕ) (e : pages ≡ pagesOf (held ws b)) where
     abbrev t : List ℕ
     t = registerOf (held ws b)
 
-    asked : (reading ws b Amount.Refused (λ s. fitted (registerOf s) out) ≡ fitted t out) × (reading ws b (λ d. out) (λ s. replaced (registerOf s) out) ≡ replaced t out)
-    asked = (reading-ok ws b Amount.Refused (λ s. fitted (registerOf s) out) p, reading-ok ws b (λ d. out) (λ s. replaced (registerOf s) out) p)
+    asked : (reading ws b Amount.Refused (registerAnswer out) ≡ fitted t out) × (reading ws b (λ d. out) (registerBuffer out) ≡ replaced t out)
+    asked = (reading-ok ws b Amount.Refused (registerAnswer out) p, reading-ok ws b (λ d. out) (registerBuffer out) p)
 
     long : length t ≡ 3650 * pages
-    unfolding view
-    long = length-lines (held ws b) (bounded-view ws (b .count)) (omega (arith, p)) (50 * pagesOf (held ws b)) (omega arith) ∙ omega (arith, e)
+    long = length-lines (held ws b) (bounded-view ws (b .count)) (small p) (50 * pagesOf (held ws b)) (omega arith) ∙ omega (arith, e)
 
     pub registers-short : length out < 3650 * pages → Registers ws b out (Amount.Refused NoSpace) out
     registers-short h = let f = lacks t out (omega (arith, long)) in record { answers = sym (asked .0 ∙ f .0); leaves = sym (asked .1 ∙ f .1) }

@@ -1,20 +1,21 @@
 -- What is read off the lines of a register: the runs with their sizes, which sum to the number of members.
-use mathlib.Core.Path.{_≡_, refl, sym, ap, ap₂, _∙_, subst}
-use mathlib.Core.Bool.{Bool, true, false, false≢true}
+use mathlib.Core.Path.{_≡_, refl, sym, ap, _∙_, subst}
+use mathlib.Core.Bool.{Bool, false}
 use mathlib.Core.List.{List, [], _∷_, _++_}
 use Prim.Native.Nat.{ℕ, zero, suc, _+_, _-_, _*_, _/_, _%_, _≤_, _<_}
 use native.Mathlib.Omega.{arith}
 use lib.ListN.{length, take}
 use lib.Seq.{take-all}
-use Rattle.word.specs.Sets.{val, countBelow}
+use Rattle.word.specs.Sets.{countBelow}
 use Rattle.word.proofs.Cases.{by-lt, by-eq}
-use Rattle.word.proofs.Sets.{count-add, count-none, count-flat}
+use Rattle.word.proofs.Sets.{count-add, count-none, count-ones, count-flat}
 use Rattle.storage.specs.Stores.{Bits}
 use Rattle.text.specs.Lists.{Range}
 use Rattle.print.specs.Texts.{sizeOf}
 use Rattle.print.specs.Forms.{Runs, none, more}
 use Rattle.register.specs.Pages.{Row, BlankRow, lineAt, Nth, here, later, IsRegister, Entry, Taken, start, entry, foot, Say, Sums}
 use Rattle.register.specs.Pages as pages
+use Rattle.register.proofs.Ahead.{high-below}
 use Rattle.register.proofs.Forms.{rows-same, row-not-blank}
 use Rattle.register.proofs.Pages.{nth-some, nth-order}
 
@@ -119,7 +120,7 @@ module _ (b : Bits) (t : List ℕ) (x : IsRegister b t) where
       (λ q. subst (Taken t (suc n)) (off-blank n q) (pages.Taken.blank k l (blank-at n (omega arith) l q))))
 
   all-off : off (50 * x .pages) ≡ entriesOf rs
-  all-off = ap entriesOf (take-all (at (50 * x .pages)) rs (omega (arith, x .all)))
+  all-off = ap entriesOf (take-all (at (50 * x .pages)) rs (omega (arith, x .paged .all)))
 
   pub all-only : {es : List Entry} → Taken t (50 * x .pages) es → es ≡ entriesOf rs
   all-only k = taken-only {n = 50 * x .pages} (omega arith) k ∙ all-off
@@ -129,18 +130,13 @@ module _ (b : Bits) (t : List ℕ) (x : IsRegister b t) where
 
 -- ---- the sum
 
-count-ones : (s : ℕ → Bool) (m : ℕ) → ((i : ℕ) → i < m → s i ≡ true) → countBelow s m ≡ m
-unfolding countBelow
-count-ones s zero h = refl
-count-ones s (suc m) h = ap₂ (λ (b : Bool) (x : ℕ). val b + x) (h m (omega arith)) (count-ones s m (λ i l. h i (omega arith))) ∙ omega arith
-
 pub sums : (s : ℕ → Bool) (e i : ℕ) (rs : List Range) (v : ℕ) → ((j : ℕ) → e ≤ j → s j ≡ false) → i ≤ e → Runs s i rs → countBelow s i + v ≡ countBelow s e → Sums (entriesOf rs) v
 unfolding entriesOf
 sums s e i [] v past h (none f) q = let z : 0 ≡ v = omega (arith, count-flat s i e h f) in subst (Sums []) z pages.Sums.none
 sums s e i (r ∷ rs) v past h (more a b f m z x) q =
     let e₁ : i + (r .low - i) ≡ r .low = omega arith in
     let e₂ : r .low + sizeOf r ≡ r .high + 1 = omega arith in
-    let below : r .high < e = by-lt (r .high) e (λ k. k) (λ k. absurd (false≢true (sym (past (r .high) k) ∙ m (r .high) b (omega arith)))) in
+    let below : r .high < e = high-below s e past (r .high) (m (r .high) b (omega arith)) in
     let e₃ : r .high + 1 + (e - (r .high + 1)) ≡ e = omega arith in
     let before : countBelow s (r .low) ≡ countBelow s i =
     ap (countBelow s) (sym e₁) ∙ count-add s i (r .low - i) ∙ omega (arith, count-none (λ j. s (i + j)) (r .low - i) (λ j l. f (i + j) (omega arith) (omega arith))) in
@@ -151,3 +147,9 @@ sums s e i (r ∷ rs) v past h (more a b f m z x) q =
     omega (arith, ap (countBelow s) (sym e₃) ∙ count-add s (r .high + 1) (e - (r .high + 1))) in
     let w : sizeOf r + (v - sizeOf r) ≡ v = omega arith in
     subst (Sums (entryOf r ∷ entriesOf rs)) w (pages.Sums.one {e = entryOf r} (sums s e (r .high + 1) rs (v - sizeOf r) past (omega arith) x (omega arith)))
+
+-- each run has a member or more
+pub sums-most : {s : ℕ → Bool} {i v : ℕ} {rs : List Range} → Runs s i rs → Sums (entriesOf rs) v → length rs ≤ v
+unfolding entriesOf
+sums-most (none f) y = omega arith
+sums-most (more {r = r} a b f m z x) (pages.Sums.one y) = omega (arith, sums-most x y)

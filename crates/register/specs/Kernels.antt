@@ -26,7 +26,7 @@ pub record Ahead (b : Bits) (n : ℕ) (run : Run) : Type 0 where
   pub next : NextRun (b .members) (64 * b .count) i run
   pub left : Runs (b .members) i (drop n (runs b))
 
--- the run is the one for line k, or for the line after it where that is a foot
+-- the run is the one for line k or, where that is a foot, for the line after it
 abbrev pub NextLine : Bits → ℕ → Run → Type 0
 NextLine b k run = Ahead b (k - k / 50) run
 

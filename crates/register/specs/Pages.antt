@@ -34,7 +34,13 @@ pub data Nth : List Range → ℕ → Range → Type 0 where
   here : {r : Range} {rs : List Range} → Nth (r ∷ rs) 0 r
   later : {q r : Range} {rs : List Range} {i : ℕ} → Nth rs i r → Nth (q ∷ rs) (suc i) r
 
--- t is the register of b: line j of page k, from 0, has run number 49 * k + j or is blank where there is none; line 50 is the foot
+-- n runs take so many pages: one at least, room for all, and a page after the first only where the pages before it are full and a run is left
+pub record Paged (n pages : ℕ) : Type 0 where
+  pub some : 0 < pages
+  pub all : n ≤ 49 * pages
+  pub full : (k : ℕ) → 0 < k → k < pages → 49 * k < n
+
+-- t is the register of b: line j of page k, from 0, has run number 49 * k + j or is blank where there is none; the last line is the foot
 pub record IsRegister (b : Bits) (t : List ℕ) : Type 0 where
   pub runs : List Range
   pub pages : ℕ
@@ -42,9 +48,7 @@ pub record IsRegister (b : Bits) (t : List ℕ) : Type 0 where
   pub maximal : Runs (b .members) 0 runs
   pub counted : AllCounted b members
   pub bytes : length t ≡ 73 * (50 * pages)
-  pub some : 0 < pages
-  pub all : length runs ≤ 49 * pages
-  pub full : (k : ℕ) → 0 < k → k < pages → 49 * k < length runs
+  pub paged : Paged (length runs) pages
   pub run : (k j size : ℕ) (r : Range) → k < pages → j < 49 → Nth runs (49 * k + j) r → r .low + size ≡ r .high + 1
       → Row (lineAt t (50 * k + j)) (r .low) (r .high) size
   pub blank : (k j : ℕ) → k < pages → j < 49 → length runs ≤ 49 * k + j → BlankRow (lineAt t (50 * k + j))

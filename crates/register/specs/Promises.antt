@@ -1,8 +1,9 @@
 -- What the printed register promises, in words of its own. Each is proved in proofs/Promises.
-use Prim.Native.Nat.{ℕ, _*_, _≤_}
+use Prim.Native.Nat.{ℕ, _+_, _*_, _/_, _≤_, _<_}
 use mathlib.Core.Path.{_≡_}
 use mathlib.Core.List.{List}
 use mathlib.Core.Logic.{_↔_}
+use lib.ListN.{length}
 use Rattle.storage.specs.Refusals.{amountNumber, amountValue}
 use Rattle.storage.specs.Stores.{Bits, Bounded, held}
 use Rattle.storage.specs.Guards.{mostWords}
@@ -14,19 +15,25 @@ use Rattle.text.specs.Lists.{Range}
 use Rattle.print.specs.Forms.{Runs}
 use Rattle.print.specs.Promises.{NotPrinted, PutOrShort}
 use Rattle.register.specs.Register.{registerOf, Registers}
-use Rattle.register.specs.Pages.{IsRegister, Entry, Taken, Say, Sums}
+use Rattle.register.specs.Pages.{Row, lineAt, IsRegister, Entry, Taken, Say, Sums}
 
 -- of every bitmap that a store may hold: the register is of the form that 02 has, and no other text is
 abbrev pub OneRegister : Type 0
 OneRegister = (b : Bits) → Bounded b → b .count ≤ mostWords → (t : List ℕ) → IsRegister b t ↔ (t ≡ registerOf b)
 
--- what is read off a register's lines is exactly the maximal runs, upward, each once, with their sizes; these sum to the number of members
+-- what is read off the lines of so many pages is exactly the maximal runs, upward, each once, with their sizes; these sum to what each foot says, which is
+-- the number of members
 pub record TakenOff (b : Bits) (t : List ℕ) (pages : ℕ) : Type 0 where
   pub runs : (es : List Entry) → Taken t (50 * pages) es ↔ ((rs : List Range) × Runs (b .members) 0 rs × Say es rs)
-  pub sum : (es : List Entry) (m : ℕ) → Taken t (50 * pages) es → AllCounted b m → Sums es m
+  pub sum : (es : List Entry) (k p n m : ℕ) → Taken t (50 * pages) es → k < pages → Row (lineAt t (50 * k + 49)) p n m → Sums es m × AllCounted b m
 
+-- so of every register, of as many pages as its length says
 abbrev pub ReadsOff : Type 0
-ReadsOff = (b : Bits) → Bounded b → (t : List ℕ) (x : IsRegister b t) → TakenOff b t (x .pages)
+ReadsOff = (b : Bits) → Bounded b → (t : List ℕ) (pages : ℕ) → IsRegister b t → length t ≡ 3650 * pages → TakenOff b t pages
+
+-- one page, and one more for each 49 members, are enough
+abbrev pub EnoughPages : Type 0
+EnoughPages = (b : Bits) → Bounded b → (t : List ℕ) (m : ℕ) → IsRegister b t → AllCounted b m → length t ≤ 3650 * (m / 49 + 1)
 
 -- the call, by its number x, the length v and the buffer's bytes out' afterwards: 1, then 2, then the register or 6
 abbrev pub PrintsRegister : List ℕ → Bitmap → List ℕ → ℕ → ℕ → List ℕ → Type 0

@@ -37,6 +37,7 @@ rowOf (r ∷ rs) = line (r .low) (r .high) (sizeOf r)
 unfoldable pub pagesFor : ℕ → ℕ
 pagesFor n = max 1 ((n + 48) / 49)
 
+-- the pages of a bitmap
 abbrev pub pagesOf : Bits → ℕ
 pagesOf b = pagesFor (length (runs b))
 
@@ -60,7 +61,14 @@ linesOf b (suc n) = linesOf b n ++ lineOf b n
 abbrev pub registerOf : Bits → List ℕ
 registerOf b = linesOf b (50 * pagesOf b)
 
+-- its length, or 6 where the buffer has fewer bytes; and the buffer afterwards
+abbrev pub registerAnswer : List ℕ → Bits → Amount
+registerAnswer out s = fitted (registerOf s) out
+
+abbrev pub registerBuffer : List ℕ → Bits → List ℕ
+registerBuffer out s = replaced (registerOf s) out
+
 -- a call on the bitmap b in ws answers r, and makes out' of the buffer out: 1, then 2, then 6
 pub record Registers (ws : List ℕ) (b : Bitmap) (out : List ℕ) (r : Amount) (out' : List ℕ) : Type 0 where
-  pub answers : r ≡ reading ws b Amount.Refused (λ s. fitted (registerOf s) out)
-  pub leaves : out' ≡ reading ws b (λ e. out) (λ s. replaced (registerOf s) out)
+  pub answers : r ≡ reading ws b Amount.Refused (registerAnswer out)
+  pub leaves : out' ≡ reading ws b (λ e. out) (registerBuffer out)

@@ -20,15 +20,21 @@ const SPACE: u8 = 32;
 
 const LINE_END: u8 = 10;
 
-// The bytes of a column, and of a line with its end.
+// The bytes of a column, of a line without its end and with it, and those behind its three columns.
 const COLUMN: usize = 12;
+
+const WIDTH: usize = 72;
 
 const LINE: usize = 73;
 
-// The lines of a page.
+const REST: usize = 36;
+
+// The lines of a page, and its runs: all lines but the last.
 const LINES: usize = 50;
 
-// Puts blanks up to a place.
+const RUNS: usize = 49;
+
+// Puts n blanks at a place; the place after them.
 fn put_blanks(out: &mut [u8], at: usize, n: usize) -> usize
     requires { ⌜ at + n ≤ length (now out) ⌝ }
     ensures { λ r. ⌜ Puts at (replicate n space) r (now (out .entry)) (now (out .exit)) ⌝ }
@@ -69,7 +75,7 @@ fn put_line(out: &mut [u8], at: usize, a: usize, b: usize, c: usize)
     let p = put_column(out, at, a);
     let q = put_column(out, p, b);
     let s = put_column(out, q, c);
-    put_end(out, s, 36);
+    put_end(out, s, REST);
 }
 
 // Puts the line of a run, blank for an empty one.
@@ -81,7 +87,7 @@ fn put_row(out: &mut [u8], at: usize, run: Run)
         put_line(out, at, run.low, run.end - 1, run.end - run.low);
         return;
     }
-    put_end(out, at, 72);
+    put_end(out, at, WIDTH);
 }
 
 // Puts line k, where `run` is the next to be printed; the run that is then the next.
@@ -97,7 +103,7 @@ fn put_next(
     requires { ⌜ Passed (now words) b × Ready (held (now words) b) pages count (now out) × NextLine (held (now words) b) k run × (k < 50 * pages) ⌝ }
     ensures { λ r. ⌜ NextLine (held (now (words .entry)) b) (k + 1) r × (now (out .exit) ≡ putAt (73 * k) (lineOf (held (now (words .entry)) b) k) (now (out .entry))) ⌝ }
 {
-    if k % LINES == LINES - 1 {
+    if k % LINES == RUNS {
         put_line(out, LINE * k, k / LINES + 1, pages, count);
         return run;
     }
@@ -141,7 +147,7 @@ fn page_count(runs: usize) -> usize
     if runs == 0 {
         return 1;
     }
-    (runs + 48) / 49
+    (runs + (RUNS - 1)) / RUNS
 }
 
 // How many set bits there are.

@@ -15,7 +15,7 @@ use Rattle.register.proofs.Next.{next-first, next-more, next-from, with
 use Rattle.register.proofs.count_runs.Statement.{statement}
 use Rattle.register.proofs.count_runs.Tie as tie
 
--- one more than n
+-- a run is left, so that n is not all
 fewer : {ws : List ℕ} {b : Bitmap} {n : ℕ} {run : Run} → Passed ws b → Ahead (held ws b) n run → run .low < run .end → n < length (runs (held ws b))
 fewer {ws} {b} {n} {run} p g h = ahead-below (held ws b) (bounded-view ws (b .count)) n run g h
 

@@ -7,6 +7,9 @@ use Rattle.register.proofs.page_count.Tie as tie
 returns : tie.Need-returns
 returns c = pages-one _ (c .if1 .taken)
 
+sub-result : tie.Need-sub-result
+sub-result c = search needs
+
 add-result : tie.Need-add-result
 add-result c = search needs
 
@@ -14,4 +17,4 @@ returns-2 : tie.Need-returns-2
 returns-2 c = pages-more _ (c .if1 .left)
 
 pub page-count-spec : {M : Type 1} → statement M
-page-count-spec = tie.close (tie.spec returns add-result returns-2)
+page-count-spec = tie.close (tie.spec returns sub-result add-result returns-2)

@@ -1,7 +1,7 @@
 -- A number is put into its column: blanks, then its digits.
 use native.Mathlib.Omega.{arith}
 use borrow.Author.Needs.{needs}
-use Rattle.register.proofs.Lines.{column-left, column-puts}
+use Rattle.register.proofs.Lines.{narrow-digits, column-puts}
 use Rattle.register.proofs.put_column.Statement.{statement}
 use Rattle.register.proofs.put_column.Tie as tie
 
@@ -9,7 +9,7 @@ decimal-len-requires : tie.Need-decimal-len-requires
 decimal-len-requires c κs = search needs
 
 sub-put-blanks : tie.Need-sub-put-blanks
-sub-put-blanks c = column-left _ (c .before .before .before .pre .0) _ (c .decimal-len .ensures)
+sub-put-blanks c = omega (arith, c .decimal-len .ensures, narrow-digits _ (c .before .before .before .pre .0))
 
 put-blanks-requires : tie.Need-put-blanks-requires
 put-blanks-requires c κs = omega (arith, c .before .before .before .pre .1)

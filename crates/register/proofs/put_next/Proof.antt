@@ -7,9 +7,6 @@ use Rattle.register.proofs.Printing.{line-room, foot-narrow, foot-put, 
 use Rattle.register.proofs.put_next.Statement.{statement}
 use Rattle.register.proofs.put_next.Tie as tie
 
-sub-if1 : tie.Need-sub-if1
-sub-if1 c = search needs
-
 mul-put-line : tie.Need-mul-put-line
 mul-put-line c = omega (arith, c .before .before .before .before .pre .3, c .before .before .before .before .pre .1 .room)
 
@@ -56,7 +53,6 @@ pub put-next-spec : {M : Type 1} → statement M
 put-next-spec =
     tie.close
     (tie.spec
-    sub-if1
     mul-put-line
     add-put-line
     put-line-requires
