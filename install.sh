@@ -42,7 +42,7 @@ includedir=\${prefix}/include
 numbers=\${prefix}/share/taxolbin/numbers.txt
 
 Name: taxolbin
-Description: Bitmaps in lent memory, list text and the change sheet, proved
+Description: Bitmaps in lent memory, list text, the printed register and the change sheet, proved
 Version: $version
 Libs: -L\${libdir} -Wl,-rpath,\${libdir} -ltaxolbin
 Cflags: -I\${includedir}

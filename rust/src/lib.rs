@@ -1,5 +1,5 @@
-//! Which paragraphs of a book have a note: bitmaps in lent memory, list text such as `4, 7-8`, and the change sheet, of which an older edition gives
-//! the newer one's whole answer or none.
+//! Which paragraphs of a book have a note: bitmaps in lent memory, list text such as `4, 7-8`, a register for paper, and the change sheet, of which an
+//! older edition gives the newer one's whole answer or none.
 //!
 //! The calls are those of an archive of formally proved code, `libtaxolbin.a`; this package makes each a method that safe Rust can call with any
 //! arguments. Nothing is allocated. A [`Bitmap`] is a store of words that the caller lends and a count of the words in use; it derefs to a
