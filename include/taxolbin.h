@@ -374,9 +374,9 @@ TAXOLBIN_MUST_USE static inline uint32_t taxolbin_load_list(
 /* ---- The printed register ----
  *
  * For marking up paper: pages of 50 lines, each line 72 bytes and a line end (byte 10). A line holds one maximal run of set bits, upward: its first
- * bit, its last and its size, each right-aligned in 12 bytes; the other 36 are blanks (byte 32). Line 50 holds in the same columns the page, from 1,
- * the pages, and the count of all set bits. A page begins only where the last has 49 runs, lines without a run are blank, and an empty bitmap has one
- * page. A bit is printed as it is: no style and no first number play a part. */
+ * bit, its last and its size, each right-aligned in 12 bytes; the other 36 are blanks (byte 32). Line 50 holds in the same columns the number of the
+ * page, from 1, the number of pages, and the count of all set bits. A page begins only where the last has 49 runs and one more is left, lines without
+ * a run are blank, and an empty bitmap has one page. A bit is printed as it is: no style and no first number play a part. */
 
 /* The bytes of a page. */
 #define TAXOLBIN_REGISTER_PAGE UINT64_C(3650)

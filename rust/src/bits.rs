@@ -336,9 +336,9 @@ impl BitSlice {
 
     /// Prints the register to the front of the buffer, and gives the text: pages of 50 lines, each line 72 bytes and a line end. A line has one maximal
     /// run of set bits, upward: its first bit, its last and its size, each right-aligned in 12 bytes; the rest is blank. Line 50 has in the same
-    /// columns the page, from 1, the pages and the count of all set bits. A page has up to 49 runs, and with no bit set there is one page.
-    /// `NoSpace` where the buffer is too short, and then no byte of it changes. A page has [`REGISTER_PAGE`](crate::REGISTER_PAGE) bytes; one page, and
-    /// one more for each 49 set bits, are always enough.
+    /// columns the number of the page, from 1, the number of pages and the count of all set bits. A page has up to 49 runs, and with no bit set there
+    /// is one page. `NoSpace` where the buffer is too short, and then no byte of it changes. A page has [`REGISTER_PAGE`](crate::REGISTER_PAGE) bytes;
+    /// one page, and one more for each 49 set bits, are always enough.
     ///
     /// ```
     /// use taxolbin::{BitSlice, Error, REGISTER_PAGE};

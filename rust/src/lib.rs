@@ -4,7 +4,7 @@
 //! The calls are those of an archive of formally proved code, `libtaxolbin.a`; this package makes each a method that safe Rust can call with any
 //! arguments. Nothing is allocated. A [`Bitmap`] is a store of words that the caller lends and a count of the words in use; it derefs to a
 //! [`BitSlice`], its bits within the length. A [`Sheet`] is made of [`Edit`]s in a lent buffer, and [`read`] applies one. List text has a
-//! publisher's [`Style`].
+//! publisher's [`Style`]; [`BitSlice::write_register`] prints the notes on pages, for marking up paper.
 //!
 //! ```
 //! use taxolbin::{read, Bitmap, Edit, Edition, Error, Sheet, Style};
