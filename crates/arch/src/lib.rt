@@ -1,6 +1,8 @@
 // Kernels on a slice of words.
 //
 // The other processor paths of arch.rs are left out. Every public function is total: no slice, index or region is asked for.
+#![tactic(auto)]
+
 ghost use Rattle.std.specs.Prelude.{◌≡◌, ◌+◌, ◌*◌, ◌^◌, ◌<◌, ◌≤◌, length, set, slice_index, slice_set};
 ghost use Rattle.word.specs.Sets.{choose};
 ghost use Rattle.word.specs.Words.{all_ones};

@@ -1,6 +1,8 @@
 // The machine word that a bitmap is built from: 64 bits, the lowest first.
 //
 // A word is a set of places below 64, and each contract says which. Every public function is total.
+#![tactic(auto)]
+
 ghost use Rattle.std.specs.Prelude.{◌≡◌, ◌-◌, ◌*◌, ◌/◌, ◌%◌, ◌^◌, ◌<◌, min, max, bit_and, bit_or};
 ghost use Rattle.word.specs.Sets.{count_below, least_from, top_below};
 ghost use Rattle.word.specs.Places.{bit};
