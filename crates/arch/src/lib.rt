@@ -12,7 +12,7 @@ ghost use Rattle.arch.specs.Kernels.{places_in, filled_places};
 use word::Word;
 
 // A word found in a slice, with its index.
-#[derive(Drop)]
+#[derive(Clone, Copy)]
 pub enum FoundWord {
     At(usize, u64),
     Nothing,

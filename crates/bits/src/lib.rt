@@ -149,7 +149,7 @@ pub fn rank(words: &[u64], b: Bitmap, i: usize) -> Amount
 }
 
 // How far a rank is passed: the words before index `at` are counted, and `left` of the rank remains.
-#[derive(Drop)]
+#[derive(Clone, Copy)]
 struct Skip {
     at: usize,
     left: usize,

@@ -11,7 +11,7 @@ use sheet::{AT_1, AT_7, AT_25, AT_32, AT_39, AT_63, Edit, Known};
 use storage::Refusal;
 
 // An edit, or the refusal 13 or 12.
-#[derive(Drop)]
+#[derive(Clone, Copy)]
 pub enum Asked {
     For(Edit),
     Refused(Refusal),

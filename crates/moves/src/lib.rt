@@ -1,4 +1,6 @@
 // Moves of whole words in place. A piece is read whole before any of it is written, so that the compiler makes one memory move of it.
+#![tactic(auto)]
+
 ghost use Rattle.std.specs.Prelude.{◌≡◌, ◌+◌, ◌-◌, ◌≤◌, min, length};
 ghost use Rattle.moves.specs.Moves.{up_words, down_words, turned_words};
 ghost use Rattle.moves.specs.Kernels.{Moved, Swapped};

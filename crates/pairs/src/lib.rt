@@ -2,12 +2,14 @@
 //
 // Every public function is total. One function serves every operation, and a call names one: where the body is short enough the compiler takes it into the
 // call, with no test of the operation left in its loops.
+#![tactic(auto)]
+
 ghost use Rattle.std.specs.Prelude.{◌≡◌, ◌↔◌, ◌+◌, ◌≤◌, min, length, get_or};
 ghost use Rattle.arch.specs.Scans.{Alike, nonzero_len, is_zero};
 ghost use Rattle.pairs.specs.Pairs.{word_by, words_by, end_by, zero_eights};
 
 // A set operation, by what it makes of two memberships.
-#[derive(Drop)]
+#[derive(Clone, Copy)]
 pub enum SetOp {
     And,
     AndNot,

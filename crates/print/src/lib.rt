@@ -15,7 +15,7 @@ use text::{COMMA, ZERO};
 const SPACE: u8 = 32;
 
 // A run: its first bit, and the clear bit after its last.
-#[derive(Drop)]
+#[derive(Clone, Copy)]
 pub struct Run {
     pub low: usize,
     pub end: usize,

@@ -12,7 +12,7 @@ const LINE_END: u8 = 10;
 const COMMA: u8 = 44;
 
 // How many numbers a line has, and the place after it.
-#[derive(Drop)]
+#[derive(Clone, Copy)]
 pub struct Line {
     pub count: usize,
     pub at: usize,

@@ -4,7 +4,7 @@ use storage::{Bitmap, Change};
 use told::Told;
 
 // The call, its arguments, and the bitmaps of the stores 0 and 1.
-#[derive(Drop)]
+#[derive(Clone, Copy)]
 struct Head {
     op: u64,
     x: usize,

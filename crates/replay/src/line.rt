@@ -23,7 +23,7 @@ const TILDE: u64 = 126;
 const NONE: u64 = 256;
 
 // A byte, and the part of the buffer that is left to read.
-#[derive(Drop)]
+#[derive(Clone, Copy)]
 struct Byte {
     byte: u64,
     at: usize,
@@ -31,7 +31,7 @@ struct Byte {
 }
 
 // What a line is, how many numbers it has, and the part of the buffer that is left to read.
-#[derive(Drop)]
+#[derive(Clone, Copy)]
 pub struct Line {
     pub kind: u64,
     pub count: usize,
@@ -85,7 +85,7 @@ fn put(numbers: &mut [u64; 1024], n: usize, x: u64) {
 
 // A line as far as it is read: what it is, whether it has ended, how many numbers stand before the one at hand, and of that its digits' value, how many
 // they are, and all ones after a tilde.
-#[derive(Drop)]
+#[derive(Clone, Copy)]
 struct Part {
     kind: u64,
     ended: bool,

@@ -14,7 +14,7 @@ use libc::STDOUT_FILENO;
 const MOST: u64 = 100_000_000;
 
 // Cases and mismatches of one call, and of all so far; malformed lines are mismatches.
-#[derive(Drop)]
+#[derive(Clone, Copy)]
 struct Tally {
     cases: u64,
     wrong: u64,

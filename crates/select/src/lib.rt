@@ -1,4 +1,6 @@
 // The place of a word's n-th set bit: the bytes' counts in parallel, which byte has the bit, and a table for the place in the byte.
+#![tactic(auto)]
+
 ghost use Rattle.std.specs.Prelude.{◌≡◌, ◌<◌};
 ghost use Rattle.word.specs.Sets.{count_below, nth};
 ghost use Rattle.word.specs.Places.{bit};

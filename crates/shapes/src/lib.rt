@@ -2,7 +2,7 @@
 use storage::{Bitmap, Refusal};
 
 // What `split_off` answers: the records of head and tail, or the refusal with the old one.
-#[derive(Drop)]
+#[derive(Clone, Copy)]
 pub enum Split {
     Done(Bitmap, Bitmap),
     Refused(Refusal, Bitmap),

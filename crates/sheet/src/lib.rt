@@ -32,7 +32,7 @@ pub const AT_39: usize = 1 << 39;
 pub const AT_63: usize = 1 << 63;
 
 // A kind of duty record: the bytes of its payload, and the first edition that has it.
-#[derive(Drop)]
+#[derive(Clone, Copy)]
 pub struct Kind {
     pub bytes: usize,
     pub since: usize,
@@ -58,7 +58,7 @@ pub const KINDS: [Kind; 12] = [
 ];
 
 // What a duty record asks for, with the fields of its kind. A direction is true for right.
-#[derive(Drop)]
+#[derive(Clone, Copy)]
 pub enum Edit {
     Set(usize),
     Unset(usize),
@@ -74,7 +74,7 @@ pub enum Edit {
 }
 
 // The fields that an addition is given; a kind uses its own. The flag is the value of `set_region`, or the direction.
-#[derive(Drop)]
+#[derive(Clone, Copy)]
 pub struct Fields {
     pub p: u32,
     pub k: u32,
@@ -85,21 +85,21 @@ pub struct Fields {
 }
 
 // What a reading answers: the records read and the new bitmap's record, or the refusal and its record's number.
-#[derive(Drop)]
+#[derive(Clone, Copy)]
 pub enum Reading {
     Done(usize, Bitmap),
     Refused(Refusal, usize),
 }
 
 // What the writer answers: the sheet's length, or the refusal.
-#[derive(Drop)]
+#[derive(Clone, Copy)]
 pub enum Added {
     Done(usize),
     Refused(Refusal),
 }
 
 // What an edition knows of a kind: its payload's bytes.
-#[derive(Drop)]
+#[derive(Clone, Copy)]
 pub enum Known {
     Bytes(usize),
     Newer,

@@ -11,7 +11,7 @@ pub const STOP: u8 = 46;
 pub const LINE_END: u8 = 10;
 
 // A number and the place after its blank.
-#[derive(Drop)]
+#[derive(Clone, Copy)]
 pub struct Scan {
     pub v: u64,
     pub at: usize,

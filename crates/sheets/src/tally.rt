@@ -45,7 +45,7 @@ pub const OLDEST: usize = 64;
 pub const STORE: usize = 128;
 
 // An answer in document 01's numbers: of a reading the number, record and word count, of a writer call the number, 0 and the length.
-#[derive(Drop)]
+#[derive(Clone, Copy)]
 pub struct Numbers {
     pub number: u64,
     pub record: u64,

@@ -10,7 +10,7 @@ ghost use Rattle.storage.specs.declared.Guard.TheVariants.{Pass, Stop};
 pub const LIMIT: usize = 67_108_864;
 
 // A bitmap's record: the words in use, from the start of its store. A new one is made of an old one, as `Bitmap { count: n, ..b }`.
-#[derive(Drop)]
+#[derive(Clone, Copy)]
 pub struct Bitmap {
     pub count: usize,
 }
@@ -19,7 +19,7 @@ pub struct Bitmap {
 pub const EMPTY: Bitmap = Bitmap { count: 0 };
 
 // Why a call is refused.
-#[derive(Drop)]
+#[derive(Clone, Copy)]
 pub enum Refusal {
     StoreTooLong,
     CountOverStore,
@@ -66,14 +66,14 @@ impl Refusal {
 }
 
 // What a changing call answers: the new record, or the refusal with the old one.
-#[derive(Drop)]
+#[derive(Clone, Copy)]
 pub enum Change {
     Done(Bitmap),
     Refused(Refusal, Bitmap),
 }
 
 // What a search answers.
-#[derive(Drop)]
+#[derive(Clone, Copy)]
 pub enum Found {
     At(usize),
     Nothing,
@@ -81,28 +81,28 @@ pub enum Found {
 }
 
 // What a call answers that counts or measures.
-#[derive(Drop)]
+#[derive(Clone, Copy)]
 pub enum Amount {
     Is(usize),
     Refused(Refusal),
 }
 
 // What a call answers that reads a field.
-#[derive(Drop)]
+#[derive(Clone, Copy)]
 pub enum Field {
     Is(u64),
     Refused(Refusal),
 }
 
 // What a call answers that tests.
-#[derive(Drop)]
+#[derive(Clone, Copy)]
 pub enum Truth {
     Is(bool),
     Refused(Refusal),
 }
 
 // What is found of a store before a call's work.
-#[derive(Drop)]
+#[derive(Clone, Copy)]
 pub enum Guard {
     Pass,
     Stop(Refusal),

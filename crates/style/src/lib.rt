@@ -4,7 +4,7 @@ ghost use Rattle.style.specs.Styles.{allowed, joins};
 
 // A printed number is a bit plus `first`; `joiner` stands between the two numbers of a range; `blank` says whether a blank stands after a comma;
 // a run of fewer than `shortest` numbers is written number by number. A joiner is a `usize`, so that none is cut to a byte before it is looked at.
-#[derive(Drop)]
+#[derive(Clone, Copy)]
 pub struct Style {
     pub first: usize,
     pub joiner: usize,

@@ -20,7 +20,7 @@ const LIMIT: usize = 4_294_967_295;
 const TOO_LARGE: usize = LIMIT + 1_001;
 
 // What a byte is to a list.
-#[derive(Drop)]
+#[derive(Clone, Copy)]
 enum Kind {
     Digit(u8),
     Blank,
@@ -30,14 +30,14 @@ enum Kind {
 }
 
 // Why a text is no list: its first bad token is bad by a slip, or by a number of digits only that is above the limit.
-#[derive(Drop)]
+#[derive(Clone, Copy)]
 enum Fault {
     Slip,
     Huge,
 }
 
 // A number that ended.
-#[derive(Drop)]
+#[derive(Clone, Copy)]
 enum Value {
     Of(usize),
     Bad(Fault),
@@ -46,7 +46,7 @@ enum Value {
 // How far a token is read: whether the joiner came, the number before it, and how far the number at hand is read: 0, no digit yet;
 // 1, its last byte a digit; 2, blanks after it. `TOO_LARGE` stands for every larger number. These are numbers because a loop
 // that copies an enum copies its padding, which costs more than the rest.
-#[derive(Drop)]
+#[derive(Clone, Copy)]
 struct Part {
     pub split: usize,
     pub left: usize,
@@ -55,7 +55,7 @@ struct Part {
 }
 
 // What a byte makes of a token.
-#[derive(Drop)]
+#[derive(Clone, Copy)]
 enum Step {
     Go(Part),
     Ends,
@@ -63,7 +63,7 @@ enum Step {
 }
 
 // A token that ended.
-#[derive(Drop)]
+#[derive(Clone, Copy)]
 enum Token {
     Range(usize, usize),
     Empty,
@@ -71,7 +71,7 @@ enum Token {
 }
 
 // The largest number of a text, if it is a list.
-#[derive(Drop)]
+#[derive(Clone, Copy)]
 enum Measured {
     Top(usize),
     NoList(Fault),

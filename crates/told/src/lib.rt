@@ -9,7 +9,7 @@ use storage::{Amount, Change, Field, Found, Guard, Refusal, Truth};
 
 // Document 01's number; a tag, 0 where there is no value, 1 where there is one, 2 where the call may have changed its store; the value, for a
 // changing call the word count; a second value.
-#[derive(Drop)]
+#[derive(Clone, Copy)]
 pub struct Told {
     pub number: u32,
     pub tag: u64,

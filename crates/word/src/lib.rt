@@ -8,7 +8,7 @@ ghost use Rattle.word.specs.Sets.{count_below, least_from, top_below};
 ghost use Rattle.word.specs.Places.{bit};
 ghost use Rattle.word.specs.Words.{low_mask, single, mirrored, without_least, low_product, funneled};
 
-#[derive(Drop)]
+#[derive(Clone, Copy)]
 pub struct Word(pub u64);
 
 impl Word {

@@ -14,7 +14,7 @@ use sheet::{AT_1, AT_7, AT_8, AT_25, AT_32, AT_39, AT_63, Added, Fields, Known};
 use storage::{Guard, Refusal};
 
 // A duty record's payload as one number, what is over 64 bits apart; or its refusal.
-#[derive(Drop)]
+#[derive(Clone, Copy)]
 enum Parts {
     Are(usize, usize),
     Refused(Refusal),

@@ -5,16 +5,9 @@ use Rattle.word.specs.Sets.{count_below, nth}
 use Rattle.word.specs.Places.{bit, tab_from}
 use Rattle.select.specs.Select.{select_table}
 use Rattle.select.proofs.Table.{select_by_rule}
-use Rattle.select.proofs.select_u64.Statement.{statement}
-use Rattle.select.proofs.select_u64.Tie as tie
-
-select-u64-portable-requires : tie.Need-select-u64-portable-requires
-select-u64-portable-requires c κs = search rules
+use Rattle.select.proofs.select_u64.Goals as goal
 
 -- the constant is the table of the rule: all 2,048 entries are computed
-returns : tie.Need-returns
+pub returns : goal.returns
 unfolding select_table tab_from nth count_below bit
-returns c = select_by_rule _ _ _ _ c.select-u64-portable.ensures refl
-
-pub select-u64-spec : {M : Type 1} → statement M
-select-u64-spec = tie.close (tie.spec select-u64-portable-requires returns)
+returns c = select_by_rule _ _ _ _ c.select_u64_portable.ensures refl

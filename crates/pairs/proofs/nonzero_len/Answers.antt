@@ -1,0 +1,32 @@
+-- The length of what the operation makes, without trailing zero words. Loop: the words that it makes from `end` on are 0.
+use Prim.Native.Nat.{◌≤◌}
+use native.Mathlib.Omega.{arith}
+use borrow.Author.Rules.{rules}
+use lib.ListN.{length}
+use Rattle.arch.specs.Scans.{Alike}
+use Rattle.arch.proofs.Scans.{alike_to, alike_one, alike_join, nonzero_at, nonzero_none}
+use Rattle.pairs.specs.Pairs.{words_by}
+use Rattle.pairs.proofs.Scans.{past_end, end-within}
+use mathlib.Core.Path.{sym, ◌∙◌}
+use Rattle.pairs.proofs.nonzero_len.Goals as goal
+
+pub loop-end-init : goal.loop-end-init
+loop-end-init c = (
+  omega (
+    arith,
+    end-within c.args.op c.args.a.now
+        c.args.b.now _ c.end_of.ensures,
+    c.zero_eights_down-end.ensures.0,
+  ),
+  alike_join
+      c.zero_eights_down-end.ensures.1 (past_end _ _ _ _ c.end_of.ensures _) (omega arith),
+)
+
+pub returns-then-word_at-ne0 : goal.returns-then-word_at-ne0
+returns-then-word_at-ne0 c = nonzero_at _ _ (omega arith) c.loop-end.invariant.0 c.loop-end.invariant.1 (λ z. c.if-word_at-ne0.true (c.word_at.ensures ∙ z))
+
+pub loop-end-preserved : goal.loop-end-preserved
+loop-end-preserved c = (omega arith, alike_join (alike_one _ _ _ (sym c.word_at.ensures ∙ c.if-word_at-ne0.false)) c.loop-end.invariant.1 (omega arith))
+
+pub returns : goal.returns
+returns c = nonzero_none _ (alike_to _ _ c.loop-end.invariant.1 (omega arith) (omega arith))

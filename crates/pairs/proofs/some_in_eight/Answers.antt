@@ -1,0 +1,23 @@
+-- The answer is 0 exactly where the eight words made from i on are 0. Loop: `some` is 0 exactly where those from i on, below k, are 0.
+use mathlib.Core.Path.{sym, ◌∙◌}
+use Prim.Native.Nat.{◌+◌, ◌-◌, ◌≤◌}
+use native.Mathlib.Omega.{arith}
+use borrow.Author.Rules.{rules}
+use Rattle.arch.proofs.Scans.{alike_to}
+use Rattle.pairs.specs.Pairs.{words_by}
+use Rattle.pairs.proofs.Tables.{by_at}
+use Rattle.pairs.proofs.Scans.{Joined, joined-start, joined-more}
+use Rattle.pairs.proofs.some_in_eight.Goals as goal
+
+pub loop-k-init : goal.loop-k-init
+loop-k-init c = (omega arith, omega arith, joined-start _ _)
+
+pub loop-k-preserved : goal.loop-k-preserved
+loop-k-preserved c = (omega arith, omega arith, joined-more c.loop-k.invariant.2 c.loop-k.invariant.0 (c.word-some.ensures ∙ sym (by_at _ _ _ _)))
+
+pub returns : goal.returns
+returns c =
+    let j = c.loop-k.invariant.2 in (
+      λ e. alike_to _ _ (j.none e) (omega arith) (omega arith),
+      λ s. j.all (alike_to _ _ s (omega arith) (omega arith)),
+    )
