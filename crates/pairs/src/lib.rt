@@ -52,8 +52,8 @@ pub fn end_of(op: SetOp, n: usize, m: usize) -> usize
 
 // Some bit is set exactly where one of the eight words from i on is not zero.
 fn some_in_eight(op: SetOp, a: &[u64], b: &[u64], i: usize) -> u64
-    requires i_in_bounds { i + 8 ≤ length a.now }
-    requires i_in_bounds_2 { i + 8 ≤ length b.now }
+    requires in_a { i + 8 ≤ length a.now }
+    requires in_b { i + 8 ≤ length b.now }
     ensures { (result ≡ 0) ↔ Alike (words_by op a.now b.now) 0 i (i + 8) }
 {
     let mut some = 0;

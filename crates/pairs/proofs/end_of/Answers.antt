@@ -3,10 +3,10 @@ use borrow.Author.Rules.{rules}
 use Rattle.pairs.proofs.end_of.Goals as goal
 
 pub returns-in-And : goal.returns-in-And
-returns-in-And c = rw c.enum_told-1.given.1 c.min.ensures
+returns-in-And c = rw c.in-And.is c.min.ensures
 
 pub returns-in-Or : goal.returns-in-Or
-returns-in-Or c = rw c.enum_told-in-Or-1.given.1 c.max.ensures
+returns-in-Or c = rw c.in-Or.is c.max.ensures
 
 pub returns-in-Xor : goal.returns-in-Xor
-returns-in-Xor c = rw c.enum_told-in-Xor-1.given.1 c.max-in-Xor.ensures
+returns-in-Xor c = rw c.in-Xor.is c.max-in-Xor.ensures

@@ -14,9 +14,6 @@ use Rattle.pairs.proofs.zero_eights.Goals as goal
 pub loop-k-init : goal.loop-k-init
 loop-k-init c = (omega arith, omega arith, omega arith, alike_none _ _ _ _ (omega arith))
 
-pub some_in_eight-requires : goal.some_in_eight-requires
-some_in_eight-requires c = (omega arith, omega arith)
-
 pub returns-then-some_in_eight-ne0 : goal.returns-then-some_in_eight-ne0
 returns-then-some_in_eight-ne0 c =
     let l = c.loop-k.invariant in

@@ -14,9 +14,6 @@ returns-then-end-min c = (omega arith, alike_none _ _ _ _ (omega arith))
 pub loop-end-init : goal.loop-end-init
 loop-end-init c = (omega arith, omega arith, omega arith, alike_none _ _ _ _ (omega arith))
 
-pub some_in_eight-requires : goal.some_in_eight-requires
-some_in_eight-requires c = (omega arith, omega arith)
-
 pub returns-then-some_in_eight-ne0 : goal.returns-then-some_in_eight-ne0
 returns-then-some_in_eight-ne0 c = (omega arith, c.loop-end.invariant.3)
 

@@ -5,13 +5,13 @@ use borrow.Author.Rules.{rules}
 use Rattle.pairs.proofs.SetOp.word.Goals as goal
 
 pub returns-in-And : goal.returns-in-And
-returns-in-And c = rw c.enum_told-1.given.1 (by_and _ _ (omega arith) (omega arith))
+returns-in-And c = rw c.in-And.is (by_and _ _ (omega arith) (omega arith))
 
 pub returns-in-AndNot : goal.returns-in-AndNot
-returns-in-AndNot c = rw c.enum_told-in-AndNot-1.given.1 (by_andnot _ _ (omega arith) (omega arith))
+returns-in-AndNot c = rw c.in-AndNot.is (by_andnot _ _ (omega arith) (omega arith))
 
 pub returns-in-Or : goal.returns-in-Or
-returns-in-Or c = rw c.enum_told-in-Or-1.given.1 (by_or _ _ (omega arith) (omega arith))
+returns-in-Or c = rw c.in-Or.is (by_or _ _ (omega arith) (omega arith))
 
 pub returns-in-Xor : goal.returns-in-Xor
-returns-in-Xor c = rw c.enum_told-in-Xor-1.given.1 (by_xor _ _ (omega arith) (omega arith))
+returns-in-Xor c = rw c.in-Xor.is (by_xor _ _ (omega arith) (omega arith))
