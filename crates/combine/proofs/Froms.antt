@@ -19,7 +19,7 @@ use Rattle.storage.specs.declared.Refusal.TheVariants.{NoSpace}
 use Rattle.storage.specs.declared.Change.{Change}
 use Rattle.storage.specs.declared.Change.TheVariants.{Refused}
 use Rattle.storage.proofs.Stores.{outcome_ok}
-use Rattle.storage.proofs.Combined.{madeWords, fewest_words, all_words, all_hold, zeroed-put, put_leaves, put_lacks}
+use Rattle.storage.proofs.Combined.{madeWords, fewest_words, all_words_lem, all_hold, zeroed-put, put_leaves, put_lacks}
 use Rattle.combine.specs.Combine.{combining_from, uniting_from, beside_both}
 use Rattle.combine.specs.Kernels.{Finished}
 use Rattle.combine.proofs.Guards.{both_ok}
@@ -86,7 +86,7 @@ module _ (ws left right : List ℕ) (b l r : Bitmap) (p : PassedThree ws b left 
     comes_union : (a : Change) (ws' : List ℕ) → Leaves (within (length ws) (view (madeWords Or left l right r) m)) ws b a ws'
         → Changes (beside_both left l right r uniting_from) ws b a ws'
     unfolding uniting_from
-    comes_union a ws' = comes_to uniting_from (view (madeWords Or left l right r) m) (ap (within (length ws)) (all_words Or left l right r read m e))
+    comes_union a ws' = comes_to uniting_from (view (madeWords Or left l right r) m) (ap (within (length ws)) (all_words_lem Or left l right r read m e))
 
     pub union-refused : length ws < m → Changes (beside_both left l right r uniting_from) ws b (Refused NoSpace b) ws
     union-refused h = comes_union (Refused NoSpace b) ws (put_lacks (madeWords Or left l right r) ws b m h)

@@ -24,7 +24,7 @@ use Rattle.storage.specs.declared.Change.{Change}
 use Rattle.storage.specs.declared.Change.TheVariants.{Done, Refused}
 use Rattle.storage.proofs.Checks.{beside_ok}
 use Rattle.storage.proofs.Stores.{outcome_ok, length-zeroed, zeroed_in, zeroed_out, zeroed_fit}
-use Rattle.storage.proofs.Combined.{madeWords, fewest_words, all_words, all_hold, put_leaves, put_lacks}
+use Rattle.storage.proofs.Combined.{madeWords, fewest_words, all_words_lem, all_hold, put_leaves, put_lacks}
 use Rattle.setops.specs.Setops.{combining, uniting}
 
 -- a store that has grown to m words, zipped with the other's: its first m words are those that the operation makes
@@ -173,7 +173,7 @@ module _ (ws os : List ℕ) (b o : Bitmap) (p : PassedTwo ws b os o) where
   module _ (end : ℕ) (ee : end ≡ max n o.count) where
     union-changes : {a : Change} {ws' : List ℕ} → Leaves (within (length ws) (view (madeWords Or ws b os o) end)) ws b a ws' → Changes (beside os o uniting) ws b a ws'
     unfolding uniting
-    union-changes = comes_to uniting (view (madeWords Or ws b os o) end) (ap (within (length ws)) (all_words Or ws b os o p end ee))
+    union-changes = comes_to uniting (view (madeWords Or ws b os o) end) (ap (within (length ws)) (all_words_lem Or ws b os o p end ee))
 
     pub union-refused : length ws < end → Changes (beside os o uniting) ws b (Refused NoSpace b) ws
     union-refused h = union-changes (put_lacks (madeWords Or ws b os o) ws b end h)

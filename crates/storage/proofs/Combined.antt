@@ -141,9 +141,9 @@ module _ (op : SetOp) (ws : List ℕ) (b : Bitmap) (os : List ℕ) (o : Bitmap) 
       ap trimmed (combined_words op ws os b.count o.count p.own.inside p.other.inside)
       ∙ trimmed-all (madeWords op ws b os o) (by_fit op (take b.count ws) (take o.count os))
 
-  pub all_words : (m : ℕ) → m ≡ max b.count o.count → combined op (held ws b) (held os o) ≡ view (madeWords op ws b os o) m
+  pub all_words_lem : (m : ℕ) → m ≡ max b.count o.count → combined op (held ws b) (held os o) ≡ view (madeWords op ws b os o) m
   unfolding all_words
-  all_words m e =
+  all_words_lem m e =
       combined_words op ws os b.count o.count p.own.inside p.other.inside
       ∙ ap (view (madeWords op ws b os o)) (by_length op (take b.count ws) (take o.count os)
       ∙ ap₂ max (length-take-le b.count ws p.own.inside) (length-take-le o.count os p.other.inside) ∙ sym e)

@@ -1,6 +1,8 @@
 // A bitmap is a lent store of words and a record of how many of them are in use. Growth zeroes the words that come into use.
 //
 // The types here are those that every crate above shares.
+#![tactic(auto)]
+
 ghost use Rattle.std.specs.Prelude.{◌≡◌};
 ghost use Rattle.storage.specs.Refusals.{number_of};
 ghost use Rattle.storage.specs.Stores.{checked, zeroed};

@@ -1,0 +1,11 @@
+-- The first store's refusal, and where it has none what is found of the second.
+use mathlib.Core.Path.{sym, ◌∙◌}
+use borrow.Author.Rules.{rules}
+use Rattle.storage.proofs.Checks.{guard_stops, guard_goes_on}
+use Rattle.storage.proofs.check_two.Goals as goal
+
+pub returns-in-Stop : goal.returns-in-Stop
+returns-in-Stop c = guard_stops _ _ _ _ (sym c.in-Stop.is ∙ c.check.ensures)
+
+pub returns : goal.returns
+returns c = guard_goes_on _ _ _ (sym c.in-Pass.is ∙ c.check.ensures) c.check-2.ensures
