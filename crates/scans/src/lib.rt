@@ -1,6 +1,8 @@
 // Searches within the words in use: the first and the last set bit, the first clear one, the next of either from a place on; and the number of set bits.
 //
 // Each call looks at its store first: 1, then 2.
+#![tactic(auto)]
+
 ghost use Rattle.std.specs.Prelude.{◌≡◌, ◌+◌};
 ghost use Rattle.storage.specs.Stores.{reading, size, next_from};
 ghost use Rattle.scans.specs.Searches.{last_set, next_clear};

@@ -1,6 +1,8 @@
 // Reading calls and strict fields within the words in use: single bits, fields and equality.
 //
 // A read past the end gives zeros. Each call on a bitmap looks at its store first: 1, then 2.
+#![tactic(auto)]
+
 ghost use Rattle.std.specs.Prelude.{◌≡◌, ◌+◌, ◌<◌, length, get_or, set};
 ghost use Rattle.storage.specs.Stores.{reading, reading_both, Changes};
 ghost use Rattle.slice.specs.Slices.{front_part, equal, field_at, setting_field_inside};

@@ -1,0 +1,22 @@
+-- The guard, then the number of set bits in the words in use, which are too few for the count to wrap.
+use mathlib.Core.Path.{sym, ap, ◌∙◌}
+use borrow.Author.Rules.{rules}
+use lib.Seq.{length-take-le}
+use Rattle.storage.specs.Guards.{Passed}
+use Rattle.storage.proofs.Checks.{passed, reading_is, reading_stopped}
+use Rattle.scans.proofs.Scans.{count_is}
+use Rattle.storage.specs.declared.Amount.{Amount}
+use Rattle.scans.proofs.count_set_bits.Goals as goal
+
+-- the guard has let the store pass
+ok : (c : tie.After-enum-told) → Passed c.before.before.before.before.args.words.now c.before.before.before.before.args.b
+ok c = passed _ _ (sym c.enum_told.given.1 ∙ c.before.before.check.ensures)
+
+pub returns-in-Stop : goal.returns-in-Stop
+returns-in-Stop c = sym (reading_stopped _ _ _ _ _ (sym c.in-Stop.is ∙ c.check.ensures))
+
+pub slice_bounds-count_set_bits-end : goal.slice_bounds-count_set_bits-end
+slice_bounds-count_set_bits-end c = sym (length-take-le _ _ (ok c).inside)
+
+pub returns : goal.returns
+returns c = reading_is _ _ _ _ _ (ok c) (ap Amount.Is (count_is _ _ _ (ok c) c.count_set_bits-count.ensures))
