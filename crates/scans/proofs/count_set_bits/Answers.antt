@@ -8,15 +8,17 @@ use Rattle.scans.proofs.Scans.{count_is}
 use Rattle.storage.specs.declared.Amount.{Amount}
 use Rattle.scans.proofs.count_set_bits.Goals as goal
 
--- the guard has let the store pass
-ok : (c : tie.After-enum-told) → Passed c.before.before.before.before.args.words.now c.before.before.before.before.args.b
-ok c = passed _ _ (sym c.enum_told.given.1 ∙ c.before.before.check.ensures)
-
 pub returns-in-Stop : goal.returns-in-Stop
 returns-in-Stop c = sym (reading_stopped _ _ _ _ _ (sym c.in-Stop.is ∙ c.check.ensures))
 
 pub slice_bounds-count_set_bits-end : goal.slice_bounds-count_set_bits-end
-slice_bounds-count_set_bits-end c = sym (length-take-le _ _ (ok c).inside)
+slice_bounds-count_set_bits-end c =
+    let ok : Passed c.args.words.now c.args.b =
+      passed _ _ (sym c.in-Pass.is ∙ c.check.ensures) in
+    sym (length-take-le _ _ ok.inside)
 
 pub returns : goal.returns
-returns c = reading_is _ _ _ _ _ (ok c) (ap Amount.Is (count_is _ _ _ (ok c) c.count_set_bits-count.ensures))
+returns c =
+    let ok : Passed c.args.words.now c.args.b =
+      passed _ _ (sym c.in-Pass.is ∙ c.check.ensures) in
+    reading_is _ _ _ _ _ ok (ap Amount.Is (count_is _ _ _ ok c.count_set_bits-count.ensures))

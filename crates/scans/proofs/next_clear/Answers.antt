@@ -8,80 +8,101 @@ use Rattle.scans.proofs.Scans.{zeros-le, other_found, none_found, clear_here, cl
 use Rattle.storage.specs.declared.Amount.{Amount}
 use Rattle.scans.proofs.next_clear.Goals as goal
 
--- the guard has let the store pass
-ok : (c : tie.After-enum-told) → Passed c.before.before.before.before.args.words.now c.before.before.before.before.args.b
-ok c = passed _ _ (sym c.enum_told.given.1 ∙ c.before.before.check.ensures)
-
 pub returns-in-Stop : goal.returns-in-Stop
 returns-in-Stop c = sym (reading_stopped _ _ _ _ _ (sym c.in-Stop.is ∙ c.check.ensures))
 
 pub returns-then-k-n : goal.returns-then-k-n
-returns-then-k-n c = reading_is _ _ _ _ _ (ok c) (ap Amount.Is (clear_past _ _ _ (omega arith)))
+returns-then-k-n c =
+    let ok : Passed c.args.words.now c.args.b =
+      passed _ _ (sym c.in-Pass.is ∙ c.check.ensures) in
+    reading_is _ _ _ _ _ ok (ap Amount.Is (clear_past _ _ _ (omega arith)))
 
 pub bounds-words-k : goal.bounds-words-k
-bounds-words-k c = omega (arith, ok c)
+bounds-words-k c =
+    let ok : Passed c.args.words.now c.args.b =
+      passed _ _ (sym c.in-Pass.is ∙ c.check.ensures) in
+    omega (arith, ok)
 
 pub overflow_add-result : goal.overflow_add-result
-overflow_add-result c = omega (arith, zeros-le _ _ c.trailing_zeros.ensures, ok c)
+overflow_add-result c =
+    let ok : Passed c.args.words.now c.args.b =
+      passed _ _ (sym c.in-Pass.is ∙ c.check.ensures) in
+    omega (arith, zeros-le _ _ c.trailing_zeros.ensures, ok)
 
 pub returns-then-t-ne0 : goal.returns-then-t-ne0
 returns-then-t-ne0 c =
-    reading_is _ _ _ _ _ (ok c)
+    let ok : Passed c.args.words.now c.args.b =
+      passed _ _ (sym c.in-Pass.is ∙ c.check.ensures) in
+    reading_is _ _ _ _ _ ok
     (ap Amount.Is (clear_here _ _ _ (λ k. omega (arith, c.shared_slice_known-1.given k))
     (omega arith) _ c.if-t-ne0.true c.trailing_zeros.ensures))
 
 pub slice_bounds-first_not_ones-end : goal.slice_bounds-first_not_ones-end
-slice_bounds-first_not_ones-end c = omega (arith, ok c)
+slice_bounds-first_not_ones-end c =
+    let ok : Passed c.args.words.now c.args.b =
+      passed _ _ (sym c.in-Pass.is ∙ c.check.ensures) in
+    omega (arith, ok)
 
 pub overflow_add-result-in-At : goal.overflow_add-result-in-At
 overflow_add-result-in-At c =
+    let ok : Passed c.args.words.now c.args.b =
+      passed _ _ (sym c.in-Pass.is ∙ c.check.ensures) in
     omega (
       arith,
-      other_found _ _ _ _ _ _ (ok c).inside
+      other_found _ _ _ _ _ _ ok.inside
           (sym c.in-At.is ∙ c.first_not_ones.ensures),
-      ok
-          c,
+      ok,
     )
 
 pub overflow_mul-result-in-At : goal.overflow_mul-result-in-At
 overflow_mul-result-in-At c =
+    let ok : Passed c.args.words.now c.args.b =
+      passed _ _ (sym c.in-Pass.is ∙ c.check.ensures) in
     omega (
       arith,
-      other_found _ _ _ _ _ _ (ok c).inside
+      other_found _ _ _ _ _ _ ok.inside
           (sym c.in-At.is ∙ c.first_not_ones.ensures),
-      ok
-          c,
+      ok,
     )
 
 pub overflow_add-result-in-At-2 : goal.overflow_add-result-in-At-2
 overflow_add-result-in-At-2 c =
+    let ok : Passed c.args.words.now c.args.b =
+      passed _ _ (sym c.in-Pass.is ∙ c.check.ensures) in
     omega (
       arith,
-      other_found _ _ _ _ _ _ (ok c).inside
+      other_found _ _ _ _ _ _ ok.inside
           (sym c.in-At.is ∙ c.first_not_ones.ensures),
       zeros-le _ _
           c.trailing_zeros-in-At.ensures,
-      ok c,
+      ok,
     )
 
 pub overflow_mul-result-in-Nothing : goal.overflow_mul-result-in-Nothing
-overflow_mul-result-in-Nothing c = omega (arith, ok c)
+overflow_mul-result-in-Nothing c =
+    let ok : Passed c.args.words.now c.args.b =
+      passed _ _ (sym c.in-Pass.is ∙ c.check.ensures) in
+    omega (arith, ok)
 
 pub returns-in-At : goal.returns-in-At
 returns-in-At c =
-    reading_is _ _ _ _ _ (ok c)
+    let ok : Passed c.args.words.now c.args.b =
+      passed _ _ (sym c.in-Pass.is ∙ c.check.ensures) in
+    reading_is _ _ _ _ _ ok
     (ap Amount.Is (clear_after _ _ _
     (λ k. omega (arith, c.shared_slice_known-1.given k))
-    (omega arith) (ok c).inside _ _ _
+    (omega arith) ok.inside _ _ _
     c.if-t-ne0.false
-    (other_found _ _ _ _ _ _ (ok c).inside
+    (other_found _ _ _ _ _ _ ok.inside
     (sym c.in-At.is ∙ c.first_not_ones.ensures)) c.trailing_zeros-in-At.ensures))
 
 pub returns-in-Nothing : goal.returns-in-Nothing
 returns-in-Nothing c =
-    reading_is _ _ _ _ _ (ok c)
+    let ok : Passed c.args.words.now c.args.b =
+      passed _ _ (sym c.in-Pass.is ∙ c.check.ensures) in
+    reading_is _ _ _ _ _ ok
     (ap Amount.Is (clear_none _ _ _
     (λ k. omega (arith, c.shared_slice_known-1.given k))
-    (omega arith) (ok c).inside c.if-t-ne0.false
-    (none_found _ _ _ _ (ok c).inside
+    (omega arith) ok.inside c.if-t-ne0.false
+    (none_found _ _ _ _ ok.inside
     (sym c.in-Nothing.is ∙ c.first_not_ones.ensures))))

@@ -9,25 +9,27 @@ use Rattle.storage.proofs.Checks.{passed_two, both_ok, both_stopped}
 use Rattle.slice.proofs.Equals.{equal-not, equal_is}
 use Rattle.slice.proofs.eq.Goals as goal
 
--- the guard has let both stores pass
-ok : (c : tie.After-enum-told)
-    → PassedTwo c.before.before.before.before.before.args.words.now c.before.before.before.before.before.args.b
-    c.before.before.before.before.before.args.other.now c.before.before.before.before.before.args.o
-ok c = passed_two _ _ _ _ (sym c.enum_told.given.1 ∙ c.before.before.check-two.ensures)
-
 pub returns-in-Stop : goal.returns-in-Stop
 returns-in-Stop c = sym (both_stopped _ _ _ _ _ _ _ (sym c.in-Stop.is ∙ c.check_two.ensures))
 
 pub slice_bounds-trimmed-end : goal.slice_bounds-trimmed-end
-slice_bounds-trimmed-end c = sym (length-take-le _ _ (ok c).own.inside)
+slice_bounds-trimmed-end c =
+    let ok : PassedTwo c.args.words.now c.args.b c.args.other.now c.args.o =
+      passed_two _ _ _ _ (sym c.in-Pass.is ∙ c.check_two.ensures) in
+    sym (length-take-le _ _ ok.own.inside)
 
 pub slice_bounds-trimmed-end-2 : goal.slice_bounds-trimmed-end-2
-slice_bounds-trimmed-end-2 c = sym (length-take-le _ _ (ok c).other.inside)
+slice_bounds-trimmed-end-2 c =
+    let ok : PassedTwo c.args.words.now c.args.b c.args.other.now c.args.o =
+      passed_two _ _ _ _ (sym c.in-Pass.is ∙ c.check_two.ensures) in
+    sym (length-take-le _ _ ok.other.inside)
 
 -- the front parts have another length
 pub returns-then-x-y : goal.returns-then-x-y
 returns-then-x-y c =
-    let p = ok c in
+    let ok : PassedTwo c.args.words.now c.args.b c.args.other.now c.args.o =
+      passed_two _ _ _ _ (sym c.in-Pass.is ∙ c.check_two.ensures) in
+    let p = ok in
     ap Truth.Is
     (equal-not _ _ _ _ p.own.inside p.other.inside _ _ c.trimmed-x.ensures c.trimmed-y.ensures
     (λ k. omega (arith, c.shared_slice_known-1.given k))
@@ -36,6 +38,8 @@ returns-then-x-y c =
 
 pub returns : goal.returns
 returns c =
-    let p = ok c in
+    let ok : PassedTwo c.args.words.now c.args.b c.args.other.now c.args.o =
+      passed_two _ _ _ _ (sym c.in-Pass.is ∙ c.check_two.ensures) in
+    let p = ok in
     let e = equal_is _ _ _ _ p.own.inside p.other.inside _ _ c.trimmed-x.ensures c.trimmed-y.ensures in
     ap Truth.Is (c.is_zero.ensures ∙ e) ∙ sym (both_ok _ _ _ _ _ _ p)

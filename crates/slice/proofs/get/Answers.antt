@@ -9,18 +9,23 @@ use Rattle.storage.specs.declared.Truth.{Truth}
 use Rattle.storage.proofs.Views.{view_out}
 use Rattle.slice.proofs.get.Goals as goal
 
--- the guard has let the store pass
-ok : (c : tie.After-enum-told) → Passed c.before.before.before.before.args.words.now c.before.before.before.before.args.b
-ok c = passed _ _ (sym c.enum_told.given.1 ∙ c.before.before.check.ensures)
-
 pub returns-in-Stop : goal.returns-in-Stop
 returns-in-Stop c = sym (reading_stopped _ _ _ _ _ (sym c.in-Stop.is ∙ c.check.ensures))
 
 pub returns-then-k-n : goal.returns-then-k-n
-returns-then-k-n c = reading_is _ _ _ _ _ (ok c) (ap Truth.Is (sym (view_out _ _ _ (omega arith))))
+returns-then-k-n c =
+    let ok : Passed c.args.words.now c.args.b =
+      passed _ _ (sym c.in-Pass.is ∙ c.check.ensures) in
+    reading_is _ _ _ _ _ ok (ap Truth.Is (sym (view_out _ _ _ (omega arith))))
 
 pub bounds-words-k : goal.bounds-words-k
-bounds-words-k c = omega (arith, ok c)
+bounds-words-k c =
+    let ok : Passed c.args.words.now c.args.b =
+      passed _ _ (sym c.in-Pass.is ∙ c.check.ensures) in
+    omega (arith, ok)
 
 pub returns : goal.returns
-returns c = reading_is _ _ _ _ _ (ok c) (ap Truth.Is (bit_of_lem _ _ _ (omega arith)))
+returns c =
+    let ok : Passed c.args.words.now c.args.b =
+      passed _ _ (sym c.in-Pass.is ∙ c.check.ensures) in
+    reading_is _ _ _ _ _ ok (ap Truth.Is (bit_of_lem _ _ _ (omega arith)))

@@ -8,26 +8,33 @@ use Rattle.storage.proofs.Checks.{passed, reading_is, reading_stopped}
 use Rattle.slice.proofs.Fields.{field-wide, field_is}
 use Rattle.slice.proofs.get_field.Goals as goal
 
--- the guard has let the store pass
-ok : (c : tie.After-enum-told) → Passed c.before.before.before.before.args.words.now c.before.before.before.before.args.b
-ok c = passed _ _ (sym c.enum_told.given.1 ∙ c.before.before.check.ensures)
-
 pub returns-in-Stop : goal.returns-in-Stop
 returns-in-Stop c = sym (reading_stopped _ _ _ _ _ (sym c.in-Stop.is ∙ c.check.ensures))
 
 pub returns-then-width-gt64 : goal.returns-then-width-gt64
-returns-then-width-gt64 c = reading_is _ _ _ _ _ (ok c) (field-wide _ _ _ c.if-width-gt64.true)
+returns-then-width-gt64 c =
+    let ok : Passed c.args.words.now c.args.b =
+      passed _ _ (sym c.in-Pass.is ∙ c.check.ensures) in
+    reading_is _ _ _ _ _ ok (field-wide _ _ _ c.if-width-gt64.true)
 
 pub slice_bounds-word_at-end : goal.slice_bounds-word_at-end
-slice_bounds-word_at-end c = sym (length-take-le _ _ (ok c).inside)
+slice_bounds-word_at-end c =
+    let ok : Passed c.args.words.now c.args.b =
+      passed _ _ (sym c.in-Pass.is ∙ c.check.ensures) in
+    sym (length-take-le _ _ ok.inside)
 
 pub slice_bounds-word_at-end-2 : goal.slice_bounds-word_at-end-2
-slice_bounds-word_at-end-2 c = sym (length-take-le _ _ (ok c).inside)
+slice_bounds-word_at-end-2 c =
+    let ok : Passed c.args.words.now c.args.b =
+      passed _ _ (sym c.in-Pass.is ∙ c.check.ensures) in
+    sym (length-take-le _ _ ok.inside)
 
 pub returns : goal.returns
 returns c =
-    reading_is _ _ _ _ _ (ok c)
+    let ok : Passed c.args.words.now c.args.b =
+      passed _ _ (sym c.in-Pass.is ∙ c.check.ensures) in
+    reading_is _ _ _ _ _ ok
     (field_is _ _ _ _ _ _ _ _
     (λ k. omega (arith, c.shared_slice_known-1.given k))
-    (ok c).inside (omega arith) c.word_at-lo.ensures
+    ok.inside (omega arith) c.word_at-lo.ensures
     c.word_at-hi.ensures c.funnel-from.ensures c.low_mask.ensures)
