@@ -67,6 +67,40 @@ class Names:
                     return n, self.asked[at][0] if at < len(self.asked) else None
         return None, None
 
+    def arm(self, place, rest):
+        """A fact of a match's arm under its name there."""
+        given = self.given.get("arms", [])
+        while place is not None and place in self.by_old:
+            at = self.places.index(self.by_old[place])
+            a = given[at] if at < len(given) else None
+            if a:
+                best = None
+                for field, step, path in a[2]:
+                    if norm(step) == norm(rest[0]) and rest[1 : 1 + len(path)] == path and (path or not field.endswith("-own")):
+                        if best is None or len(path) > len(best[1]):
+                            best = field, path
+                if best:
+                    return [a[0], best[0]] + rest[1 + len(best[1]) :]
+            place = self.by_old[place][1]
+        return None
+
+    def muts(self, place):
+        """The `&mut` parameters of the function that was called at a place."""
+        callee = self.by_old[place][3] if place in self.by_old else None
+        if not callee or "::" not in callee:
+            return []
+        crate, rest = callee.split("::", 1)
+        folder = os.path.join("crates", crate, "src")
+        if not os.path.isdir(folder):
+            return []
+        name = rest.split("::")[-1]
+        for base, _, files in os.walk(folder):
+            for f in files:
+                m = re.search(rf"\bfn {name}(?:<[^>]*>)?\(([^)]*)\)", open(os.path.join(base, f), encoding="utf-8").read())
+                if m:
+                    return [a.split(":")[0].strip().split()[-1] for a in m[1].split(",") if "&mut" in a]
+        return []
+
     def clause_fields(self, place):
         at = next((i for i, p in enumerate(self.places) if p[0] == place), None)
         given = self.given["clauses"]
@@ -83,6 +117,12 @@ STEP = re.compile(r"\b(c|b|s)((?:\.before)*)((?:\.[^\s().,;{}\[\]]+)*)")
 
 def path(names, place, text, var="c"):
     """Today's path of a fact, from the place where a need is asked."""
+    while True:
+        # a variable that stands for c or a place before it
+        m = re.search(r"let (\S+) = (c(?:\.before)*) in\s*", text)
+        if not m:
+            break
+        text = text[: m.start()] + re.sub(rf"(?<![\w'.-]){re.escape(m[1])}(?![\w'-])", m[2], text[m.end() :])
 
     def one(m):
         if m[1] != var:
@@ -92,8 +132,11 @@ def path(names, place, text, var="c"):
             at = names.by_old[at][1] if at in names.by_old else None
         rest = m[3].split(".")[1:]
         if not rest:
-            return m[0] if not m[2] else m[0] + "⟦" + str(at) + "⟧"
+            return var
         step = rest[0]
+        arm = names.arm(at, rest) or names.arm(place, rest)
+        if arm:
+            return var + "." + ".".join(arm)
         new = fields = None
         look = at
         while look is not None and look in names.by_old:
@@ -114,6 +157,10 @@ def path(names, place, text, var="c"):
                 look = p[1]
         if new is not None:
             rest[0] = new
+            if len(rest) > 2 and rest[1] == "new" and rest[2].isdigit():
+                muts = names.muts(look)
+                if int(rest[2]) < len(muts):
+                    rest[2] = muts[int(rest[2])]
             if fields and len(rest) > 1 and rest[1] == "ensures":
                 if len(rest) > 2 and rest[2].isdigit() and int(rest[2]) < len(fields):
                     rest[2] = fields[int(rest[2])]
@@ -124,7 +171,8 @@ def path(names, place, text, var="c"):
     return STEP.sub(one, text)
 
 
-TRIVIAL = re.compile(r"^\S+ c(?: κs)? =\s*(?:search rules|omega arith|refl|tt|grind arith)$", re.S)
+ONE = r"(?:search rules|omega arith|refl|tt|grind arith)"
+TRIVIAL = re.compile(rf"^\S+ c(?: κs)? =\s*(?:{ONE}|\({ONE}(?:, {ONE})+\))$", re.S)
 
 
 def invariant(names, kind, loop, name, body):
@@ -155,12 +203,68 @@ def invariant(names, kind, loop, name, body):
     return f"abbrev pub {full} : goal.{full}\n{unf}{full} l ={rest}"
 
 
+def local(names, name, body):
+    """A lemma over the facts known at a place: (its type, its term, both with today's paths), for a `let` in each answer that cites it."""
+    m = re.match(rf"(?:abbrev )?{re.escape(name)} :\s*\(c : tie\.([^)\s]+)\)\s*→\s*", body)
+    if not m:
+        return None
+    place = next((p[0] for p in names.places if norm(p[0]) == norm(m[1])), None)
+    place = place or next((p[0] for p in names.places if norm(p[0]) == norm(re.sub(r"^Past-", "", m[1]))), None)
+    if place is None:
+        return None
+    rest = body[m.end():]
+    lines = rest.split("\n")
+    at = next(i for i, l in enumerate(lines) if i and not l[0].isspace())
+    kind = " ".join(l.strip() for l in lines[:at])
+    clauses = lines[at:]
+    unf = ""
+    while clauses[0].startswith("unfolding"):
+        unf += clauses.pop(0) + "\n"
+    if sum(1 for l in clauses if not l[0].isspace()) != 1:
+        return None
+    text = "\n".join(clauses)
+    m = re.match(rf"{re.escape(name)} c((?: [^\s=]+)*) =\s*", text)
+    if not m:
+        return None
+    term = text[m.end():]
+    if m[1]:
+        term = "λ" + m[1] + ". " + term
+    return path(names, place, kind), path(names, place, term), unf
+
+
+def with_locals(text, lemmas):
+    """An answer with a `let` for each lemma that it cites; lemmas are in their order."""
+    wanted = set()
+    todo = [text]
+    while todo:
+        t = todo.pop()
+        for n, (kind, term, unf) in lemmas.items():
+            if n not in wanted and re.search(rf"(?<![\w'.-]){re.escape(n)}\s+c\b", t):
+                wanted.add(n)
+                todo += [kind, term]
+    if not wanted:
+        return text, ""
+
+    def cut(t):
+        for n in wanted:
+            t = re.sub(rf"\(\s*{re.escape(n)}\s+c\s*\)", n, t)
+            t = re.sub(rf"(?<![\w'.-]){re.escape(n)}\s+c(?![\w'.])", n, t)
+        return t
+
+    m = re.match(r"(\S+ c(?: [^=\n]*?)? =)\s*", text)
+    if not m:
+        return text, ""
+    lets = "".join(f"    let {n} : {cut(lemmas[n][0])} =\n      {cut(lemmas[n][1])} in\n" for n in lemmas if n in wanted)
+    unf = "".join(lemmas[n][2] for n in lemmas if n in wanted)
+    return f"{m[1]}\n{lets}    {cut(text[m.end():])}", unf
+
+
 def turn(where, crate, f, names, keep):
     text = open(where, encoding="utf-8").read()
     head, decls = blocks(text)
     folder = os.path.dirname(where)
     uses = strip_tie([h for h in head])
-    invs, answers, notes = [], [], []
+    invs, answers, notes, lemmas = [], [], [], {}
     for name, lines in decls:
         comment = [l for l in lines if l.startswith("--")]
         lines = [l for l in lines if not l.startswith("--")]
@@ -177,6 +281,10 @@ def turn(where, crate, f, names, keep):
             old = m[1].rstrip(")")
             new, place = names.need(old)
             if new is None:
+                new, place = names.need(name)
+            if new is None and TRIVIAL.match(body.split("\n", 1)[1]):
+                continue
+            if new is None:
                 notes.append(f"no need {old}")
                 answers.append(comment + [f"-- LOST {old}", body])
                 continue
@@ -190,8 +298,16 @@ def turn(where, crate, f, names, keep):
                 continue
             clauses = clauses.replace(name + " ", new + " ", 1) if clauses.startswith(name + " ") else clauses
             clauses = path(names, place, clauses)
+            clauses, more = with_locals(clauses, lemmas)
+            unf += "".join(l for l in more.splitlines(True) if l not in unf)
             answers.append(comment + [f"pub {new} : goal.{new}", unf + clauses if unf else clauses])
             continue
+        if re.search(r"\(c : tie\.", body.split("\n", 1)[0] + body):
+            lemma = local(names, name, body)
+            if lemma:
+                lemmas[name] = lemma
+                continue
+            notes.append(f"lemma {name} over facts of a place")
         answers.append(comment + [body])
     mod = f"Rattle.{crate}.proofs.{f}"
     doc = [h for h in uses if h.startswith("--")]
