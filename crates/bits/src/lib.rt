@@ -1,4 +1,6 @@
 // Single-bit and whole-bitmap updates and counts within the length: toggle, complement, reverse, counts, rank and select.
+#![tactic(auto)]
+
 ghost use Rattle.std.specs.Prelude.{◌≡◌, not, suc, ◌+◌, ◌-◌, ◌*◌, ◌≤◌, ◌<◌, length, get_or};
 ghost use Rattle.word.specs.Sets.{count_below};
 ghost use Rattle.word.specs.Places.{bit, member, words_of};

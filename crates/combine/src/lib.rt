@@ -1,6 +1,8 @@
 // Set operations of two bitmaps into another store. What that store held before is discarded.
 //
 // Every call refuses for the store that is written, then for the two that are read. The words of the result are counted before one is written.
+#![tactic(auto)]
+
 mod kernels;
 
 ghost use Rattle.std.specs.Prelude.{◌≤◌, max, length};

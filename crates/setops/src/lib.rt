@@ -1,6 +1,8 @@
 // Set operations of a bitmap with another, in place.
 //
 // Every call refuses for its own store and then for the other's.
+#![tactic(auto)]
+
 ghost use Rattle.std.specs.Prelude.{◌≡◌, ◌≤◌, max, length, get_or, take};
 ghost use Rattle.pairs.specs.Pairs.{word_by, words_by, end_by};
 ghost use Rattle.pairs.specs.declared.SetOp.TheVariants.{And, AndNot, Xor};
