@@ -12,8 +12,8 @@ use word::Word;
 
 // The place of the lowest set bit from i on, in the word of i or in the next, or nothing.
 pub(crate) fn near(op: SetOp, a: &[u64], b: &[u64], i: usize) -> Found
-    requires a_len_bound { length a.now ≤ store_limit }
-    requires b_len_bound { length b.now ≤ store_limit }
+    requires a_short { length a.now ≤ store_limit }
+    requires b_short { length b.now ≤ store_limit }
     ensures { NextBelow (words_by op a.now b.now) i (i / 64 + 2) result }
 {
     let first = i / 64;
@@ -30,8 +30,8 @@ pub(crate) fn near(op: SetOp, a: &[u64], b: &[u64], i: usize) -> Found
 
 // The place of the lowest set bit from word `from` on, or nothing.
 pub(crate) fn far(op: SetOp, a: &[u64], b: &[u64], from: usize) -> Found
-    requires a_len_bound { length a.now ≤ store_limit }
-    requires b_len_bound { length b.now ≤ store_limit }
+    requires a_short { length a.now ≤ store_limit }
+    requires b_short { length b.now ≤ store_limit }
     ensures { NextBeyond (words_by op a.now b.now) from result }
 {
     let end = pairs::end_of(op, a.len(), b.len());

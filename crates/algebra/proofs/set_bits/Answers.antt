@@ -7,22 +7,6 @@ use Rattle.algebra.proofs.set_bits.Goals as goal
 pub loop-k-init : goal.loop-k-init
 loop-k-init c = (omega arith, count-start _)
 
-pub bounds-a-k : goal.bounds-a-k
-    tie.Need-shared-slice-read-word invariant-loop decreases-loop invariant-loop2 decreases-loop2 invariant-loop3 decreases-loop3
-shared-slice-read-word c = omega arith
-
-pub bounds-b-k : goal.bounds-b-k
-    tie.Need-shared-slice-read-word-2 invariant-loop decreases-loop invariant-loop2 decreases-loop2 invariant-loop3 decreases-loop3
-shared-slice-read-word-2 c = omega arith
-
-pub count_ones-requires : goal.count_ones-requires
-    tie.Need-count-ones-requires invariant-loop decreases-loop invariant-loop2 decreases-loop2 invariant-loop3 decreases-loop3
-count-ones-requires c κs = search rules
-
-pub wrapping_add_usize-sum-requires : goal.wrapping_add_usize-sum-requires
-    tie.Need-wrapping-add-usize-requires invariant-loop decreases-loop invariant-loop2 decreases-loop2 invariant-loop3 decreases-loop3
-wrapping-add-usize-requires c κs = search rules
-
 pub loop-k-preserved : goal.loop-k-preserved
 loop-k-preserved c =
     let s = c.loop-k.invariant.1 in
@@ -30,18 +14,6 @@ loop-k-preserved c =
 
 pub loop-k-2-init : goal.loop-k-2-init
 loop-k-2-init c = (omega arith, omega arith, c.loop-k.invariant.1)
-
-pub bounds-a-k-in-loop-k-2 : goal.bounds-a-k-in-loop-k-2
-    tie.Need-shared-slice-read-word-3 invariant-loop decreases-loop invariant-loop2 decreases-loop2 invariant-loop3 decreases-loop3
-shared-slice-read-word-3 c = omega arith
-
-pub count_ones-requires-in-loop-k-2 : goal.count_ones-requires-in-loop-k-2
-    tie.Need-count-ones-requires-2 invariant-loop decreases-loop invariant-loop2 decreases-loop2 invariant-loop3 decreases-loop3
-count-ones-requires-2 c κs = search rules
-
-pub wrapping_add_usize-sum-requires-in-loop-k-2 : goal.wrapping_add_usize-sum-requires-in-loop-k-2
-    tie.Need-wrapping-add-usize-requires-2 invariant-loop decreases-loop invariant-loop2 decreases-loop2 invariant-loop3 decreases-loop3
-wrapping-add-usize-requires-2 c κs = search rules
 
 pub loop-k-2-preserved : goal.loop-k-2-preserved
 loop-k-2-preserved c =
@@ -51,18 +23,6 @@ loop-k-2-preserved c =
 
 pub loop-k-3-init : goal.loop-k-3-init
 loop-k-3-init c = (omega arith, omega arith, c.loop-k-2.invariant.2)
-
-pub bounds-b-k-in-loop-k-3 : goal.bounds-b-k-in-loop-k-3
-    tie.Need-shared-slice-read-word-4 invariant-loop decreases-loop invariant-loop2 decreases-loop2 invariant-loop3 decreases-loop3
-shared-slice-read-word-4 c = omega arith
-
-pub count_ones-requires-in-loop-k-3 : goal.count_ones-requires-in-loop-k-3
-    tie.Need-count-ones-requires-3 invariant-loop decreases-loop invariant-loop2 decreases-loop2 invariant-loop3 decreases-loop3
-count-ones-requires-3 c κs = search rules
-
-pub wrapping_add_usize-sum-requires-in-loop-k-3 : goal.wrapping_add_usize-sum-requires-in-loop-k-3
-    tie.Need-wrapping-add-usize-requires-3 invariant-loop decreases-loop invariant-loop2 decreases-loop2 invariant-loop3 decreases-loop3
-wrapping-add-usize-requires-3 c κs = search rules
 
 pub loop-k-3-preserved : goal.loop-k-3-preserved
 loop-k-3-preserved c =

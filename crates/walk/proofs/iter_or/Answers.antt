@@ -27,7 +27,7 @@ pub near-requires : goal.near-requires
 near-requires c =
     let ok : let a = c.args in PassedTwo a.words.now a.b a.other.now a.o =
       passed_two _ _ _ _ (sym c.in-Pass.is ∙ c.check_two.ensures) in
-    (part_short _ _ ok.own, part_short _ _ ok.other)
+    record { a_short = part_short _ _ ok.own; b_short = part_short _ _ ok.other }
 
 pub slice_bounds-far-end : goal.slice_bounds-far-end
 slice_bounds-far-end c =
@@ -45,7 +45,7 @@ pub far-requires : goal.far-requires
 far-requires c =
     let ok : let a = c.args in PassedTwo a.words.now a.b a.other.now a.o =
       passed_two _ _ _ _ (sym c.in-Pass.is ∙ c.check_two.ensures) in
-    (part_short _ _ ok.own, part_short _ _ ok.other)
+    record { a_short = part_short _ _ ok.own; b_short = part_short _ _ ok.other }
 
 pub returns-in-Nothing : goal.returns-in-Nothing
 returns-in-Nothing c =
