@@ -1,4 +1,6 @@
 // Calls that grow and trim a bitmap.
+#![tactic(auto)]
+
 ghost use Rattle.std.specs.Prelude.{◌≡◌, ◌≤◌, ◌<◌, length};
 ghost use Rattle.storage.specs.Stores.{Changes};
 ghost use Rattle.bitmaps.specs.Bitmaps.{trimming, setting, unsetting, setting_many, setting_region};

@@ -101,8 +101,8 @@ module _ (b : Bits) (h : Bounded b) where
   inside : (m : ℕ) → b.members m ≡ true → m < 64 * b.count
   inside m e = by_lt m (64 * b.count) (λ q. q) (λ q. absurd (false≢true (sym (h.past m q) ∙ e)))
 
-  top_of : (m : ℕ) → IsTop b m → top_of b ≡ suc m
-  top_of m r =
+  top_of_lem : (m : ℕ) → IsTop b m → top_of b ≡ suc m
+  top_of_lem m r =
       top_is b.members (64 * b.count) (suc m)
       (record {
         within = inside m r.here;
@@ -176,7 +176,7 @@ raises k = record {
               by_lt m k
               (λ q. absurd (false≢true (sym (moved_in k b.members m q) ∙ r)))
               (λ q. (m - k, sym (moved_up_lem k b.members m q) ∙ r, omega arith));
-          count = λ m r. (omega (arith, top_of b h m r), raised_words k m b (top_of b h m r));
+          count = λ m r. (omega (arith, top_of_lem b h m r), raised_words k m b (top_of_lem b h m r));
           nothing = λ n. absurd (z (none_of b h n));
         })))
 

@@ -1,5 +1,7 @@
 // Shifts and rotations of the words in use, within their length, in place. Whole words, odd bits and what these leave of 64 are worked out ahead of
 // the walk, and a step makes one word of two neighbours; where there are no odd bits, `moves` moves the words.
+#![tactic(auto)]
+
 ghost use Rattle.std.specs.Prelude.{◌≡◌, ◌+◌, ◌*◌, ◌<◌, length};
 ghost use Rattle.word.specs.Places.{member, words_of};
 ghost use Rattle.storage.specs.Stores.{Changes};

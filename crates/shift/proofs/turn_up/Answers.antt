@@ -1,0 +1,34 @@
+-- Each bit goes `up` places up, on from the start past the end; no change for 0. Loop: the words above i are turned, up to i they are as they were.
+use mathlib.Core.Path.{refl, ◌∙◌}
+use Prim.Native.Nat.{◌+◌, ◌*◌, ◌<◌}
+use native.Mathlib.Omega.{arith}
+use borrow.Author.Rules.{rules}
+use lib.ListN.{length-set, length}
+use Rattle.word.specs.Places.{member, word_of}
+use Rattle.word.proofs.Sweep.{Swept, sweep_none, sweep_to}
+use Rattle.shifts.specs.Shifts.{turned_up}
+use Rattle.shift.proofs.Turns.{turn_none, up_step, up_last}
+use Rattle.shift.proofs.turn_up.Goals as goal
+
+pub returns-then-odd-eq0 : goal.returns-then-odd-eq0
+returns-then-odd-eq0 c = turn_none _ (λ m. omega (arith, c.slice_known-1.given m)) _ (omega arith)
+
+pub loop-i-init : goal.loop-i-init
+loop-i-init c = (omega arith, sweep_to _ _ _ _ _ _ _ (sweep_none _ _ _) (omega arith) refl)
+
+pub loop-i-preserved : goal.loop-i-preserved
+loop-i-preserved c = (
+  omega arith,
+  up_step _ (λ m. omega (arith, c.slice_known-1.given m)) _ _ _ _
+      c.requires.1 c.loop-i.invariant.1 (omega arith)
+      (omega arith) c.funnel.ensures,
+)
+
+pub shape_of-words : goal.shape_of-words
+shape_of-words c = length-set c.loop-i.words 0 c.funnel2.result ∙ c.loop-i.invariant.1.long
+
+pub returns : goal.returns
+returns c =
+    up_last _ (λ m. omega (arith, c.slice_known-1.given m)) _ _ _ _
+    c.requires.1 c.loop-i.invariant.1 (omega arith) (omega arith)
+    c.funnel2.ensures

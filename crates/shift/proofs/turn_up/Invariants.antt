@@ -1,0 +1,17 @@
+-- Each bit goes `up` places up, on from the start past the end; no change for 0. Loop: the words above i are turned, up to i they are as they were.
+use mathlib.Core.Path.{refl, ◌∙◌}
+use Prim.Native.Nat.{◌+◌, ◌*◌, ◌<◌}
+use native.Mathlib.Omega.{arith}
+use borrow.Author.Rules.{rules}
+use lib.ListN.{length-set, length}
+use Rattle.word.specs.Places.{member, word_of}
+use Rattle.word.proofs.Sweep.{Swept, sweep_none, sweep_to}
+use Rattle.shifts.specs.Shifts.{turned_up}
+use Rattle.shift.proofs.Turns.{turn_none, up_step, up_last}
+use Rattle.shift.proofs.turn_up.Given as goal
+
+abbrev pub invariant-loop-i : goal.invariant-loop-i
+invariant-loop-i l = (l.i < length l.initial.words) × Swept l.initial.words (word_of (turned_up (64 * length l.initial.words) l.odd (member l.initial.words))) (l.i + 1) (length l.initial.words) l.words
+
+abbrev pub decreases-loop-i : goal.decreases-loop-i
+decreases-loop-i l = l.i
