@@ -1,3 +1,4 @@
+pub mod Steps
 pub mod Moves
 pub mod Turns
 pub mod Calls

@@ -10,6 +10,7 @@ use Rattle.arch.proofs.Regions.{length-filled_words}
 use Rattle.moves.proofs.Promises.{gone_up}
 use Rattle.shifts.specs.Shifts.{moved_up}
 use Rattle.shift.proofs.Moves.{length_after_lem, left_step, left-last, left_out, left_moved}
+use Rattle.shift.proofs.Steps.{funneled_is}
 use Rattle.shift.proofs.left_words.Goals as goal
 
 pub shape_of-words-then-whole-n : goal.shape_of-words-then-whole-n
@@ -37,17 +38,17 @@ loop-i-preserved c = (
   omega arith,
   omega arith,
   left_step _ (λ m. omega (arith, c.slice_known-1.given m)) _ _ _ _
-      c.loop-i.invariant.2 (omega arith) (omega arith) c.funnel.ensures,
+      c.loop-i.invariant.2 (omega arith) (omega arith) (c.step.ensures ∙ funneled_is _ _ _ _ _ (omega arith) (omega arith)),
 )
 
 pub shape_of-words : goal.shape_of-words
 shape_of-words c =
     length_after_lem c.args.words.now
-    c.loop-i.words _ _ c.funnel2.result _ _
+    c.loop-i.words _ _ c.step-2.result _ _
     c.loop-i.invariant.2.long c.fill_words-2.ensures
 
 pub returns : goal.returns
 returns c =
     left-last _ (λ m. omega (arith, c.slice_known-1.given m)) _ _ _ _ _
     c.loop-i.invariant.2 (omega arith) (omega arith)
-    c.funnel2.ensures c.fill_words-2.ensures
+    (c.step-2.ensures ∙ funneled_is _ _ _ _ _ (omega arith) (omega arith)) c.fill_words-2.ensures

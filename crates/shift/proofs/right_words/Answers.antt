@@ -10,6 +10,7 @@ use Rattle.arch.proofs.Regions.{length-filled_words}
 use Rattle.moves.proofs.Promises.{gone_down}
 use Rattle.shifts.specs.Shifts.{moved_down}
 use Rattle.shift.proofs.Moves.{length_after_lem, right_step, right_last, right_out, right_moved}
+use Rattle.shift.proofs.Steps.{funneled_is}
 use Rattle.shift.proofs.right_words.Goals as goal
 
 pub shape_of-words-then-whole-n : goal.shape_of-words-then-whole-n
@@ -36,17 +37,17 @@ pub loop-i-preserved : goal.loop-i-preserved
 loop-i-preserved c = (
   omega arith,
   right_step _ (λ m. omega (arith, c.slice_known-1.given m)) _ _ _ _
-      c.loop-i.invariant.1 (omega arith) c.funnel.ensures,
+      c.loop-i.invariant.1 (omega arith) (c.step.ensures ∙ funneled_is _ _ _ _ _ (omega arith) (omega arith)),
 )
 
 pub shape_of-words : goal.shape_of-words
 shape_of-words c =
     length_after_lem c.args.words.now
-    c.loop-i.words _ _ c.funnel2.result _ _
+    c.loop-i.words _ _ c.step-2.result _ _
     c.loop-i.invariant.1.long c.fill_words-2.ensures
 
 pub returns : goal.returns
 returns c =
     right_last _ (λ m. omega (arith, c.slice_known-1.given m)) _ _ _ _ _ _
     c.loop-i.invariant.1 (omega arith) (omega arith)
-    c.funnel2.ensures c.fill_words-2.ensures
+    (c.step-2.ensures ∙ funneled_is _ _ _ _ _ (omega arith) (omega arith)) c.fill_words-2.ensures

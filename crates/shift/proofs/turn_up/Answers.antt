@@ -8,6 +8,7 @@ use Rattle.word.specs.Places.{member, word_of}
 use Rattle.word.proofs.Sweep.{Swept, sweep_none, sweep_to}
 use Rattle.shifts.specs.Shifts.{turned_up}
 use Rattle.shift.proofs.Turns.{turn_none, up_step, up_last}
+use Rattle.shift.proofs.Steps.{funneled_is}
 use Rattle.shift.proofs.turn_up.Goals as goal
 
 pub returns-then-odd-eq0 : goal.returns-then-odd-eq0
@@ -21,14 +22,14 @@ loop-i-preserved c = (
   omega arith,
   up_step _ (λ m. omega (arith, c.slice_known-1.given m)) _ _ _ _
       c.requires.1 c.loop-i.invariant.1 (omega arith)
-      (omega arith) c.funnel.ensures,
+      (omega arith) (c.step.ensures ∙ funneled_is _ _ _ _ _ (omega arith) (omega arith)),
 )
 
 pub shape_of-words : goal.shape_of-words
-shape_of-words c = length-set c.loop-i.words 0 c.funnel2.result ∙ c.loop-i.invariant.1.long
+shape_of-words c = length-set c.loop-i.words 0 c.step-2.result ∙ c.loop-i.invariant.1.long
 
 pub returns : goal.returns
 returns c =
     up_last _ (λ m. omega (arith, c.slice_known-1.given m)) _ _ _ _
     c.requires.1 c.loop-i.invariant.1 (omega arith) (omega arith)
-    c.funnel2.ensures
+    (c.step-2.ensures ∙ funneled_is _ _ _ _ _ (omega arith) (omega arith))
