@@ -1,5 +1,7 @@
 // A bitmap printed as list text in a style: its runs upward, in the plain style as `0-3, 5-7, 11`. A run is one piece, or one for each number. The call
 // measures first and writes only what fits. Runs and digits have their home here, for other prints too: `run_from`, `decimal_len`, `put_decimal`.
+#![tactic(auto)]
+
 ghost use Rattle.std.specs.Prelude.{◌≡◌, ◌+◌, ◌-◌, ◌*◌, ◌≤◌, ◌<◌, leb, ◌++◌, length};
 ghost use Rattle.storage.specs.Stores.{held};
 ghost use Rattle.storage.specs.Guards.{Passed};

@@ -14,11 +14,11 @@ use Rattle.storage.specs.Guards.{most_words}
 use Rattle.scans.proofs.Promises.{all-counted}
 use Rattle.text.specs.Lists.{Range}
 use Rattle.print.specs.Texts.{runs, size_of}
-use Rattle.print.specs.Forms.{Runs, more}
+use Rattle.print.specs.Forms.{Runs, none, more}
 use Rattle.print.proofs.Promises.{prints_runs}
 use Rattle.register.specs.Register.{line, ended, row_of, pages_for, pages_of, foot_of, line_of, lines_of, register_of}
 use Rattle.register.specs.Pages.{Row, BlankRow, line_at, Nth, here, later, Paged, IsRegister}
-use Rattle.register.proofs.Ahead.{Below, cons, all_below}
+use Rattle.register.proofs.Ahead.{Below, nil, cons, all_below}
 use Rattle.register.proofs.Rows.{size_narrow, pages_narrow, length-line_of, length-lines, foot-line, row_line}
 use Rattle.register.proofs.Forms.{row_is, row_only, blank_is, blank_only}
 
@@ -34,10 +34,12 @@ nth_some (r ∷ rs) zero h = (r, here)
 nth_some (r ∷ rs) (suc i) h = let x = nth_some rs i (omega arith) in (x.0, later x.1)
 
 nth_below : {e : ℕ} {rs : List Range} {i : ℕ} {r : Range} → Below e rs → Nth rs i r → (r.low ≤ r.high) × (r.high < e)
+nth_below nil y = elim y [ ]
 nth_below (cons l h x) here = (l, h)
 nth_below (cons l h x) (later y) = nth_below x y
 
 pub nth_order : {s : ℕ → Bool} {i k : ℕ} {rs : List Range} {r : Range} → Runs s i rs → Nth rs k r → r.low ≤ r.high
+nth_order (none f) y = elim y [ ]
 nth_order (more a b f m z x) here = b
 nth_order (more a b f m z x) (later y) = nth_order x y
 

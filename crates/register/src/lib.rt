@@ -1,5 +1,7 @@
 // A bitmap printed as a note register, on pages of 50 lines of 72 bytes and a line end: a run on a line, upward, and on the last line of a page its
 // number, the number of pages and the number of set bits. The call measures first and writes only what fits.
+#![tactic(auto)]
+
 ghost use Rattle.std.specs.Prelude.{◌≡◌, ◌+◌, ◌*◌, ◌≤◌, ◌<◌, length, replicate};
 ghost use Rattle.storage.specs.Stores.{held, size};
 ghost use Rattle.storage.specs.Guards.{Passed};

@@ -1,4 +1,6 @@
 // The style of list text: how a publisher writes page lists.
+#![tactic(auto)]
+
 ghost use Rattle.std.specs.Prelude.{◌≡◌};
 ghost use Rattle.style.specs.Styles.{allowed, joins};
 

@@ -43,15 +43,15 @@ is_between a b c h = ap₂ ◌&&◌ (le-leb a c h.0) (le-leb c b h.1)
 pub digit_is : (c : ℕ) → digit c ≡ true → g.Digit c
 digit_is c e = between_is 48 57 c e
 
-pub is_digit : (c : ℕ) → g.Digit c → digit c ≡ true
-is_digit c h = is_between 48 57 c h
+pub is_digit_lem : (c : ℕ) → g.Digit c → digit c ≡ true
+is_digit_lem c h = is_between 48 57 c h
 
 pub blank_is : (c : ℕ) → blank c ≡ true → g.Blank c
 blank_is c e = ⊎_elim (λ x. inl (eqb-true c 32 x)) (λ x. inr (between_is 9 13 c x)) (or_cases (eqb c 32) (leb 9 c && leb c 13) e)
 
-pub is_blank : (c : ℕ) → g.Blank c → blank c ≡ true
-is_blank c (inl e) = ap (λ (t : Bool). t || (leb 9 c && leb c 13)) (eq-eqb c 32 e)
-is_blank c (inr h) = ap (λ (t : Bool). eqb c 32 || t) (is_between 9 13 c h) ∙ or-true (eqb c 32)
+pub is_blank_lem : (c : ℕ) → g.Blank c → blank c ≡ true
+is_blank_lem c (inl e) = ap (λ (t : Bool). t || (leb 9 c && leb c 13)) (eq-eqb c 32 e)
+is_blank_lem c (inr h) = ap (λ (t : Bool). eqb c 32 || t) (is_between 9 13 c h) ∙ or-true (eqb c 32)
 
 pub blank_low : (c : ℕ) → g.Blank c → c ≤ 32
 blank_low c (inl e) = omega arith
@@ -59,7 +59,7 @@ blank_low c (inr h) = omega (arith, h.1)
 
 -- a blank is no digit
 blank-kind : (j c : ℕ) → g.Blank c → Blank ≡ kind j c
-blank-kind j c h = kind-blank j c (ap (λ (t : Bool). t && leb c 57) (lt-leb 48 c (omega (arith, blank_low c h)))) (is_blank c h)
+blank-kind j c h = kind-blank j c (ap (λ (t : Bool). t && leb c 57) (lt-leb 48 c (omega (arith, blank_low c h)))) (is_blank_lem c h)
 
 -- the kinds where j joins, with what they say of the byte
 pub data IsKind (j c : ℕ) : Kind → Type 0 where
@@ -136,13 +136,13 @@ module _ (st : Style) (ok : Allowed st) where
   digits-read : (rs : List Range) (l : Left) {t : List ℕ} {v : ℕ} → g.Digits t v → reads st (reading rs (part l Unread)) t ≡ reading rs (part l (Open (min too_large v)))
   unfolding by_kind
   digits-read rs l (g.one {c = c} e) =
-      reads-one (reading rs (part l Unread)) c ∙ next-at rs (part l Unread) c (kind-digit st.joiner c (is_digit c e))
+      reads-one (reading rs (part l Unread)) c ∙ next-at rs (part l Unread) c (kind-digit st.joiner c (is_digit_lem c e))
       ∙ ap (λ (x : ℕ). reading rs (part l (Open x))) (omega arith)
   digits-read rs l (g.more {t = t} {v = v} c d e) =
       reads-append (reading rs (part l Unread)) t (c ∷ [])
       ∙ ap (λ (x : TextSoFar). reads st x (c ∷ [])) (digits-read rs l d)
       ∙ reads-one (reading rs (part l (Open (min too_large v)))) c
-      ∙ next-at rs (part l (Open (min too_large v))) c (kind-digit st.joiner c (is_digit c e))
+      ∙ next-at rs (part l (Open (min too_large v))) c (kind-digit st.joiner c (is_digit_lem c e))
       ∙ ap (λ (x : ℕ). reading rs (part l (Open x))) (omega arith)
 
   -- digits that were read, blanks around them: n is what is kept of them, and x what that is worth
@@ -275,4 +275,4 @@ module _ (st : Style) (ok : Allowed st) where
       ∙ ap (λ (z : TextSoFar). reads st z (w ++ k ∷ t)) (next-at [] (part Alone (Open (min too_large v))) c (blank-kind st.joiner c e))
       ∙ reads-append (reading [] (part Alone (Closed (min too_large v)))) w (k ∷ t) ∙ ap (λ (z : TextSoFar). reads st z (k ∷ t)) (blanks-closed [] Alone (min too_large v) b)
       ∙ reads-cons (reading [] (part Alone (Closed (min too_large v)))) k t
-      ∙ ap (λ (z : TextSoFar). reads st z t) (next-at [] (part Alone (Closed (min too_large v))) k (kind-digit st.joiner k (is_digit k f))) ∙ reads_bad st Slip t)
+      ∙ ap (λ (z : TextSoFar). reads st z t) (next-at [] (part Alone (Closed (min too_large v))) k (kind-digit st.joiner k (is_digit_lem k f))) ∙ reads_bad st Slip t)

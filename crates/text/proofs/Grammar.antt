@@ -15,7 +15,7 @@ use Rattle.text.specs.Faults as b
 use Rattle.text.specs.Readings.{Alone, From, no_list, ranges, parse}
 use Rattle.text.specs.declared.Fault.{Fault}
 use Rattle.text.specs.declared.Fault.TheVariants.{Slip, Huge}
-use Rattle.text.proofs.Accepts.{blank_is, is_blank, complete}
+use Rattle.text.proofs.Accepts.{blank_is, is_blank_lem, complete}
 use Rattle.text.proofs.Numbers.{cut, any, Judged, good, huge, none, judge}
 use Rattle.text.proofs.Refuses.{free_left, free_right, slips, huge_ones}
 
@@ -42,7 +42,7 @@ all-blank [] = inl g.nil
 all-blank (c ∷ t) =
     by_test (blank c)
     (λ e. ⊎_elim (λ x. inl (g.cons (blank_is c e) x)) (λ h. inr (λ x. h (rest x))) (all-blank t))
-    (λ e. inr (λ x. false≢true (sym e ∙ is_blank c (head x))))
+    (λ e. inr (λ x. false≢true (sym e ∙ is_blank_lem c (head x))))
   where
     head : {c : ℕ} {t : List ℕ} → g.Blanks (c ∷ t) → g.Blank c
     head (g.cons e x) = e

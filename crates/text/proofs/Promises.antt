@@ -116,6 +116,7 @@ listed_good (g.more x l) = also (token_good x) (listed_good l)
 
 highest-within : (rs : List Range) → Good rs → Within rs (highest rs)
 unfolding highest
+highest-within [] x' = elim x' [ ]
 highest-within (r ∷ []) (one h) = inl (omega arith, omega arith)
 highest-within (r ∷ rs) (also h k) =
     by_lt (highest rs) r.high

@@ -1,4 +1,6 @@
 // List text read, in the plain style as `0-3, 5-7, 11`: a token is followed byte by byte. The call measures first and writes only what fits.
+#![tactic(auto)]
+
 mod bytes;
 
 ghost use Rattle.std.specs.Prelude.{◌≡◌};

@@ -1,4 +1,6 @@
 // What a call answers, as four numbers: what crosses to C of it, and what a list of calls has of it and two answers are compared by.
+#![tactic(auto)]
+
 ghost use Rattle.word.specs.Sets.{val};
 ghost use Rattle.storage.specs.Refusals.{number_of};
 ghost use Rattle.told.specs.Tellings.{SameNumbers, four, truth_told, amount_told, field_told, found_told, word_told, guard_told, change_told, split_told};

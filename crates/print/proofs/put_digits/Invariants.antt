@@ -1,0 +1,15 @@
+-- The digits of x are put up to a place. Loop: those from p on are put, and y has the others.
+use mathlib.Core.Path.{◌∙◌}
+use mathlib.Core.List.{List, []}
+use native.Mathlib.Omega.{arith}
+use Prim.Native.Nat.{ℕ, ◌+◌, ◌-◌, ◌%◌, ◌≤◌}
+use lib.ListN.{length, length-set}
+use Rattle.print.specs.Texts.{decimal}
+use Rattle.print.proofs.Buffer.{PuttingDigits, putting_start, putting_place, putting_long, putting_two, putting_end, putting_last}
+use Rattle.print.proofs.put_digits.Given as goal
+
+abbrev pub invariant-loop-p : goal.invariant-loop-p
+invariant-loop-p l = (s : List ℕ) × PuttingDigits l.at l.x l.initial.out l.out l.p l.y s
+
+abbrev pub decreases-loop-p : goal.decreases-loop-p
+decreases-loop-p l = l.p - l.at

@@ -1,0 +1,8 @@
+-- What is counted as four numbers: the count, or the refusal's number.
+use borrow.Author.Rules.{rules}
+use Rattle.told.specs.Tellings.{amount_told}
+use Rattle.told.proofs.Tellings.{told_of}
+use Rattle.told.proofs.amount.Goals as goal
+
+pub returns-in-Refused : goal.returns-in-Refused
+returns-in-Refused c = told_of amount_told c.refused.ensures c.in-Refused.is

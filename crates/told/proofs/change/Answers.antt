@@ -1,0 +1,18 @@
+-- A change as four numbers: done, 0 and tag 2; refused, its number and tag 0; then the word count either way, and 0.
+use mathlib.Core.Path.{sym, ap, ◌∙◌}
+use borrow.Author.Rules.{rules}
+use Rattle.told.specs.Tellings.{change_told}
+use Rattle.told.proofs.change.Goals as goal
+
+pub returns-in-Done : goal.returns-in-Done
+returns-in-Done c = record { number = search rules; tag = search rules; value = search rules; also = search rules }
+
+pub returns-in-Refused : goal.returns-in-Refused
+returns-in-Refused c =
+    let is = sym c.in-Refused.is in
+    record {
+      number = c.four-in-Refused.ensures.number ∙ c.number.ensures ∙ ap (λ x. (change_told x).number) is;
+      tag = c.four-in-Refused.ensures.tag ∙ ap (λ x. (change_told x).tag) is;
+      value = c.four-in-Refused.ensures.value ∙ ap (λ x. (change_told x).value) is;
+      also = c.four-in-Refused.ensures.also ∙ ap (λ x. (change_told x).also) is;
+    }

@@ -1,0 +1,8 @@
+-- A search's answer as four numbers: the place, or nothing, or the refusal's number.
+use borrow.Author.Rules.{rules}
+use Rattle.told.specs.Tellings.{found_told}
+use Rattle.told.proofs.Tellings.{told_of}
+use Rattle.told.proofs.found.Goals as goal
+
+pub returns-in-Refused : goal.returns-in-Refused
+returns-in-Refused c = told_of found_told c.refused.ensures c.in-Refused.is
