@@ -1,6 +1,8 @@
 // A gap in a bitmap: places opened, so that the bits behind them move up, and places closed, so that those behind them move down.
 //
 // A change sheet composes both of `split_off`, shifts and `or`, with a second store for the tail. Here they are done in place, word by word.
+#![tactic(auto)]
+
 ghost use Rattle.std.specs.Prelude.{◌≡◌, length};
 ghost use Rattle.word.specs.Places.{member, words_of};
 ghost use Rattle.storage.specs.Stores.{Changes};

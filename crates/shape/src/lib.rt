@@ -1,4 +1,6 @@
 // Calls that flip, shift, resize, split and join a bitmap, growing and trimming it.
+#![tactic(auto)]
+
 ghost use Rattle.std.specs.Prelude.{◌≡◌, ◌+◌, ◌-◌, ◌/◌, ◌≤◌, ◌<◌, length};
 ghost use Rattle.storage.specs.Stores.{reading, beside, Changes};
 ghost use Rattle.shapes.specs.Shapes.{toggling, toggling_region, raising, lowered, lowering, truncating, resizing, appending, Splits};
