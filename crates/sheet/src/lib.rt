@@ -1,4 +1,6 @@
 // The change sheet: its kinds of records, and what is asked of its reader and writer and answered by them.
+#![tactic(auto)]
+
 ghost use Rattle.std.specs.Prelude.{◌≡◌};
 ghost use Rattle.sheet.specs.Kinds.{size_in, known};
 

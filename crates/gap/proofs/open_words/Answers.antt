@@ -51,7 +51,7 @@ returns c =
 
 pub shape_of-words : goal.shape_of-words
 shape_of-words c =
-    ap length (returns-2 c) ∙ length_words (gap_opened c.args.p
+    ap length (returns c) ∙ length_words (gap_opened c.args.p
     c.args.k
     (member c.args.words.now))
     (length c.args.words.now)

@@ -10,10 +10,6 @@ use mathlib.Core.Path.{sym, ◌∙◌}
 use borrow.Author.Rules.{rules}
 use Rattle.shape.proofs.toggle_region.Goals as goal
 
--- the last index of the region
-abbrev last : tie.After-slice-known → ℕ
-last c = c.before.args.i + (c.before.args.k - 1)
-
 pub returns-in-Stop : goal.returns-in-Stop
 returns-in-Stop c = changes_stopped _ _ _ _ (sym c.in-Stop.is ∙ c.check.ensures)
 
@@ -40,7 +36,7 @@ returns-then-w-words c =
     let ok : Passed c.args.words.now c.args.b =
       passed _ _ (sym c.in-Pass.is ∙ c.check.ensures) in
     region_no_space _ _ _ _ fit ok
-    (last c)
+    (c.args.i + (c.args.k - 1))
     c.if-k-eq0.false (omega arith) (omega arith) c.if-w-words.true
 
 pub returns : goal.returns
@@ -52,7 +48,7 @@ returns c =
     region-flipped _ _ _ _
     fit
     ok
-    (last c)
+    (c.args.i + (c.args.k - 1))
     c.if-k-eq0.false (omega arith) (omega arith) _ _ _
     c.if-w-words.false
     c.zero_words.ensures c.flip_region.ensures c.max.ensures
