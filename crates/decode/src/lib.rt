@@ -1,6 +1,8 @@
 // What a duty record asks for: its kind is looked up, and its payload read as an edit.
 //
 // A payload is read in parts of at most eight bytes; a field is cut out of one part, or put together from two.
+#![tactic(auto)]
+
 ghost use Rattle.std.specs.Prelude.{◌≡◌, ◌^◌, ◌≤◌, ◌<◌, length};
 ghost use Rattle.sheet.specs.Bytes.{number};
 ghost use Rattle.sheet.specs.Kinds.{rule_of};

@@ -1,4 +1,6 @@
 // The head of a change sheet and the frames of its records. Every call takes any bytes and any place.
+#![tactic(auto)]
+
 ghost use Rattle.std.specs.Prelude.{◌≡◌, ◌≤◌, ◌<◌, length, get_or};
 ghost use Rattle.editions.specs.Frames.{headed, countIn, frames_fault, sheet_fault};
 ghost use Rattle.frames.specs.Frames.{end_in, guard_by};

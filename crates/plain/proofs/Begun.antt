@@ -91,6 +91,7 @@ module _ (p : Plain) (c : Call) (cs : List Call) (e : Same p (c ∷ cs)) where
 
 to_held : (cs : List Call) (p : Plain) → Same p cs → Begun cs → Held (last_plain p cs)
 unfolding last_plain
+to_held [] p e x'' = elim x'' [ ]
 to_held (c ∷ cs) p e (here a n) =
     let x : (answered (length c.buffer) start p).number ≡ 0 = ap (λ (b : Ask). (answered (length c.buffer) b p).number) (sym a) ∙ sym (first_same p c cs e) ∙ n in
     let (es, q) = starts (length c.buffer) p x in

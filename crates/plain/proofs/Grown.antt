@@ -58,8 +58,8 @@ module _ (buf : List ℕ) where
   other_raised : (j : ℕ) → (j ≡ 2 → ⊥) → (j ≡ 3 → ⊥) → get_or (count_raised buf) j 0 ≡ get_or buf j 0
   other_raised j a b = two_other buf _ j a b
 
-  count_raised : 4 ≤ length buf → countIn buf < most → countIn (count_raised buf) ≡ countIn buf + 1
-  count_raised h l = two_count buf (countIn buf + 1) h (omega arith)
+  count_raised_lem : 4 ≤ length buf → countIn buf < most → countIn (count_raised buf) ≡ countIn buf + 1
+  count_raised_lem h l = two_count buf (countIn buf + 1) h (omega arith)
 
   pub past_raised : (n : ℕ) → 4 ≤ n → drop n (count_raised buf) ≡ drop n buf
   past_raised n h = two_past buf _ n h
@@ -153,7 +153,7 @@ module _ (buf : List ℕ) (len : ℕ) (x : Entry) where
     more : total after ≡ total front + 1
     more =
         ap₂ (λ (a b : ℕ). a * 256 + b) (at_front 2 (omega (arith, front_long, head.0))) (at_front 3 (omega (arith, front_long, head.0)))
-        ∙ count_raised buf (omega (arith, front_long, head.0)) (omega (arith, counted)) ∙ ap (λ (n : ℕ). n + 1) (sym counted)
+        ∙ count_raised_lem buf (omega (arith, front_long, head.0)) (omega (arith, counted)) ∙ ap (λ (n : ℕ). n + 1) (sym counted)
 
     longer : length front ≤ length after
     longer = omega (arith, after_long, front_long)

@@ -64,13 +64,13 @@ module _ (pre : List ℕ) (first : ℕ) (p rest : List ℕ) (short : length p �
   laid_end = omega (arith, laid-size, length-append pre (laid first p), length-append (bytes 2 (length p)) p)
 
 module _ (pre : List ℕ) (rest : List ℕ) where
-  pub item_of : (e : Entry) → Proper e → item_at (pre ++ (bytes_of e ++ rest)) (length pre) ≡ item_of e
+  pub item_of_lem : (e : Entry) → Proper e → item_at (pre ++ (bytes_of e ++ rest)) (length pre) ≡ item_of e
   unfolding bytes_of
-  item_of (edit e) h =
+  item_of_lem (edit e) h =
       let a : (128 + kind_of e) % 128 ≡ kind_of e = omega (arith, kind_small e) in
       let b : leb 128 (128 + kind_of e) ≡ true = le-leb 128 (128 + kind_of e) (omega arith) in
       laid_item pre (128 + kind_of e) (payload_of e) rest (payload_short e) ∙ λ i. record { duty = b i; kind = a i; payload = payload_of e }
-  item_of (note k p) h =
+  item_of_lem (note k p) h =
       let a : k % 128 ≡ k = omega arith in
       let b : leb 128 k ≡ false = lt-leb 128 k (omega arith) in
       laid_item pre k p rest h.1 ∙ λ i. record { duty = b i; kind = a i; payload = p }
@@ -145,7 +145,7 @@ module _ (c n : ℕ) where
       ∙ ap₂ (λ (l : List ℕ) (at : ℕ). then (edition_of c n) (records (edition_of c n) l m (suc i) at) (suc i) (act (edition_of c n) (suc i) (item_at (pre ++ (bytes_of x ++ body es)) (length pre)) s))
       (sym (append_assoc pre (bytes_of x) (body es))) (end_of pre (body es) x h)
       ∙ ap (λ (r : Item). then (edition_of c n) (records (edition_of c n) ((pre ++ bytes_of x) ++ body es) m (suc i) (length (pre ++ bytes_of x))) (suc i) (act (edition_of c n) (suc i) r s))
-      (item_of pre (body es) x h)
+      (item_of_lem pre (body es) x h)
 
   records_body : (pre : List ℕ) (es : List Entry) (i : ℕ) (s t : Bits) → AllProper es → InEdition n es → effect (edition_of c n) (edits_after i es) s ≡ next t
       → records (edition_of c n) (pre ++ body es) (length es) i (length pre) s ≡ done (i + length es) t

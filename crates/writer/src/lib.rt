@@ -37,7 +37,7 @@ pub fn start(buffer: &mut [u8]) -> Added
 
 // The n low bytes of x at a position.
 fn put(buffer: &mut [u8], at: usize, n: usize, x: usize)
-    requires* { do ⌜ at + n ≤ (← ⟦buffer.len()⟧) ⌝ }
+    requires { at + n ≤ length buffer.old }
     ensures { buffer.new ≡ sets buffer.old at (bytes n x) }
 {
     let mut left = x;
@@ -51,7 +51,7 @@ fn put(buffer: &mut [u8], at: usize, n: usize, x: usize)
 
 // The n low bytes of a number of two parts at a position.
 fn put_parts(buffer: &mut [u8], at: usize, n: usize, high: usize, low: usize)
-    requires* { do ⌜ at + n ≤ (← ⟦buffer.len()⟧) ⌝ }
+    requires { at + n ≤ length buffer.old }
     ensures { buffer.new ≡ sets buffer.old at (bytes n (high * 2 ^ 64 + low)) }
 {
     let over = word::max(n, 8) - 8;
@@ -61,7 +61,7 @@ fn put_parts(buffer: &mut [u8], at: usize, n: usize, high: usize, low: usize)
 
 // A payload at a position.
 fn copy(buffer: &mut [u8], at: usize, payload: &[u8])
-    requires* { do ⌜ at + (← ⟦payload.len()⟧) ≤ (← ⟦buffer.len()⟧) ⌝ }
+    requires { at + length payload.now ≤ length buffer.old }
     ensures { buffer.new ≡ sets buffer.old at payload.now }
 {
     let mut i: usize = 0;
@@ -131,14 +131,14 @@ fn roomless(buffer: &[u8], length: usize, n: usize) -> bool
 }
 
 // R raised, and the first three bytes of the record at the end.
-fn put_head(buffer: &mut [u8], length: usize, first: usize, n: usize)
-    requires* { do ⌜ (4 ≤ length) × (length + 3 ≤ (← ⟦buffer.len()⟧)) × (first < 256) ⌝ }
-    ensures { buffer.new ≡ sets (sets buffer.old 2 (bytes 2 (countIn buffer.old + 1))) length (first ∷ bytes 2 n) }
+fn put_head(buffer: &mut [u8], at: usize, first: usize, n: usize)
+    requires { (4 ≤ at) × (at + 3 ≤ length buffer.old) × (first < 256) }
+    ensures { buffer.new ≡ sets (sets buffer.old 2 (bytes 2 (countIn buffer.old + 1))) at (first ∷ bytes 2 n) }
 {
     let count = frames::record_count(buffer);
     put(buffer, 2, 2, count + 1);
-    buffer[length] = first as u8;
-    put(buffer, length + 1, 2, n);
+    buffer[at] = first as u8;
+    put(buffer, at + 1, 2, n);
 }
 
 // A remark at the end of the sheet.

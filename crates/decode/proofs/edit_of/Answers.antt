@@ -1,0 +1,29 @@
+-- What a duty record asks for: 13 where the edition lacks the kind, then 12 for a payload of another length, then what `decode` makes of it.
+use native.Mathlib.Omega.{arith}
+use mathlib.Core.Path.{sym, ◌∙◌}
+use Rattle.decode.proofs.Lengths.{held, asked_newer, asked_long, asked_edit}
+use borrow.Author.Rules.{rules}
+use Rattle.decode.proofs.edit_of.Goals as goal
+
+pub returns-then-payload-n : goal.returns-then-payload-n
+returns-then-payload-n c =
+    let a = c.args in
+    asked_long a.edition a.kind a.payload.now c.in-Bytes.n
+    (sym c.in-Bytes.is ∙ c.payload_bytes.ensures) (omega arith)
+
+pub decode-requires : goal.decode-requires
+decode-requires c =
+    let a = c.args in
+    let h = held a.edition a.kind c.in-Bytes.n (sym c.in-Bytes.is ∙ c.payload_bytes.ensures) in
+    (omega (arith, h.bytes), h.low, h.high)
+
+pub returns-in-Newer : goal.returns-in-Newer
+returns-in-Newer c =
+    let a = c.args in
+    asked_newer a.edition a.kind a.payload.now (sym c.in-Newer.is ∙ c.payload_bytes.ensures)
+
+pub returns-else-payload-n : goal.returns-else-payload-n
+returns-else-payload-n c =
+    let a = c.args in
+    asked_edit a.edition a.kind a.payload.now c.in-Bytes.n
+    (sym c.in-Bytes.is ∙ c.payload_bytes.ensures) c.decode.result (omega arith) c.decode.ensures

@@ -1,0 +1,14 @@
+-- The number of at most eight bytes, below 256 to the power of their count. Loop: x is the number of the first i bytes, below 256 to the power i.
+use Prim.Native.Nat.{◌-◌}
+use mathlib.Core.Path.{refl}
+use native.Mathlib.Omega.{arith}
+use lib.ListN.{length, get_or}
+use borrow.Author.Rules.{rules}
+use Rattle.decode.proofs.Numbers.{ReadUpTo, fits_word, read_none, read_more, read_all}
+use Rattle.decode.proofs.number_of.Given as goal
+
+abbrev pub invariant-loop-i : goal.invariant-loop-i
+invariant-loop-i l = ReadUpTo l.bytes l.i l.x
+
+abbrev pub decreases-loop-i : goal.decreases-loop-i
+decreases-loop-i l = length l.bytes - l.i
