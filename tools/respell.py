@@ -32,24 +32,42 @@ def read(path):
 
 
 def declared(paths):
-    """The names that files declare: top-level ones, then fields and constructors."""
-    top, inner = set(), set()
+    """The names that files declare: those of modules, nameless ones too; then fields and constructors; then what stands below a `where`."""
+    top, inner, below = set(), set(), set()
     for path in paths:
+        kinds = []  # what each indentation is inside of
         for line in read(path).split("\n"):
-            if line.startswith(("use ", "mod ", "pub mod ", "--")):
+            if not line.strip() or line.lstrip().startswith(("use ", "mod ", "pub mod ", "--")):
                 continue
-            m = HEAD.match(line)
-            if m:
-                top.add(m[2])
+            indent = len(line) - len(line.lstrip())
+            while kinds and kinds[-1][0] >= indent:
+                kinds.pop()
+            kind = kinds[-1][1] if kinds else "module"
+            text = line.strip()
+            if text == "where":
+                kinds.append((indent, "where"))
                 continue
-            m = DEF.match(line)
+            m = HEAD.match(text)
             if m:
+                if m[2] != "_":
+                    (top if kind == "module" else below).add(m[2])
+                kinds.append((indent, m[1]))
+                continue
+            if kind in ("record", "data"):
+                m = FIELD.match(" " + text)
+                if m:
+                    inner.add(m[1])
+                continue
+            m = DEF.match(text)
+            if m and kind == "module":
                 top.add(m[1])
-                continue
-            m = FIELD.match(line)
-            if m:
-                inner.add(m[1])
-    return top, inner
+                kinds.append((indent, "body"))
+            elif m and kind == "where":
+                below.add(m[1])
+                kinds.append((indent, "body"))
+            elif kind == "module":
+                kinds.append((indent, "body"))
+    return top, inner, below
 
 
 def snake(part):
@@ -124,10 +142,11 @@ def made(path):
 
 def table():
     specs, lemmas = own_files()
-    tops, fields = declared(specs)
-    more, more_fields = declared(lemmas)
+    tops, fields, _ = declared(specs)
+    more, more_fields, below = declared(lemmas)
     proofs = glob.glob("crates/*/proofs/*/**/*.antt", recursive=True)
-    local, local_fields = declared(proofs)
+    local, local_fields, local_below = declared(proofs)
+    local |= below | local_below
     rattle = set().union(*(made(p) for p in proofs)) if proofs else set()
     fields |= more_fields | local_fields
     known = set(OPERATORS) | functions() | {snake(n) for n in tops if "-" not in n and n[:1].islower()}

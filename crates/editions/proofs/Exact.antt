@@ -18,7 +18,7 @@ use Rattle.editions.specs.Meaning.{Header, total, start, Whole, onward, Asks, ef
 use Rattle.editions.specs.Meaning.{Newer, Bad, Fails, Applies, not-sheet, unfit, cut, newer, bad, fails, remain, Due}
 use Rattle.editions.specs.Promises.{ReadExact}
 use Rattle.editions.proofs.Stands.{stands, stands_whole, stands_is, asks, asked, item, Fine, sound_more, Less, sound_less}
-use Rattle.editions.proofs.Turns.{none_some, stop_next, next_inj, take-true, take-false, header?, headed_true, headed_false, listed, edit, editOf, edit_known}
+use Rattle.editions.proofs.Turns.{none_some, stop_next, next_inj, take-true, take-false, header?, headed_true, headed_false, listed, edit, edit_of, edit_known}
 use Rattle.editions.proofs.Turns.{does, effect_append, Did, went, lacked, spoilt, failed, did, act_did, record-whole, record-cut, all_read, bytes_left}
 
 module _ {A S : Type 0} (E : Edition A S) (sheet : List ℕ) where
@@ -26,15 +26,15 @@ module _ {A S : Type 0} (E : Edition A S) (sheet : List ℕ) where
   abbrev pub Reaches : S → ℕ → S → Type 0
   Reaches s₀ i s = (es : List (ℕ × A)) × Sound E sheet i es × (effect E es s₀ ≡ next s)
 
-  reaches_suc : (s₀ : S) (i : ℕ) (s t : S) → Reaches s₀ i s → Whole sheet i → Fine E sheet i → does E (suc i) (editOf E (item E sheet i)) s ≡ next t → Reaches s₀ (suc i) t
+  reaches_suc : (s₀ : S) (i : ℕ) (s t : S) → Reaches s₀ i s → Whole sheet i → Fine E sheet i → does E (suc i) (edit_of E (item E sheet i)) s ≡ next t → Reaches s₀ (suc i) t
   reaches_suc s₀ i s t (es, h, p) w g e = (
-    es ++ listed (suc i) (editOf E (item E sheet i)),
+    es ++ listed (suc i) (edit_of E (item E sheet i)),
     sound_more E sheet i es h w g,
-    effect_append E es (suc i) (editOf E (item E sheet i)) s₀ ∙ ap (onward (does E (suc i) (editOf E (item E sheet i)))) p ∙ e,
+    effect_append E es (suc i) (edit_of E (item E sheet i)) s₀ ∙ ap (onward (does E (suc i) (edit_of E (item E sheet i)))) p ∙ e,
   )
 
-  reaches_pred : (s₀ : S) (i : ℕ) (t : S) → Reaches s₀ (suc i) t → (s : S) × Reaches s₀ i s × Whole sheet i × Fine E sheet i × (does E (suc i) (editOf E (item E sheet i)) s ≡ next t)
-  reaches_pred s₀ i t (es, h, p) = go (effect E before s₀) refl (sym (effect_append E before (suc i) (editOf E (item E sheet i)) s₀) ∙ ap (λ (l : List (ℕ × A)). effect E l s₀) (sym less.is) ∙ p)
+  reaches_pred : (s₀ : S) (i : ℕ) (t : S) → Reaches s₀ (suc i) t → (s : S) × Reaches s₀ i s × Whole sheet i × Fine E sheet i × (does E (suc i) (edit_of E (item E sheet i)) s ≡ next t)
+  reaches_pred s₀ i t (es, h, p) = go (effect E before s₀) refl (sym (effect_append E before (suc i) (edit_of E (item E sheet i)) s₀) ∙ ap (λ (l : List (ℕ × A)). effect E l s₀) (sym less.is) ∙ p)
     where
       less : Less E sheet i es
       less = sound_less E sheet i es h
@@ -42,8 +42,8 @@ module _ {A S : Type 0} (E : Edition A S) (sheet : List ℕ) where
       before : List (ℕ × A)
       before = less.before
 
-      go : (o : Turn S) → effect E before s₀ ≡ o → onward (does E (suc i) (editOf E (item E sheet i))) o ≡ next t
-          → (s : S) × Reaches s₀ i s × Whole sheet i × Fine E sheet i × (does E (suc i) (editOf E (item E sheet i)) s ≡ next t)
+      go : (o : Turn S) → effect E before s₀ ≡ o → onward (does E (suc i) (edit_of E (item E sheet i))) o ≡ next t
+          → (s : S) × Reaches s₀ i s × Whole sheet i × Fine E sheet i × (does E (suc i) (edit_of E (item E sheet i)) s ≡ next t)
       go (stop x) p q = absurd (stop_next q)
       go (next s) p q = (s, (before, less.sound, p), less.whole, less.fine, q)
 
@@ -170,7 +170,7 @@ module _ {A S : Type 0} (E : Edition A S) (sheet : List ℕ) where
         let p' = ap (λ (x : Item). E.size x.kind) q ∙ p in
         let y : Item = item E sheet a.index in
         stops (Bad E sheet) k a BadPayload (stands_whole sheet (start sheet a.index) r h)
-        (spoilt d' n p' (not_some (edit E y n) (λ e z. x e (asks E r e (ap (editOf E) (sym q) ∙ edit_known E y d' n p' ∙ z)))) refl)
+        (spoilt d' n p' (not_some (edit E y n) (λ e z. x e (asks E r e (ap (edit_of E) (sym q) ∙ edit_known E y d' n p' ∙ z)))) refl)
       where
         not_some : (o : Option A) → ((e : A) → o ≡ some e → ⊥) → o ≡ none
         not_some none h = refl
@@ -180,7 +180,7 @@ module _ {A S : Type 0} (E : Edition A S) (sheet : List ℕ) where
     fails_read k why a =
         let (r, h, e, x, p) = a.here in
         stops (Fails E sheet why) k a why (stands_whole sheet (start sheet a.index) r h)
-        (failed e (ap (editOf E) (stands_is sheet (start sheet a.index) r h) ∙ asked E r e x) why p refl)
+        (failed e (ap (edit_of E) (stands_is sheet (start sheet a.index) r h) ∙ asked E r e x) why p refl)
 
     -- the refusal of a number
     numbered : (d e : Refusal) (k : ℕ) → number_of e ≡ number_of d → read E sheet old ≡ refused d k → read E sheet old ≡ refused e k

@@ -12,7 +12,7 @@ use Rattle.word.proofs.Cases.{by_lt}
 use Rattle.storage.specs.Refusals.{number_of}
 use Rattle.storage.proofs.Promises.{each_number_once}
 use Rattle.storage.specs.declared.Refusal.{Refusal}
-use Rattle.editions.specs.Frames.{countIn, end_at, frames_fault, sheet_fault}
+use Rattle.editions.specs.Frames.{count_in, end_at, frames_fault, sheet_fault}
 use Rattle.editions.specs.Meaning.{Header, total, start, Whole}
 use Rattle.editions.specs.Promises.{SheetGets, no_header, cut, remain, nothing}
 use Rattle.editions.proofs.Turns.{take-true, take-false, header?, headed_true, headed_false}
@@ -34,11 +34,11 @@ module _ (sheet : List ℕ) where
   within h zero w = h.0
   within h (suc n) w = w n (omega arith)
 
-  walked : Header sheet → (n i : ℕ) → i + n ≡ countIn sheet → WholeBelow i → GetsFault (frames_fault sheet n (start sheet i))
+  walked : Header sheet → (n i : ℕ) → i + n ≡ count_in sheet → WholeBelow i → GetsFault (frames_fault sheet n (start sheet i))
   unfolding frames_fault start
   walked h zero i c w =
-      let e : i ≡ countIn sheet = sym (add-zero i) ∙ c in
-      let all : WholeBelow (countIn sheet) = subst WholeBelow e w in
+      let e : i ≡ count_in sheet = sym (add-zero i) ∙ c in
+      let all : WholeBelow (count_in sheet) = subst WholeBelow e w in
       by_lt (start sheet i) (length sheet)
       (λ l. subst GetsFault (sym (take-true _ _ (lt-ltb (start sheet i) (length sheet) l))) (remain h all (subst (λ (n : ℕ). start sheet n < length sheet) e l) refl))
       (λ l. subst GetsFault (sym (take-false _ _ (le-ltb (start sheet i) (length sheet) l)))
@@ -61,7 +61,7 @@ module _ (sheet : List ℕ) where
   sheet_gets = go (header? sheet)
     where
       go : Dec (Header sheet) → GetsFault (sheet_fault sheet)
-      go (yes h) = subst GetsFault (sym (take-true _ _ (headed_true sheet h))) (walked h (countIn sheet) 0 (zero-add (countIn sheet)) (λ j l. absurd (omega arith)))
+      go (yes h) = subst GetsFault (sym (take-true _ _ (headed_true sheet h))) (walked h (count_in sheet) 0 (zero-add (count_in sheet)) (λ j l. absurd (omega arith)))
       go (no h) = no_header h (ap fault_number (take-false _ _ (headed_false sheet h)))
 
   -- at most one of them applies

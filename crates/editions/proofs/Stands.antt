@@ -14,7 +14,7 @@ use Rattle.word.proofs.Cases.{by_lt}
 use Rattle.editions.specs.Frames.{Item, size_at, end_at, item_at}
 use Rattle.editions.specs.Reader.{Edition}
 use Rattle.editions.specs.Meaning.{Stands, start, Whole, Asks, Sound, remark, duty}
-use Rattle.editions.proofs.Turns.{none_some, take-true, take-false, listed, sized, editOf}
+use Rattle.editions.proofs.Turns.{none_some, take-true, take-false, listed, sized, edit_of}
 
 module _ (sheet : List ℕ) (at : ℕ) where
   -- the payload's bytes, where the frame is whole
@@ -65,7 +65,7 @@ module _ (sheet : List ℕ) (at : ℕ) where
 
 -- a record asks for what the reader reads in it
 module _ {A S : Type 0} (E : Edition A S) (r : Item) (e : A) where
-  pub asks : editOf E r ≡ some e → Asks E r e
+  pub asks : edit_of E r ≡ some e → Asks E r e
   asks q = go r.duty refl (E.size r.kind) refl q
     where
       go : (d : Bool) → r.duty ≡ d → (o : Option ℕ) → E.size r.kind ≡ o → choose d (sized E r o) none ≡ some e → Asks E r e
@@ -77,7 +77,7 @@ module _ {A S : Type 0} (E : Edition A S) (r : Item) (e : A) where
           on false t q = absurd (none_some q)
           on true t q = record { duty = d; sized = s ∙ ap some (sym (eqb-true (length r.payload) n t)); ruled = q }
 
-  pub asked : Asks E r e → editOf E r ≡ some e
+  pub asked : Asks E r e → edit_of E r ≡ some e
   asked a =
       take-true _ _ a.duty ∙ ap (sized E r) a.sized
       ∙ take-true _ _ (eq-eqb (length r.payload) (length r.payload) refl) ∙ a.ruled
@@ -90,12 +90,12 @@ module _ {A S : Type 0} (E : Edition A S) (sheet : List ℕ) where
   item i = item_at sheet (start sheet i)
 
   abbrev pub Fine : ℕ → Type 0
-  Fine i = (item i).duty ≡ true → (e : A) × (editOf E (item i) ≡ some e)
+  Fine i = (item i).duty ≡ true → (e : A) × (edit_of E (item i) ≡ some e)
 
-  pub sound_more : (i : ℕ) (es : List (ℕ × A)) → Sound E sheet i es → Whole sheet i → Fine i → Sound E sheet (suc i) (es ++ listed (suc i) (editOf E (item i)))
+  pub sound_more : (i : ℕ) (es : List (ℕ × A)) → Sound E sheet i es → Whole sheet i → Fine i → Sound E sheet (suc i) (es ++ listed (suc i) (edit_of E (item i)))
   sound_more i es s w g = go (item i).duty refl
     where
-      go : (t : Bool) → (item i).duty ≡ t → Sound E sheet (suc i) (es ++ listed (suc i) (editOf E (item i)))
+      go : (t : Bool) → (item i).duty ≡ t → Sound E sheet (suc i) (es ++ listed (suc i) (edit_of E (item i)))
       go false d =
           subst (Sound E sheet (suc i)) (sym (append-nil es) ∙ ap (λ (o : Option A). es ++ listed (suc i) o) (sym (take-false _ _ d)))
           (remark (item i) s (stands sheet (start sheet i) w) d)
@@ -108,7 +108,7 @@ module _ {A S : Type 0} (E : Edition A S) (sheet : List ℕ) where
     pub sound : Sound E sheet i before
     pub whole : Whole sheet i
     pub fine : Fine i
-    pub is : es ≡ before ++ listed (suc i) (editOf E (item i))
+    pub is : es ≡ before ++ listed (suc i) (edit_of E (item i))
 
   pub sound_less : (i : ℕ) (es : List (ℕ × A)) → Sound E sheet (suc i) es → Less i es
   sound_less i es (remark r s h d) =
@@ -122,7 +122,7 @@ module _ {A S : Type 0} (E : Edition A S) (sheet : List ℕ) where
         is = sym (append-nil es) ∙ ap (λ (o : Option A). es ++ listed (suc i) o) (sym (take-false _ _ d'));
       }
   sound_less i es (duty {es = fs} r e s h a) =
-      let p : editOf E (item i) ≡ some e = ap (editOf E) (stands_is sheet (start sheet i) r h) ∙ asked E r e a in
+      let p : edit_of E (item i) ≡ some e = ap (edit_of E) (stands_is sheet (start sheet i) r h) ∙ asked E r e a in
       record {
         before = fs;
         sound = s;

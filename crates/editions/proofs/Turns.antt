@@ -85,8 +85,8 @@ module _ {A S : Type 0} (E : Edition A S) where
   sized r (some n) = edit r n
 
   -- the edit that a duty record asks for: none for a remark, a kind outside the edition, a bad payload
-  abbrev pub editOf : Item → Option A
-  editOf r = choose r.duty (sized r (E.size r.kind)) none
+  abbrev pub edit_of : Item → Option A
+  edit_of r = choose r.duty (sized r (E.size r.kind)) none
 
 module _ {A S : Type 0} (E : Edition A S) where
   -- what record k does, as its edit's step
@@ -112,16 +112,16 @@ module _ {A S : Type 0} (E : Edition A S) where
 
   -- what the turn of record k says of it
   pub data Did (k : ℕ) (s : S) (r : Item) (o : Turn S) : Type 0 where
-    went : (t : S) → (r.duty ≡ true → (e : A) × (editOf E r ≡ some e)) → does k (editOf E r) s ≡ next t → o ≡ next t → Did k s r o
+    went : (t : S) → (r.duty ≡ true → (e : A) × (edit_of E r ≡ some e)) → does k (edit_of E r) s ≡ next t → o ≡ next t → Did k s r o
     lacked : r.duty ≡ true → E.size r.kind ≡ none → o ≡ stop NewerKind → Did k s r o
     spoilt : r.duty ≡ true → (n : ℕ) → E.size r.kind ≡ some n → edit E r n ≡ none → o ≡ stop BadPayload → Did k s r o
-    failed : (e : A) → editOf E r ≡ some e → (why : Refusal) → E.step k e s ≡ stop why → o ≡ stop why → Did k s r o
+    failed : (e : A) → edit_of E r ≡ some e → (why : Refusal) → E.step k e s ≡ stop why → o ≡ stop why → Did k s r o
 
-  pub edit_known : (r : Item) → r.duty ≡ true → (n : ℕ) → E.size r.kind ≡ some n → editOf E r ≡ edit E r n
+  pub edit_known : (r : Item) → r.duty ≡ true → (n : ℕ) → E.size r.kind ≡ some n → edit_of E r ≡ edit E r n
   edit_known r d n p = take-true _ _ d ∙ ap (sized E r) p
 
   module _ (k : ℕ) (r : Item) (s : S) where
-    did_step : (e : A) → editOf E r ≡ some e → (o : Turn S) → E.step k e s ≡ o → Did k s r o
+    did_step : (e : A) → edit_of E r ≡ some e → (o : Turn S) → E.step k e s ≡ o → Did k s r o
     did_step e p (stop why) q = failed e p why q refl
     did_step e p (next t) q = went t (λ _. (e, p)) (ap (λ (o : Option A). does k o s) p ∙ q) refl
 
@@ -145,7 +145,7 @@ module _ {A S : Type 0} (E : Edition A S) where
     unfolding act
     on_duty d = take-true _ _ d
 
-    pub act_edit : (e : A) → editOf E r ≡ some e → act E k r s ≡ E.step k e s
+    pub act_edit : (e : A) → edit_of E r ≡ some e → act E k r s ≡ E.step k e s
     act_edit e p = go r.duty refl
       where
         by_size : (o : Option ℕ) → sized E r o ≡ some e → taken_of E k r o s ≡ E.step k e s

@@ -17,8 +17,8 @@ module _ (sheet : List ℕ) where
   headed = leb 4 (length sheet) && (eqb (get_or sheet 0 0) 78 && eqb (get_or sheet 1 0) 83)
 
   -- the record count R
-  abbrev pub countIn : ℕ
-  countIn = get_or sheet 2 0 * 256 + get_or sheet 3 0
+  abbrev pub count_in : ℕ
+  count_in = get_or sheet 2 0 * 256 + get_or sheet 3 0
 
   -- the payload's length of the record that starts at a position
   abbrev pub size_at : ℕ → ℕ
@@ -40,4 +40,4 @@ frames_fault sheet (suc n) at = choose (leb (end_at sheet at) (length sheet)) (f
 -- 9, 10 or 11 of a whole sheet
 unfoldable pub sheet_fault : List ℕ → Option Refusal
 unfolding frames_fault
-sheet_fault sheet = choose (headed sheet) (frames_fault sheet (countIn sheet) 4) (some NotSheet)
+sheet_fault sheet = choose (headed sheet) (frames_fault sheet (count_in sheet) 4) (some NotSheet)

@@ -5,7 +5,7 @@ use Rattle.std.proofs.Math.Option.{Option, none, some}
 use Rattle.word.specs.Sets.{choose}
 use Rattle.storage.specs.declared.Refusal.{Refusal}
 use Rattle.storage.specs.declared.Refusal.TheVariants.{NotSheet, CutRecord, BytesRemain, BadPayload, NewerKind}
-use Rattle.editions.specs.Frames.{Item, headed, countIn, end_at, item_at}
+use Rattle.editions.specs.Frames.{Item, headed, count_in, end_at, item_at}
 
 -- a refusal, or what comes next
 pub data Turn (S : Type 0) : Type 0 where
@@ -65,7 +65,7 @@ module _ {A S : Type 0} (E : Edition A S) where
   -- at record 0, where the old state does not fit
   abbrev pub copied : List ℕ → Turn S → Answer S
   copied sheet (stop e) = refused e 0
-  copied sheet (next s) = records sheet (countIn sheet) 0 4 s
+  copied sheet (next s) = records sheet (count_in sheet) 0 4 s
 
   -- the whole sheet, from the old state or why it does not fit
   unfoldable pub read : List ℕ → Turn S → Answer S

@@ -13,7 +13,7 @@ use Rattle.word.proofs.Cases.{by_lt}
 use Rattle.storage.specs.declared.Refusal.TheVariants.{NotSheet, CutRecord, BytesRemain}
 use Rattle.storage.specs.declared.Guard.{Guard}
 use Rattle.storage.specs.declared.Guard.TheVariants.{Pass, Stop}
-use Rattle.editions.specs.Frames.{headed, countIn, end_at, frames_fault, sheet_fault}
+use Rattle.editions.specs.Frames.{headed, count_in, end_at, frames_fault, sheet_fault}
 use Rattle.editions.proofs.Turns.{take-true, take-false}
 use Rattle.frames.specs.Frames.{end_in, guard_by}
 
@@ -77,9 +77,9 @@ module _ (s : List ℕ) (n : ℕ) where
 module _ (s : List ℕ) where
   pub gets_9 : headed s ≡ false → Stop NotSheet ≡ guard_by (sheet_fault s)
   unfolding sheet_fault
-  gets_9 h = ap guard_by (sym (take-false (frames_fault s (countIn s) 4) (some NotSheet) h))
+  gets_9 h = ap guard_by (sym (take-false (frames_fault s (count_in s) 4) (some NotSheet) h))
 
-  pub header_good : (n : ℕ) (r : Guard) → headed s ≡ true → n ≡ countIn s → r ≡ guard_by (frames_fault s n 4) → r ≡ guard_by (sheet_fault s)
+  pub header_good : (n : ℕ) (r : Guard) → headed s ≡ true → n ≡ count_in s → r ≡ guard_by (frames_fault s n 4) → r ≡ guard_by (sheet_fault s)
   unfolding sheet_fault
   header_good n r h c e =
-      e ∙ ap (λ (m : ℕ). guard_by (frames_fault s m 4)) c ∙ ap guard_by (sym (take-true (frames_fault s (countIn s) 4) (some NotSheet) h))
+      e ∙ ap (λ (m : ℕ). guard_by (frames_fault s m 4)) c ∙ ap guard_by (sym (take-true (frames_fault s (count_in s) 4) (some NotSheet) h))

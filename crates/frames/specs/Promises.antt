@@ -1,7 +1,7 @@
 -- What the calls of this crate promise, by a sheet's bytes as sheet's Meaning reads them. Proved in proofs/Promises.
 use Rattle.std.specs.Prelude.{ℕ, ◌≤◌, ◌<◌, ◌≡◌, true, List, ◌↔◌, length}
 use Rattle.storage.specs.Refusals.{guard_number}
-use Rattle.editions.specs.Frames.{headed, countIn, sheet_fault}
+use Rattle.editions.specs.Frames.{headed, count_in, sheet_fault}
 use Rattle.editions.specs.Meaning.{Header, total, past}
 use Rattle.editions.specs.Promises.{SheetGets}
 use Rattle.frames.specs.Frames.{end_in, guard_by}
@@ -9,7 +9,7 @@ use Rattle.frames.specs.Frames.{end_in, guard_by}
 -- `has_head` and `record_count`
 pub record HeadIn (sheet : List ℕ) : Type 0 where
   pub head : (headed sheet ≡ true) ↔ Header sheet
-  pub count : countIn sheet ≡ total sheet
+  pub count : count_in sheet ≡ total sheet
 
 -- `record_end`: the end that head and payload say, where they lie in the sheet; 0 exactly where they do not
 pub record EndsAt (sheet : List ℕ) (at r : ℕ) : Type 0 where

@@ -2,7 +2,7 @@
 #![tactic(auto)]
 
 ghost use Rattle.std.specs.Prelude.{◌≡◌, ◌≤◌, ◌<◌, length, get_or};
-ghost use Rattle.editions.specs.Frames.{headed, countIn, frames_fault, sheet_fault};
+ghost use Rattle.editions.specs.Frames.{headed, count_in, frames_fault, sheet_fault};
 ghost use Rattle.frames.specs.Frames.{end_in, guard_by};
 
 use storage::{Guard, Refusal};
@@ -33,7 +33,7 @@ pub fn has_head(sheet: &[u8]) -> bool
 
 // The record count R.
 pub fn record_count(sheet: &[u8]) -> usize
-    ensures { result ≡ countIn sheet.now }
+    ensures { result ≡ count_in sheet.now }
 {
     byte_at(sheet, 2) * 256 + byte_at(sheet, 3)
 }

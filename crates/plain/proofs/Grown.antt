@@ -9,7 +9,7 @@ use lib.ListN.{set as put, length, get_or, take, drop, length-append, length-tak
 use lib.Seq.{sets, sets-eq, take_at, get_or-take, length-take-le, get_or-set_same, get_or-set_other, drop-set-lt}
 use Rattle.sheet.specs.Bytes.{bytes}
 use Rattle.sheet.specs.Kinds.{payload_of}
-use Rattle.editions.specs.Frames.{Item, countIn}
+use Rattle.editions.specs.Frames.{Item, count_in}
 use Rattle.editions.specs.Meaning.{Stands, Header, total, past, start, Whole, Is}
 use Rattle.plain.specs.Writer.{most, Request, duty, remark, Entry, edit, note, bytes_of, count_raised}
 use Rattle.plain.specs.Plain.{refusal_of, edit_for, entry_of}
@@ -38,7 +38,7 @@ module _ (buf : List ℕ) (x : ℕ) where
   unfolding bytes
   two_other j a b = get_or-set_other (put buf 2 (x / 256 ^ 1 % 256)) 3 j (x / 256 ^ 0 % 256) 0 b ∙ get_or-set_other buf 2 j (x / 256 ^ 1 % 256) 0 a
 
-  two_count : 4 ≤ length buf → x ≤ most → countIn (sets buf 2 (bytes 2 x)) ≡ x
+  two_count : 4 ≤ length buf → x ≤ most → count_in (sets buf 2 (bytes 2 x)) ≡ x
   unfolding bytes
   two_count h l =
       ap₂ (λ (a b : ℕ). a * 256 + b)
@@ -58,14 +58,14 @@ module _ (buf : List ℕ) where
   other_raised : (j : ℕ) → (j ≡ 2 → ⊥) → (j ≡ 3 → ⊥) → get_or (count_raised buf) j 0 ≡ get_or buf j 0
   other_raised j a b = two_other buf _ j a b
 
-  count_raised_lem : 4 ≤ length buf → countIn buf < most → countIn (count_raised buf) ≡ countIn buf + 1
-  count_raised_lem h l = two_count buf (countIn buf + 1) h (omega arith)
+  count_raised_lem : 4 ≤ length buf → count_in buf < most → count_in (count_raised buf) ≡ count_in buf + 1
+  count_raised_lem h l = two_count buf (count_in buf + 1) h (omega arith)
 
   pub past_raised : (n : ℕ) → 4 ≤ n → drop n (count_raised buf) ≡ drop n buf
   past_raised n h = two_past buf _ n h
 
 -- the count stands in the first four bytes
-pub count-front : (buf : List ℕ) (len : ℕ) → 4 ≤ length (take len buf) → total (take len buf) ≡ countIn buf
+pub count-front : (buf : List ℕ) (len : ℕ) → 4 ≤ length (take len buf) → total (take len buf) ≡ count_in buf
 count-front buf len h =
     ap₂ (λ (a b : ℕ). a * 256 + b) (get_or-take len buf 2 0 (omega (arith, length-take len buf))) (get_or-take len buf 3 0 (omega (arith, length-take len buf)))
 
@@ -134,7 +134,7 @@ module _ (buf : List ℕ) (len : ℕ) (x : Entry) where
     raised_long : length (take len (count_raised buf)) ≡ len
     raised_long = length-take-le len (count_raised buf) (omega (arith, length_raised buf))
 
-    counted : total front ≡ countIn buf
+    counted : total front ≡ count_in buf
     counted = count-front buf len head.0
 
     at_front : (j : ℕ) → j < len → get_or after j 0 ≡ get_or (count_raised buf) j 0

@@ -12,7 +12,7 @@ use lib.Dec.{leb}
 use borrow.Author.Tests.{le-leb, lt-leb, le-ltb, eq-eqb}
 use Rattle.sheet.specs.Bytes.{bytes}
 use Rattle.sheet.specs.Kinds.{size_in, kind_of, payload_of, Ranged}
-use Rattle.editions.specs.Frames.{Item, countIn, size_at, end_at, item_at, frames_fault, sheet_fault}
+use Rattle.editions.specs.Frames.{Item, count_in, size_at, end_at, item_at, frames_fault, sheet_fault}
 use Rattle.editions.specs.Reader.{Turn, stop, next, done, act, then, records, read}
 use Rattle.editions.specs.Meaning.{Header, onward, effect}
 use Rattle.sheet.specs.Reads.{edition_of, latest}
@@ -104,7 +104,7 @@ pub sheet_headed : (es : List Entry) → Header (sheet_of es)
 unfolding sheet_of
 sheet_headed es = (omega arith, refl, refl)
 
-pub sheet-count : (es : List Entry) → length es ≤ 65_535 → countIn (sheet_of es) ≡ length es
+pub sheet-count : (es : List Entry) → length es ≤ 65_535 → count_in (sheet_of es) ≡ length es
 unfolding sheet_of
 sheet-count es l = two_bytes (length es) l
 

@@ -17,7 +17,7 @@ use Rattle.storage.specs.Refusals.{number_of}
 use Rattle.storage.proofs.Promises.{each_number_once}
 use Rattle.storage.specs.declared.Refusal.{Refusal}
 use Rattle.storage.specs.declared.Refusal.TheVariants.{CountOverStore, NoSpace}
-use Rattle.editions.specs.Frames.{countIn, sheet_fault}
+use Rattle.editions.specs.Frames.{count_in, sheet_fault}
 use Rattle.editions.specs.Reader.{Turn, done, read}
 use Rattle.sheet.specs.Bytes.{bytes}
 use Rattle.editions.specs.Meaning.{total}
@@ -95,20 +95,20 @@ module _ (buf : List ℕ) (len : ℕ) (q : Request) where
       by_good : added buf len q ≡ placed buf len (entry_of q)
       by_good = by_request ∙ ap (placed_by buf len) (checks_good q (checked_of q) (checks_say q) (request_is q 0 w))
 
-      counted : total sheet ≡ countIn buf
+      counted : total sheet ≡ count_in buf
       counted = count-front buf len (good_sheet sheet g).headed.0
 
       no_room : (most ≤ total sheet) ⊎ (length buf < len + 3 + bytes_asked q) → added buf len q ≡ refuse NoSpace buf
       unfolding placed
-      no_room (inl u) = by_good ∙ take-true _ _ (ap (λ (t : Bool). t || ltb (length buf) (len + length new)) (le-leb most (countIn buf) (omega (arith, counted))))
+      no_room (inl u) = by_good ∙ take-true _ _ (ap (λ (t : Bool). t || ltb (length buf) (len + length new)) (le-leb most (count_in buf) (omega (arith, counted))))
       no_room (inr v) =
-          by_good ∙ take-true _ _ (ap (λ (t : Bool). leb most (countIn buf) || t) (lt-ltb (length buf) (len + length new) (omega (arith, end_is))) ∙ or-true (leb most (countIn buf)))
+          by_good ∙ take-true _ _ (ap (λ (t : Bool). leb most (count_in buf) || t) (lt-ltb (length buf) (len + length new) (omega (arith, end_is))) ∙ or-true (leb most (count_in buf)))
 
       room : total sheet < most → len + 3 + bytes_asked q ≤ length buf → added buf len q ≡ put_in
       unfolding placed
       room u v =
           by_good
-          ∙ take-false _ _ (ap₂ (λ (s t : Bool). s || t) (lt-leb most (countIn buf) (omega (arith, counted))) (le-ltb (length buf) (len + length new) (omega (arith, end_is))))
+          ∙ take-false _ _ (ap₂ (λ (s t : Bool). s || t) (lt-leb most (count_in buf) (omega (arith, counted))) (le-ltb (length buf) (len + length new) (omega (arith, end_is))))
 
   -- what it came to
   data Came : Left → Type 0 where

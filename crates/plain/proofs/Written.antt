@@ -14,7 +14,7 @@ use Rattle.storage.specs.Refusals.{number_of}
 use Rattle.storage.proofs.Promises.{each_number_once}
 use Rattle.storage.specs.declared.Refusal.{Refusal}
 use Rattle.storage.specs.declared.Refusal.TheVariants.{NoSpace, NotSheet}
-use Rattle.editions.specs.Frames.{countIn, sheet_fault}
+use Rattle.editions.specs.Frames.{count_in, sheet_fault}
 use Rattle.plain.specs.Writer.{most, Request, requested, Entry, Checked, bad, good, checked_of, bytes_of, added_number, added_length}
 use Rattle.plain.specs.Writer.{Left, refuse, started, count_raised, placed, placed_by, judged, added, Writes}
 use Rattle.plain.specs.Plain.{asked, Plain, body, sheet_of, no_room, refusal_of, entry_of, Answered, refusing, accepting, holding, Ask, start, addition, answered, Typed}
@@ -87,7 +87,7 @@ module _ (buf : List ℕ) (len : ℕ) (es : List Entry) (h : Fronts buf len (som
   unfolding sheet_of
   four = let e = h.0 in omega arith
 
-  counted : countIn buf ≡ length es
+  counted : count_in buf ≡ length es
   unfolding sheet_of
   counted =
       let a : get_or buf 2 0 ≡ get_or (sheet_of es) 2 0 = sym (get_or-take len buf 2 0 (omega (arith, four))) ∙ ap (λ (l : List ℕ). get_or l 2 0) h.1 in
@@ -106,10 +106,10 @@ module _ (buf : List ℕ) (len : ℕ) (es : List Entry) (h : Fronts buf len (som
       ∙ last
     where
       high : ℕ
-      high = (countIn buf + 1) / 256 ^ 1 % 256
+      high = (count_in buf + 1) / 256 ^ 1 % 256
 
       low : ℕ
-      low = (countIn buf + 1) / 256 ^ 0 % 256
+      low = (count_in buf + 1) / 256 ^ 0 % 256
 
       front : take len (count_raised buf) ≡ put (put (sheet_of es) 2 high) 3 low
       front =
@@ -128,7 +128,7 @@ module _ (buf : List ℕ) (len : ℕ) (es : List Entry) (h : Fronts buf len (som
       end = len + length (bytes_of e)
 
       full : Bool
-      full = leb most (countIn buf) || ltb (length buf) end
+      full = leb most (count_in buf) || ltb (length buf) end
 
       put_in : Left
       put_in = record { answer = Done end; buffer = sets (count_raised buf) len (bytes_of e) }
@@ -139,9 +139,9 @@ module _ (buf : List ℕ) (len : ℕ) (es : List Entry) (h : Fronts buf len (som
       go : (t : Bool) → full ≡ t → Agrees len (choose t (refuse NoSpace buf) put_in) (choose t (refusing 6 (some es)) (accepting (es ++ e ∷ [])))
       go true q = agree_refused buf len (some es) NoSpace h
       go false q =
-          let (a, b) = neither (leb most (countIn buf)) (ltb (length buf) end) q in
+          let (a, b) = neither (leb most (count_in buf)) (ltb (length buf) end) q in
           let room : end ≤ length buf = ltb-false (length buf) end b in
-          let few : length es < most = subst (λ (n : ℕ). n < most) counted (leb-false most (countIn buf) a) in
+          let few : length es < most = subst (λ (n : ℕ). n < most) counted (leb-false most (count_in buf) a) in
           record {
             number = refl;
             long = sym (longer e);

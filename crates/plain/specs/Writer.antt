@@ -9,7 +9,7 @@ use Rattle.storage.specs.declared.Refusal.{Refusal}
 use Rattle.storage.specs.declared.Refusal.TheVariants.{CountOverStore, WidthOver, IndexOver, NoSpace, BadPayload, NewerKind}
 use Rattle.sheet.specs.Bytes.{bytes}
 use Rattle.sheet.specs.Kinds.{most_bits, kind_of, payload_of}
-use Rattle.editions.specs.Frames.{countIn, sheet_fault}
+use Rattle.editions.specs.Frames.{count_in, sheet_fault}
 use Rattle.sheet.specs.declared.Fields.{Fields}
 use Rattle.sheet.specs.declared.Edit.{Edit}
 use Rattle.sheet.specs.declared.Edit.TheVariants.{Set, Unset, SetRegion, SetField, Shift, Rotate, Resize, Reverse, ToggleRegion, Open, Close}
@@ -93,7 +93,7 @@ started buf = choose (ltb (length buf) 4) (refuse NoSpace buf) (record { answer 
 
 -- the buffer with R raised
 abbrev pub count_raised : List ℕ → List ℕ
-count_raised buf = sets buf 2 (bytes 2 (countIn buf + 1))
+count_raised buf = sets buf 2 (bytes 2 (count_in buf + 1))
 
 -- the record goes to the end and R rises; 6 where there are the most already or the buffer is too short
 unfoldable pub placed : List ℕ → ℕ → Entry → Left
@@ -101,7 +101,7 @@ unfolding bytes_of
 placed buf len e =
     let end = len + length (bytes_of e) in
     let put : Left = record { answer = Done end; buffer = sets (count_raised buf) len (bytes_of e) } in
-    choose (leb most (countIn buf) || ltb (length buf) end) (refuse NoSpace buf) put
+    choose (leb most (count_in buf) || ltb (length buf) end) (refuse NoSpace buf) put
 
 abbrev pub placed_by : List ℕ → ℕ → Checked → Left
 placed_by buf len (bad e) = refuse e buf

@@ -16,7 +16,7 @@ use Rattle.storage.specs.Guards.{Passed}
 use Rattle.storage.specs.declared.Refusal.TheVariants.{NoSpace, NotSheet}
 use Rattle.storage.proofs.Views.{view-count, view_in, bounded_view}
 use Rattle.storage.proofs.Stores.{stored_written, view-written, length-written, length-zeroed, zeroed_in, zeroed_out}
-use Rattle.editions.specs.Frames.{headed, countIn}
+use Rattle.editions.specs.Frames.{headed, count_in}
 use Rattle.editions.specs.Reader.{Edition, stop, next, Answer, refused, records, copied, read}
 use Rattle.sheet.specs.Reads.{edition_of, fitting, went, read_answer}
 use Rattle.sheet.specs.declared.Edit.{Edit}
@@ -67,7 +67,7 @@ module _ (edition : ℕ) (sheet old : List ℕ) (n : ℕ) (res : List ℕ) where
   unfolding view
   no_room e l = by_head true e ∙ ap (λ (t : Bool). copied E sheet (choose t (next (view old n)) (stop NoSpace))) (lt-leb n (length res) l)
 
-  with-room : headed sheet ≡ true → n ≤ length res → whole ≡ records E sheet (countIn sheet) 0 4 (view old n)
+  with-room : headed sheet ≡ true → n ≤ length res → whole ≡ records E sheet (count_in sheet) 0 4 (view old n)
   unfolding view
   with-room e l = by_head true e ∙ ap (λ (t : Bool). copied E sheet (choose t (next (view old n)) (stop NoSpace))) (le-leb n (length res) l)
 
@@ -87,7 +87,7 @@ module _ (edition : ℕ) (sheet old : List ℕ) (n : ℕ) (res : List ℕ) where
         ∙ view-written res (length res) (view old n) (omega (arith, view-count old n)) (omega arith) (bounded_view old n)
 
     -- the records work on the copy
-    pub came_copied : (r : ℕ) (x : Reading) (res'' : List ℕ) → r ≡ countIn sheet
+    pub came_copied : (r : ℕ) (x : Reading) (res'' : List ℕ) → r ≡ count_in sheet
         → Came (records (edition_of (length res') edition) sheet r 0 4 (view res' n)) res' x res'' → Came whole res x res''
     came_copied r x res'' k h = record {
       long = h.long ∙ copy_long;

@@ -24,7 +24,7 @@ use Rattle.storage.specs.declared.Change.{Change}
 use Rattle.storage.specs.declared.Change.TheVariants.{Done, Refused}
 use Rattle.storage.proofs.Checks.{beside_ok}
 use Rattle.storage.proofs.Stores.{outcome_ok, length-zeroed, zeroed_in, zeroed_out, zeroed_fit}
-use Rattle.storage.proofs.Combined.{madeWords, fewest_words, all_words_lem, all_hold, put_leaves, put_lacks}
+use Rattle.storage.proofs.Combined.{made_words, fewest_words, all_words_lem, all_hold, put_leaves, put_lacks}
 use Rattle.setops.specs.Setops.{combining, uniting}
 
 -- a store that has grown to m words, zipped with the other's: its first m words are those that the operation makes
@@ -86,7 +86,7 @@ module _ (ws os : List ℕ) (b o : Bitmap) (p : PassedTwo ws b os o) where
   -- `and`, `andnot`, `xor`, where the other's words from `last` on are 0
   module _ (op : SetOp) (last end : ℕ) (low : last ≤ o.count) (rest : nonzero_len (take o.count os) ≤ last) (ee : end ≡ end_by op n last) where
     abbrev words : List ℕ
-    words = madeWords op ws b os o
+    words = made_words op ws b os o
 
     front : (k : ℕ) → get_or (take last os) k 0 ≡ get_or (take o.count os) k 0
     front k =
@@ -150,11 +150,11 @@ module _ (ws os : List ℕ) (b o : Bitmap) (p : PassedTwo ws b os o) where
   short : nonzero_len (take o.count os) ≤ o.count
   short = omega (arith, nonzero_le (take o.count os), length-take-le o.count os p.other.inside)
 
-  pub and_done : (end r : ℕ) (ws' : List ℕ) → end ≡ min n o.count → Put (λ k. get_or (madeWords And ws b os o) k 0) 0 (max n end) ws ws' → r ≡ nonzero_len (take end ws')
+  pub and_done : (end r : ℕ) (ws' : List ℕ) → end ≡ min n o.count → Put (λ k. get_or (made_words And ws b os o) k 0) 0 (max n end) ws ws' → r ≡ nonzero_len (take end ws')
       → Changes (beside os o (combining And)) ws b (Done (with_count b r)) ws'
   and_done end r ws' ee = fewest_done And o.count end (omega arith) short ee r ws' (λ l. absurd (omega arith)) (omega (arith, p.own.inside))
 
-  pub andnot_done : (r : ℕ) (ws' : List ℕ) → Put (λ k. get_or (madeWords AndNot ws b os o) k 0) 0 (max n n) ws ws' → r ≡ nonzero_len (take n ws')
+  pub andnot_done : (r : ℕ) (ws' : List ℕ) → Put (λ k. get_or (made_words AndNot ws b os o) k 0) 0 (max n n) ws ws' → r ≡ nonzero_len (take n ws')
       → Changes (beside os o (combining AndNot)) ws b (Done (with_count b r)) ws'
   andnot_done r ws' = fewest_done AndNot o.count n (omega arith) short refl r ws' (λ l. absurd (omega arith)) p.own.inside
 
@@ -171,14 +171,14 @@ module _ (ws os : List ℕ) (b o : Bitmap) (p : PassedTwo ws b os o) where
 
   -- `or`
   module _ (end : ℕ) (ee : end ≡ max n o.count) where
-    union-changes : {a : Change} {ws' : List ℕ} → Leaves (within (length ws) (view (madeWords Or ws b os o) end)) ws b a ws' → Changes (beside os o uniting) ws b a ws'
+    union-changes : {a : Change} {ws' : List ℕ} → Leaves (within (length ws) (view (made_words Or ws b os o) end)) ws b a ws' → Changes (beside os o uniting) ws b a ws'
     unfolding uniting
-    union-changes = comes_to uniting (view (madeWords Or ws b os o) end) (ap (within (length ws)) (all_words_lem Or ws b os o p end ee))
+    union-changes = comes_to uniting (view (made_words Or ws b os o) end) (ap (within (length ws)) (all_words_lem Or ws b os o p end ee))
 
     pub union-refused : length ws < end → Changes (beside os o uniting) ws b (Refused NoSpace b) ws
-    union-refused h = union-changes (put_lacks (madeWords Or ws b os o) ws b end h)
+    union-refused h = union-changes (put_lacks (made_words Or ws b os o) ws b end h)
 
-    pub union_done : (ws' : List ℕ) → end ≤ length ws → Put (λ k. get_or (madeWords Or ws b os o) k 0) 0 (max n end) ws ws'
+    pub union_done : (ws' : List ℕ) → end ≤ length ws → Put (λ k. get_or (made_words Or ws b os o) k 0) 0 (max n end) ws ws'
         → Changes (beside os o uniting) ws b (Done (with_count b end)) ws'
     union_done ws' h q =
-        union-changes (put_leaves (madeWords Or ws b os o) ws b end (max n end) ws' (by_fit Or (take n ws) (take o.count os)) (all_hold Or ws b os o p end ee) h (omega arith) q)
+        union-changes (put_leaves (made_words Or ws b os o) ws b end (max n end) ws' (by_fit Or (take n ws) (take o.count os)) (all_hold Or ws b os o p end ee) h (omega arith) q)

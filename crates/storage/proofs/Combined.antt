@@ -105,12 +105,12 @@ part_short ws b p = omega (arith, p.short, p.inside, length-take-le b.count ws p
 
 module _ (op : SetOp) (ws : List ℕ) (b : Bitmap) (os : List ℕ) (o : Bitmap) where
   -- the words that the operation makes of those in use
-  abbrev pub madeWords : List ℕ
-  madeWords = words_by op (take b.count ws) (take o.count os)
+  abbrev pub made_words : List ℕ
+  made_words = words_by op (take b.count ws) (take o.count os)
 
   -- a call that reads two bitmaps asks of what the operation makes
   pub both_read : {A : Type 0} (refuse : Refusal → A) (f : Bits → A) → PassedTwo ws b os o
-      → reading_both ws b os o refuse (λ s t. f (combined op s t)) ≡ f (all_words madeWords)
+      → reading_both ws b os o refuse (λ s t. f (combined op s t)) ≡ f (all_words made_words)
   both_read refuse f p =
       both_ok ws b os o refuse (λ s t. f (combined op s t)) p
       ∙ ap f (combined_words op ws os b.count o.count p.own.inside p.other.inside)
@@ -136,23 +136,23 @@ trimmed-all ws f =
     (ap (λ (s : ℕ → Bool). trimmed_count s (length ws)) (fun_ext (all-member ws)) ∙ trimmed_words ws f)
 
 module _ (op : SetOp) (ws : List ℕ) (b : Bitmap) (os : List ℕ) (o : Bitmap) (p : PassedTwo ws b os o) where
-  pub fewest_words : trimmed (combined op (held ws b) (held os o)) ≡ view (madeWords op ws b os o) (nonzero_len (madeWords op ws b os o))
+  pub fewest_words : trimmed (combined op (held ws b) (held os o)) ≡ view (made_words op ws b os o) (nonzero_len (made_words op ws b os o))
   fewest_words =
       ap trimmed (combined_words op ws os b.count o.count p.own.inside p.other.inside)
-      ∙ trimmed-all (madeWords op ws b os o) (by_fit op (take b.count ws) (take o.count os))
+      ∙ trimmed-all (made_words op ws b os o) (by_fit op (take b.count ws) (take o.count os))
 
-  pub all_words_lem : (m : ℕ) → m ≡ max b.count o.count → combined op (held ws b) (held os o) ≡ view (madeWords op ws b os o) m
+  pub all_words_lem : (m : ℕ) → m ≡ max b.count o.count → combined op (held ws b) (held os o) ≡ view (made_words op ws b os o) m
   unfolding all_words
   all_words_lem m e =
       combined_words op ws os b.count o.count p.own.inside p.other.inside
-      ∙ ap (view (madeWords op ws b os o)) (by_length op (take b.count ws) (take o.count os)
+      ∙ ap (view (made_words op ws b os o)) (by_length op (take b.count ws) (take o.count os)
       ∙ ap₂ max (length-take-le b.count ws p.own.inside) (length-take-le o.count os p.other.inside) ∙ sym e)
 
-  pub all_hold : (m : ℕ) → m ≡ max b.count o.count → nonzero_len (madeWords op ws b os o) ≤ m
+  pub all_hold : (m : ℕ) → m ≡ max b.count o.count → nonzero_len (made_words op ws b os o) ≤ m
   all_hold m e =
       omega (
         arith,
-        nonzero_le (madeWords op ws b os o),
+        nonzero_le (made_words op ws b os o),
         by_length op (take b.count ws) (take o.count os),
         length-take-le b.count ws p.own.inside,
         length-take-le o.count os p.other.inside,

@@ -14,7 +14,7 @@ use Rattle.storage.specs.declared.Guard.{Guard}
 use Rattle.storage.specs.declared.Guard.TheVariants.{Pass, Stop}
 use Rattle.sheet.specs.declared.Added.{Added}
 use Rattle.sheet.specs.declared.Added.TheVariants.{Refused}
-use Rattle.editions.specs.Frames.{countIn, frames_fault, sheet_fault}
+use Rattle.editions.specs.Frames.{count_in, frames_fault, sheet_fault}
 use Rattle.sheet.specs.declared.Fields.{Fields}
 use Rattle.plain.specs.Writer.{most, Request, duty, remark, requested, Checked, bad, good, Entry, note, checked_of, bytes_of, Left, refuse, placed, placed_by, judged, added, Writes, Adds}
 use Rattle.editions.specs.Meaning.{Header}
@@ -84,7 +84,7 @@ module _ (buf : List ℕ) (len : ℕ) where
             where
               go : Dec (Header (take len buf)) → 4 ≤ length (take len buf)
               go (yes h) = h.0
-              go (no h) = absurd (none_some (sym sound ∙ take-false (frames_fault (take len buf) (countIn (take len buf)) 4) (some NotSheet) (headed_false (take len buf) h)))
+              go (no h) = absurd (none_some (sym sound ∙ take-false (frames_fault (take len buf) (count_in (take len buf)) 4) (some NotSheet) (headed_false (take len buf) h)))
 
       asked : (q : Request) → added buf len q ≡ placed_by buf len (checked_of q)
       asked q = looked q ∙ ap (judged buf len q) sound

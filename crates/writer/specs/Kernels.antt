@@ -2,7 +2,7 @@
 use Rattle.std.specs.Prelude.{ℕ, ◌+◌, ◌^◌, ◌/◌, ◌%◌, ◌≤◌, Bool, ◌||◌, List, length, leb, ltb}
 use Rattle.std.proofs.Math.Option.{Option, none, some}
 use Rattle.sheet.specs.Kinds.{numbered}
-use Rattle.editions.specs.Frames.{countIn}
+use Rattle.editions.specs.Frames.{count_in}
 use Rattle.plain.specs.Writer.{most, Checked, bad, good, edit, note}
 use Rattle.writer.specs.declared.Parts.{Parts}
 use Rattle.writer.specs.declared.Parts.TheVariants.{Are, Refused}
@@ -26,4 +26,4 @@ parts_of (good (note kind payload)) = Are 0 0
 
 -- a record with n bytes of payload has no room, or would be the 65,536th
 unfoldable pub roomless_in : List ℕ → ℕ → ℕ → Bool
-roomless_in buf len n = leb most (countIn buf) || ltb (length buf) (len + 3 + n)
+roomless_in buf len n = leb most (count_in buf) || ltb (length buf) (len + 3 + n)

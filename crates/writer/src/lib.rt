@@ -4,7 +4,7 @@ ghost use Rattle.std.proofs.lemmas.List.Edits.{sets};
 ghost use Rattle.word.specs.Sets.{val};
 ghost use Rattle.sheet.specs.Bytes.{bytes};
 ghost use Rattle.sheet.specs.Kinds.{size_in};
-ghost use Rattle.editions.specs.Frames.{countIn};
+ghost use Rattle.editions.specs.Frames.{count_in};
 ghost use Rattle.sheet.specs.Reads.{latest};
 ghost use Rattle.plain.specs.Plain.{Typed};
 ghost use Rattle.plain.specs.Writer.{most, checked_of, placed_by, duty, remark, Writes, Starts, Adds};
@@ -133,7 +133,7 @@ fn roomless(buffer: &[u8], length: usize, n: usize) -> bool
 // R raised, and the first three bytes of the record at the end.
 fn put_head(buffer: &mut [u8], at: usize, first: usize, n: usize)
     requires { (4 ≤ at) × (at + 3 ≤ length buffer.old) × (first < 256) }
-    ensures { buffer.new ≡ sets (sets buffer.old 2 (bytes 2 (countIn buffer.old + 1))) at (first ∷ bytes 2 n) }
+    ensures { buffer.new ≡ sets (sets buffer.old 2 (bytes 2 (count_in buffer.old + 1))) at (first ∷ bytes 2 n) }
 {
     let count = frames::record_count(buffer);
     put(buffer, 2, 2, count + 1);
