@@ -1,4 +1,6 @@
 // How each kind of answer crosses to C: of what is told of it the number is returned, and the rest goes out by parameters.
+#![tactic(auto)]
+
 ghost use Rattle.answers.specs.Answers.{ChangeOut, SplitOut, FoundOut, AmountOut, FieldOut, TruthOut, ValueOut, ReadingOut, AddedOut};
 
 use shapes::Split;
