@@ -4,3 +4,4 @@
 // Every call returns the number of document 01, 0 for done. A slice crosses as a pointer and a length. A bitmap's count goes in and out by one
 // parameter, and a refused call leaves it; a value goes out by a parameter, 0 where the call is refused. A truth value crosses as a number: 0 is
 // false, any other is true, and 1 is handed out for true.
+#![tactic(auto)]
