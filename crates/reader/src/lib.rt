@@ -1,4 +1,6 @@
 // The reader of change sheets. The old bitmap is copied into the result store, and each record's step works on it there.
+#![tactic(auto)]
+
 ghost use Rattle.std.specs.Prelude.{◌≡◌, ◌≤◌, length};
 ghost use Rattle.storage.specs.Stores.{no_words, space_of, view, held, written, Leaves, Changes, bitmap_of};
 ghost use Rattle.storage.specs.Guards.{Passed};

@@ -1,0 +1,43 @@
+-- 14 below edition 1, then over the latest, then the guard of both stores, then what `read_into` comes to; where that is refused the result is all zero.
+use mathlib.Core.Path.{sym, ◌∙◌}
+use native.Mathlib.Omega.{arith}
+use borrow.Author.Rules.{rules}
+use Rattle.storage.specs.Stores.{no_words}
+use Rattle.storage.specs.Guards.{PassedTwo}
+use Rattle.storage.proofs.Checks.{passed_two}
+use Rattle.reader.proofs.Courses.{edition_under, edition-over, guard_stopped, reads_done, reads-refused}
+use Rattle.reader.proofs.read.Goals as goal
+
+pub returns-then-edition-lt1 : goal.returns-then-edition-lt1
+returns-then-edition-lt1 c = edition_under _ _ _ _ _ (omega arith)
+
+pub returns-then-edition-gt-LATEST : goal.returns-then-edition-gt-LATEST
+returns-then-edition-gt-LATEST c = edition-over _ _ _ _ _ (omega arith)
+
+pub returns-in-Stop : goal.returns-in-Stop
+returns-in-Stop c = guard_stopped _ _ _ _ _ (omega arith) (omega arith) _ (sym c.in-Stop.is ∙ c.check_two.ensures)
+
+pub read_into-requires : goal.read_into-requires
+read_into-requires c =
+    let ok : let a = c.args in PassedTwo a.words.now a.b a.result.now no_words =
+      passed_two _ _ _ _ (sym c.in-Pass.is ∙ c.check_two.ensures) in
+    let p = ok in (p.own, p.other)
+
+pub returns-in-Done : goal.returns-in-Done
+returns-in-Done c =
+    let ok : let a = c.args in PassedTwo a.words.now a.b a.result.now no_words =
+      passed_two _ _ _ _ (sym c.in-Pass.is ∙ c.check_two.ensures) in
+    let r = c.read_into in
+    let d = c.n-1.given in
+    reads_done _ _ _ _ _ (omega arith) (omega arith) ok r.result r.new.1.1.1.1.0 d.0.0
+    d.0.1.0 d.1 r.ensures
+
+pub returns-in-Refused : goal.returns-in-Refused
+returns-in-Refused c =
+    let ok : let a = c.args in PassedTwo a.words.now a.b a.result.now no_words =
+      passed_two _ _ _ _ (sym c.in-Pass.is ∙ c.check_two.ensures) in
+    let r = c.read_into in
+    let d = c.why-1.given in
+    reads-refused _ _ _ _ _ (omega arith) (omega arith)
+    ok r.result r.new.1.1.1.1.0
+    c.zero_words.new.words d.0.0 d.0.1.0 d.1 r.ensures c.zero_words.ensures
