@@ -123,7 +123,7 @@ fn payload_size(kind: usize) -> usize
 // Whether a record with n bytes of payload has no room, or is one too many.
 fn roomless(buffer: &[u8], length: usize, n: usize) -> bool
     requires given { Given buffer.now length }
-    requires n_le_most { n ≤ most }
+    requires small { n ≤ most }
     ensures { result ≡ roomless_in buffer.now length n }
 {
     if frames::record_count(buffer) >= sheet::MOST {

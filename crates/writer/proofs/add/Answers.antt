@@ -7,32 +7,34 @@ use Rattle.writer.proofs.Adds.{adds_2, adds_fault, adds_given, adds_duty, adds_r
 use Rattle.writer.proofs.add.Goals as goal
 
 pub returns-then-length-buffer : goal.returns-then-length-buffer
-returns-then-length-buffer c = (adds_2 _ _ _ (omega arith), (omega arith, omega arith, omega arith))
+returns-then-length-buffer c = record { adds = adds_2 _ _ _ (omega arith); typed = (omega arith, omega arith, omega arith) }
 
 pub slice_bounds-fault-end-2 : goal.slice_bounds-fault-end-2
 slice_bounds-fault-end-2 c = sym (length-take-le _ _ (omega arith))
 
 pub returns-in-Stop : goal.returns-in-Stop
-returns-in-Stop c = (adds_fault _ _ (omega arith) _ c.fault.ensures _ _ c.in-Stop.is, (omega arith, omega arith, omega arith))
+returns-in-Stop c = record { adds = adds_fault _ _ (omega arith) _ c.fault.ensures _ _ c.in-Stop.is; typed = (omega arith, omega arith, omega arith) }
 
 pub add_duty-requires : goal.add_duty-requires
 add_duty-requires c = adds_given _ _ (omega arith) _ c.fault.ensures c.in-Pass.is
 
 pub returns-then-duty : goal.returns-then-duty
-returns-then-duty c = (
-  adds_duty _ _ (omega arith) _ c.fault.ensures
+returns-then-duty c = record {
+  adds =
+      adds_duty _ _ (omega arith) _ c.fault.ensures
       c.in-Pass.is _ _ _ _ _ _ c.if-duty.true
-      c.add_duty.ensures,
-  (omega arith, omega arith, omega arith),
-)
+      c.add_duty.ensures;
+  typed = (omega arith, omega arith, omega arith);
+}
 
 pub add_remark-requires : goal.add_remark-requires
 add_remark-requires c = adds_given _ _ (omega arith) _ c.fault.ensures c.in-Pass.is
 
 pub returns : goal.returns
-returns c = (
-  adds_remark _ _ (omega arith) _ c.fault.ensures
+returns c = record {
+  adds =
+      adds_remark _ _ (omega arith) _ c.fault.ensures
       c.in-Pass.is _ _ _ _ _ _ c.if-duty.false
-      c.add_remark.ensures,
-  (omega arith, omega arith, omega arith),
-)
+      c.add_remark.ensures;
+  typed = (omega arith, omega arith, omega arith);
+}

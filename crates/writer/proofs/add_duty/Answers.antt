@@ -9,7 +9,7 @@ use Rattle.writer.proofs.add_duty.Goals as goal
 pub roomless-requires : goal.roomless-requires
 roomless-requires c =
     let d = duty_good _ _ _ c.payload_parts.ensures _ _ _ c.in-Are.is c.payload_size-n.ensures in
-    (c.requires, omega (arith, d.small))
+    record { given = c.requires; small = omega (arith, d.small) }
 
 pub returns-then-roomless : goal.returns-then-roomless
 returns-then-roomless c =

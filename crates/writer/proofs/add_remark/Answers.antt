@@ -12,7 +12,7 @@ pub returns-then-n-gt-MOST : goal.returns-then-n-gt-MOST
 returns-then-n-gt-MOST c = by_bad _ _ _ _ (remark_12 _ _ (omega arith) (omega arith))
 
 pub roomless-requires : goal.roomless-requires
-roomless-requires c = (c.requires, omega arith)
+roomless-requires c = record { given = c.requires; small = omega arith }
 
 pub returns-then-roomless : goal.returns-then-roomless
 returns-then-roomless c = by_good _ _ _ _ _ _ (remark_good _ _ (omega arith) (omega arith)) (refused _ _ _ _ _ _ (remark_laid _ _) _ c.roomless.ensures c.if-roomless.true)
