@@ -9,7 +9,7 @@ use Rattle.arch.specs.Scans.{filled_words}
 use Rattle.storage.specs.Stores.{Outcome, and_then, no_words, checked, view, reading, reading_both, size, combined, found_below, within, bitmap_of}
 use Rattle.storage.specs.Stores.{words_for, trimmed_count, word_at, written, zeroed, answer, store, outcome}
 use Rattle.slice.specs.Slices.{equal, field_at}
-use Rattle.scans.specs.Searches.{next_clear}
+use Rattle.scans.specs.Searches.{next_clear as clear_from}
 use Rattle.bitwise.specs.Bitwise.{selected}
 use Rattle.shifts.specs.Shifts.{moved_up, moved_down, turned_down, rotating_right}
 use Rattle.bitmaps.specs.Bitmaps.{setting_region, tidied, flipping_bit}
@@ -59,8 +59,8 @@ out_of (from_list bytes c) = changed_by (outcome (read.reading_list plain_style 
 out_of (from_list_in y bytes c) = changed_by (outcome (read.reading_list y bytes) (zeros c) no_words) no_words (zeros c)
 out_of (write_list_in y ws n) = listed (reading ws (whole ws) Amount.Refused (list_answer y (zeros n))) (reading ws (whole ws) (λ e. zeros n) (list_buffer y (zeros n)))
 out_of (write_register ws n) = listed (reading ws (whole ws) Amount.Refused (register_answer (zeros n))) (reading ws (whole ws) (λ e. zeros n) (register_buffer (zeros n)))
-out_of (next_clear ws i) = counted (reading ws (whole ws) Amount.Refused (λ s. Amount.Is (next_clear s i)))
-out_of (first_clear ws) = counted (reading ws (whole ws) Amount.Refused (λ s. Amount.Is (next_clear s 0)))
+out_of (next_clear ws i) = counted (reading ws (whole ws) Amount.Refused (λ s. Amount.Is (clear_from s i)))
+out_of (first_clear ws) = counted (reading ws (whole ws) Amount.Refused (λ s. Amount.Is (clear_from s 0)))
 out_of (get_field ws i width) = fielded (reading ws (whole ws) Field.Refused (field_at i width))
 out_of (select ws k) = found (reading ws (whole ws) Found.Refused (selected k))
 out_of (eq ws os) = tested (reading_both ws (whole ws) os (whole os) Truth.Refused (λ s t. Truth.Is (equal s t)))
@@ -105,7 +105,7 @@ each (r ∷ rs) = (comes r.asked, each rs)
 -- the rows, computed
 computed : again starred ≡ starred
 unfolding count_below least_from top_below nth bit pack word_of member tab_from words_of filled_words and_then checked view reading reading_both size combined found_below
-    within words_for trimmed_count word_at written zeroed answer store outcome equal field_at next_clear selected moved_up moved_down turned_down rotating_right
+    within words_for trimmed_count word_at written zeroed answer store outcome equal field_at clear_from selected moved_up moved_down turned_down rotating_right
     setting_region uniting tidied flipping_bit raising lowered truncated tail_outcome head_outcome split_answer opening plain covers highest read.kind
     read.value read.token read.empty read.by_kind read.next read.reads read.parsed read.parse read.reading_list runs_from decimal_from singles pieces printed others text
     number row_of size_in rule_of sheets.act sheets.records sheets.read step edition_of course printing changed_by out_of again

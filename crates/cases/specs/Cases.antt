@@ -10,7 +10,7 @@ use Rattle.storage.specs.declared.Amount.{Amount}
 use Rattle.storage.specs.declared.Field.{Field}
 use Rattle.storage.specs.declared.Truth.{Truth}
 use Rattle.slice.specs.Slices.{equal, field_at}
-use Rattle.scans.specs.Searches.{next_clear}
+use Rattle.scans.specs.Searches.{next_clear as clear_from}
 use Rattle.bitwise.specs.Bitwise.{selected}
 use Rattle.shifts.specs.Shifts.{rotating_right}
 use Rattle.bitmaps.specs.Bitmaps.{flipping_bit}
@@ -86,8 +86,8 @@ Comes (from_list text c) out = (r : Change) (ws : List ℕ) → Changes (reading
 Comes (from_list_in y text c) out = (r : Change) (ws : List ℕ) → Changes (reading_list y text) (zeros c) no_words r ws → changed r ws ≡ out
 Comes (write_list_in y ws n) out = (r : Amount) (bytes : List ℕ) → Prints y ws (whole ws) (zeros n) r bytes → listed r bytes ≡ out
 Comes (write_register ws n) out = (r : Amount) (bytes : List ℕ) → Registers ws (whole ws) (zeros n) r bytes → listed r bytes ≡ out
-Comes (next_clear ws i) out = (r : Amount) → r ≡ reading ws (whole ws) Amount.Refused (λ s. Amount.Is (next_clear s i)) → counted r ≡ out
-Comes (first_clear ws) out = (r : Amount) → r ≡ reading ws (whole ws) Amount.Refused (λ s. Amount.Is (next_clear s 0)) → counted r ≡ out
+Comes (next_clear ws i) out = (r : Amount) → r ≡ reading ws (whole ws) Amount.Refused (λ s. Amount.Is (clear_from s i)) → counted r ≡ out
+Comes (first_clear ws) out = (r : Amount) → r ≡ reading ws (whole ws) Amount.Refused (λ s. Amount.Is (clear_from s 0)) → counted r ≡ out
 Comes (get_field ws i width) out = (r : Field) → r ≡ reading ws (whole ws) Field.Refused (field_at i width) → fielded r ≡ out
 Comes (select ws k) out = (r : Found) → r ≡ reading ws (whole ws) Found.Refused (selected k) → found r ≡ out
 Comes (eq ws os) out =
