@@ -38,10 +38,10 @@ returns-in-Refused c =
     let a = c.args in
     let w = told-whole _ _ _ c.record_end-end.ensures (omega arith) in
     let t = c.turn in
-    let e = c.why-1.given in
+    let e = c.in-Refused in
     came_refused _ _ _ _ _ (c.words-1.given ∙ l.invariant.long)
     (stops a.edition a.sheet.now a.n a.words.now a.old l.words l.count l.i l.at l.invariant (omega arith)
-    c.record_end-end.result w.0 w.1 t.result t.new.1.1.1.1.0 e.0.0 e.0.1.0 e.1 t.ensures)
+    c.record_end-end.result w.0 w.1 t.result t.new.words e.why e.field-1 e.is t.ensures)
 
 pub loop-i-preserved : goal.loop-i-preserved
 loop-i-preserved c =
@@ -49,9 +49,9 @@ loop-i-preserved c =
     let a = c.args in
     let w = told-whole _ _ _ c.record_end-end.ensures (omega arith) in
     let t = c.turn in
-    let e = c.after-1.given in
+    let e = c.in-Done in
     goes_on a.edition a.sheet.now a.n a.words.now a.old l.words l.count l.i l.at l.invariant (omega arith)
-    c.record_end-end.result w.0 w.1 t.result t.new.1.1.1.1.0 e.0.0 e.1 t.ensures
+    c.record_end-end.result w.0 w.1 t.result t.new.words e.after e.is t.ensures
 
 pub shape_of-words-then-at-sheet : goal.shape_of-words-then-at-sheet
 shape_of-words-then-at-sheet c = c.loop-i.invariant.long

@@ -11,19 +11,8 @@ use Rattle.reader.proofs.load.Goals as goal
 pub loop-k-init : goal.loop-k-init
 loop-k-init c = (omega arith, sweep_none _ _ _)
 
--- LOST overflow-mul-result-2
-mul-result-2 : tie.Need-overflow-mul-result-2 invariant-loop decreases-loop
-mul-result-2 c = omega (arith, c.before.before.loop.invariant.1.long)
-
--- LOST slice-write-result
-slice-write-result : tie.Need-slice-write-result invariant-loop decreases-loop
-slice-write-result c = omega (arith, c.before.before.loop.invariant.1.long)
-
 pub loop-k-preserved : goal.loop-k-preserved
 loop-k-preserved c = let l = c.loop-k in (omega arith, sweep_up _ _ _ _ _ _ l.invariant.1 (omega (arith, l.invariant.1.long)) (omega arith) refl)
-
-pub shape_of-res : goal.shape_of-res
-shape_of-res c = c.result.given ∙ c.loop-k.invariant.1.long
 
 pub returns : goal.returns
 returns c =

@@ -19,25 +19,25 @@ returns-in-Stop c = guard_stopped _ _ _ _ _ (omega arith) (omega arith) _ (sym c
 
 pub read_into-requires : goal.read_into-requires
 read_into-requires c =
-    let ok : let a = c.args in PassedTwo a.words.now a.b a.result.now no_words =
+    let ok : let a = c.args in PassedTwo a.words.now a.b a.res.now no_words =
       passed_two _ _ _ _ (sym c.in-Pass.is ∙ c.check_two.ensures) in
     let p = ok in (p.own, p.other)
 
 pub returns-in-Done : goal.returns-in-Done
 returns-in-Done c =
-    let ok : let a = c.args in PassedTwo a.words.now a.b a.result.now no_words =
+    let ok : let a = c.args in PassedTwo a.words.now a.b a.res.now no_words =
       passed_two _ _ _ _ (sym c.in-Pass.is ∙ c.check_two.ensures) in
     let r = c.read_into in
-    let d = c.n-1.given in
-    reads_done _ _ _ _ _ (omega arith) (omega arith) ok r.result r.new.1.1.1.1.0 d.0.0
-    d.0.1.0 d.1 r.ensures
+    let d = c.in-Done in
+    reads_done _ _ _ _ _ (omega arith) (omega arith) ok r.result r.new.res d.n
+    d.after d.is r.ensures
 
 pub returns-in-Refused : goal.returns-in-Refused
 returns-in-Refused c =
-    let ok : let a = c.args in PassedTwo a.words.now a.b a.result.now no_words =
+    let ok : let a = c.args in PassedTwo a.words.now a.b a.res.now no_words =
       passed_two _ _ _ _ (sym c.in-Pass.is ∙ c.check_two.ensures) in
     let r = c.read_into in
-    let d = c.why-1.given in
+    let d = c.in-Refused in
     reads-refused _ _ _ _ _ (omega arith) (omega arith)
-    ok r.result r.new.1.1.1.1.0
-    c.zero_words.new.words d.0.0 d.0.1.0 d.1 r.ensures c.zero_words.ensures
+    ok r.result r.new.res
+    c.zero_words.new.words d.why d.k d.is r.ensures c.zero_words.ensures

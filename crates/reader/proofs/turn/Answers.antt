@@ -16,5 +16,5 @@ returns-then-first-lt128 c =
 pub returns : goal.returns
 returns c =
     let a = c.args in
-    acts a.edition a.sheet.now a.at _ refl a.end a.words.now c.perform.new.1.1.1.0 a.b
+    acts a.edition a.sheet.now a.at _ refl a.end a.words.now c.perform.new.words a.b
     c.perform.result c.requires.0 (omega arith) c.perform.ensures
