@@ -1,5 +1,5 @@
 -- x over 2^n: 0 where n is 64 or more, else the shift.
-use Rattle.std.proofs.Common.{arith, rules}
+use Rattle.std.proofs.Common.{arith}
 use Rattle.word.proofs.Words.{down_out}
 use Rattle.word.proofs.moved_down.Goals as goal
 

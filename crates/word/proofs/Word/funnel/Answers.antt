@@ -1,5 +1,5 @@
 -- Place j is lo's place j + `down`, or, from `up` on, hi's place j - `up`: the two moved words joined.
-use Rattle.std.proofs.Common.{arith, rules}
+use Rattle.std.proofs.Common.{arith}
 use Rattle.word.proofs.Words.{funnel_is}
 use Rattle.word.proofs.Word.funnel.Goals as goal
 

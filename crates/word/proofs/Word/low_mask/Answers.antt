@@ -1,5 +1,5 @@
 -- The places below n are set: all of them where n is 64 or more, else those that moving all ones up by n leaves clear.
-use Rattle.std.proofs.Common.{arith, rules}
+use Rattle.std.proofs.Common.{arith}
 use Rattle.word.proofs.Words.{low_mask_lem, all_mask}
 use Rattle.word.proofs.Word.low_mask.Goals as goal
 

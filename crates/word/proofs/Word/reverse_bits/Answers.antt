@@ -1,5 +1,5 @@
 -- Place i is what was place 63 - i: the six swaps, of groups of 1, 2, 4, 8, 16 and 32 bits, turn the word round.
-use Rattle.std.proofs.Common.{arith, rules}
+use Rattle.std.proofs.Common.{arith}
 use Rattle.word.proofs.Reverse.{reversed}
 use Rattle.word.proofs.Word.reverse_bits.Goals as goal
 

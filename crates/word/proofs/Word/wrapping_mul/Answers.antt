@@ -1,5 +1,5 @@
 -- The product mod 2^64, by halves of 32 bits: no product of two halves overflows, and the two sums wrap.
-use Rattle.std.proofs.Common.{◌≡◌, ℕ, ◌+◌, ◌*◌, ◌/◌, ◌%◌, ◌^◌, ap, ◌∙◌, shr_lt, rules}
+use Rattle.std.proofs.Common.{◌≡◌, ℕ, ◌+◌, ◌*◌, ◌/◌, ◌%◌, ◌^◌, ap, ◌∙◌, shr_lt}
 use lib.Pow.{split}
 use lib.Bits.{bit_and, and_mask, mask_lt}
 use Rattle.word.proofs.Product.{product_lt, halves}
