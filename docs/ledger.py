@@ -20,11 +20,11 @@ SHORT_WAY = [
     ("word/specs/Places.antt", "bit", "member"),
     ("storage/specs/Stores.antt", "Bits", "reading"),
     ("storage/specs/Stores.antt", "within", "within"),
-    ("storage/specs/Stores.antt", "wordAt", "written"),
+    ("storage/specs/Stores.antt", "word_at", "written"),
     ("storage/specs/Stores.antt", "answer", "Changes"),
-    ("storage/specs/Refusals.antt", "lastNumber", "numberOf"),
-    ("storage/specs/Refusals.antt", "changeNumber", "changeRecord"),
-    ("storage/specs/Guards.antt", "mostWords", "Passed"),
+    ("storage/specs/Refusals.antt", "last_number", "number_of"),
+    ("storage/specs/Refusals.antt", "change_number", "change_record"),
+    ("storage/specs/Guards.antt", "most_words", "Passed"),
     ("storage/specs/Promises.antt", "Guarded", "Guarded"),
     ("storage/specs/Promises.antt", "SpaceRules", "SpaceRules"),
     ("storage/specs/Promises.antt", "Meets", "Meets"),
@@ -50,6 +50,11 @@ def total(paths):
     return sum(lines(p) for p in paths)
 
 
+def answered(here):
+    """The files of functions' proofs, each function's in a folder of its name."""
+    return sorted(p for p in here.glob("proofs/**/*.antt") if p.parent != here / "proofs")
+
+
 def counts(crate):
     here = CRATES / crate
     specs = [p for p in sorted(here.glob("specs/*.antt")) if p.name != "Lib.antt"]
@@ -62,8 +67,8 @@ def counts(crate):
         "promises": total(promises),
         "kernels": total(kernels),
         "laws": total(p for p in here.glob("proofs/*.antt") if p.name != "Lib.antt"),
-        "proofs": total(here.glob("proofs/**/Proof.antt")),
-        "functions": len(list(here.glob("proofs/**/Proof.antt"))),
+        "proofs": total(answered(here)),
+        "functions": len({p.parent for p in answered(here)}),
         "edits": len(list(here.glob("must-fail/*.edit"))),
     }
 
@@ -177,7 +182,7 @@ def cases(stdout):
 
 def headless():
     """Edits and functions' proofs that do not begin with a line of words."""
-    files = sorted(CRATES.glob("*/must-fail/*.edit")) + sorted(CRATES.glob("*/proofs/**/Proof.antt"))
+    files = sorted(CRATES.glob("*/must-fail/*.edit")) + [p for crate in names() for p in answered(CRATES / crate)]
     for path in files:
         mark = "# " if path.suffix == ".edit" else "-- "
         if not path.read_text().startswith(mark):
