@@ -1,6 +1,5 @@
 -- The set bits of all words are counted, mod 2^64. Loop: n has those of the words below i.
-use Rattle.std.proofs.Common.{◌≡◌, ◌-◌, ◌*◌, ◌%◌, ◌^◌, ◌≤◌, length, arith, rules}
-use Rattle.arch.proofs.Counts.{count-start, count_next, count-end}
+use Rattle.std.proofs.Common.{◌≡◌, ◌-◌, ◌*◌, ◌%◌, ◌^◌, ◌≤◌, length}
 use Rattle.word.specs.Sets.{count_below}
 use Rattle.word.specs.Places.{member}
 use Rattle.arch.proofs.count_set_bits.Given as goal

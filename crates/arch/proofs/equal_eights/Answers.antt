@@ -1,6 +1,5 @@
 -- Every word below the answer is x, and the answer is within the length. Loop: the words below i are x.
-use Rattle.std.proofs.Common.{◌-◌, ◌≤◌, length, arith}
-use Rattle.arch.specs.Scans.{Alike}
+use Rattle.std.proofs.Common.{arith}
 use Rattle.arch.proofs.Scans.{alike_none, alike_join}
 use Rattle.arch.proofs.equal_eights.Goals as goal
 

@@ -1,7 +1,6 @@
 -- Every word below the answer is x, and the answer is within the length. Loop: the words below i are x.
-use Rattle.std.proofs.Common.{◌-◌, ◌≤◌, length, arith}
+use Rattle.std.proofs.Common.{◌-◌, ◌≤◌, length}
 use Rattle.arch.specs.Scans.{Alike}
-use Rattle.arch.proofs.Scans.{alike_none, alike_join}
 use Rattle.arch.proofs.equal_eights.Given as goal
 
 abbrev pub invariant-loop-i : goal.invariant-loop-i

@@ -1,5 +1,5 @@
 -- The bits from `from` on, below `end`, become the value, as far as there are words: the first word by a mask, whole words, the last by a mask.
-use Rattle.std.proofs.Common.{arith, rules}
+use Rattle.std.proofs.Common.{arith}
 use Rattle.arch.proofs.Regions.{region_by}
 use Rattle.arch.proofs.fill_region.Goals as goal
 

@@ -1,6 +1,6 @@
 -- The words from a on, below e, become x, as far as there are words. Loop: below i they are x, from i on as they were.
-use Rattle.std.proofs.Common.{◌-◌, ◌≤◌, min, max, length, refl, arith, rules}
-use Rattle.word.proofs.Sweep.{Swept, sweep_none, sweep_up}
+use Rattle.std.proofs.Common.{refl, arith}
+use Rattle.word.proofs.Sweep.{sweep_none, sweep_up}
 use Rattle.arch.proofs.Regions.{filled_is}
 use Rattle.arch.proofs.fill_words.Goals as goal
 

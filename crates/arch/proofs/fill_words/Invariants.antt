@@ -1,7 +1,6 @@
 -- The words from a on, below e, become x, as far as there are words. Loop: below i they are x, from i on as they were.
-use Rattle.std.proofs.Common.{◌-◌, ◌≤◌, min, max, length, refl, arith, rules}
-use Rattle.word.proofs.Sweep.{Swept, sweep_none, sweep_up}
-use Rattle.arch.proofs.Regions.{filled_is}
+use Rattle.std.proofs.Common.{◌-◌, ◌≤◌, min, max, length}
+use Rattle.word.proofs.Sweep.{Swept}
 use Rattle.arch.proofs.fill_words.Given as goal
 
 abbrev pub invariant-loop-i : goal.invariant-loop-i

@@ -1,5 +1,4 @@
 -- The first word other than 0 with its index; nothing where that index is the length.
-use Rattle.std.proofs.Common.{rules}
 use Rattle.arch.proofs.Scans.{found_at, found_none}
 use Rattle.arch.proofs.first_nonzero.Goals as goal
 

@@ -1,6 +1,5 @@
 -- The index of the first word other than x, or the length. Loop: every word below i is x.
-use Rattle.std.proofs.Common.{◌-◌, length, arith, rules}
-use Rattle.arch.specs.Scans.{Alike}
+use Rattle.std.proofs.Common.{arith}
 use Rattle.arch.proofs.Scans.{alike_join, alike_one, other_at, other_none}
 use Rattle.arch.proofs.first_other.Goals as goal
 

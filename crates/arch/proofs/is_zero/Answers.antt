@@ -1,5 +1,4 @@
 -- Every word is 0 exactly where the first word other than 0 is at the length.
-use Rattle.std.proofs.Common.{rules}
 use Rattle.arch.proofs.Scans.{zero_is}
 use Rattle.arch.proofs.is_zero.Goals as goal
 

@@ -1,7 +1,6 @@
 -- The length without trailing zero words. Loop: every word from `end` on is 0.
-use Rattle.std.proofs.Common.{◌≤◌, length, arith, rules}
+use Rattle.std.proofs.Common.{arith}
 use Rattle.arch.proofs.Scans.{nonzero_none, alike_to, alike_join, alike_one, nonzero_at}
-use Rattle.arch.specs.Scans.{Alike}
 use Rattle.arch.proofs.nonzero_len.Goals as goal
 
 pub loop-end-init : goal.loop-end-init

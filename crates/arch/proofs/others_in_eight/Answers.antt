@@ -1,5 +1,4 @@
 -- Where the answer is 0 the eight words from i on are all x: each of the eight differences is 0.
-use Rattle.std.proofs.Common.{arith}
 use Rattle.arch.proofs.Eights.{others_none}
 use Rattle.arch.proofs.others_in_eight.Goals as goal
 

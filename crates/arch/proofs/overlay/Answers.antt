@@ -1,5 +1,5 @@
 -- Word k has the value at the mask's places, its own at the others: no change past the end, then the mask is joined, or taken out.
-use Rattle.std.proofs.Common.{get_or, set, sym, ap, ◌∙◌, arith, rules}
+use Rattle.std.proofs.Common.{get_or, set, sym, ap, ◌∙◌, arith}
 use lib.Seq.{set_out}
 use Rattle.arch.specs.Kernels.{filled_places}
 use Rattle.arch.proofs.Regions.{overlaid-set, overlaid_clear}

@@ -1,5 +1,5 @@
 -- The places of word k that lie from `from` on, below `end`: the low mask up to `end` without the one up to `from`.
-use Rattle.std.proofs.Common.{ap, ◌∙◌, rules}
+use Rattle.std.proofs.Common.{ap, ◌∙◌}
 use Rattle.word.specs.Words.{low_mask}
 use Rattle.arch.proofs.Regions.{places_is}
 use Rattle.arch.proofs.places.Goals as goal

@@ -1,5 +1,5 @@
 -- Word k; 0 from the end on.
-use Rattle.std.proofs.Common.{sym, rules}
+use Rattle.std.proofs.Common.{sym}
 use Rattle.word.proofs.Lists.{past}
 use Rattle.arch.proofs.word_at.Goals as goal
 

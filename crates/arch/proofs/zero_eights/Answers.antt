@@ -1,6 +1,5 @@
 -- Every word from the answer on is 0, and the answer is within the length. Loop: the words from `end` on are 0.
-use Rattle.std.proofs.Common.{◌≤◌, length, arith}
-use Rattle.arch.specs.Scans.{Alike}
+use Rattle.std.proofs.Common.{arith}
 use Rattle.arch.proofs.Scans.{alike_none, alike_join}
 use Rattle.arch.proofs.zero_eights.Goals as goal
 

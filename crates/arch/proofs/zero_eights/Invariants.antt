@@ -1,7 +1,6 @@
 -- Every word from the answer on is 0, and the answer is within the length. Loop: the words from `end` on are 0.
-use Rattle.std.proofs.Common.{◌≤◌, length, arith}
+use Rattle.std.proofs.Common.{◌≤◌, length}
 use Rattle.arch.specs.Scans.{Alike}
-use Rattle.arch.proofs.Scans.{alike_none, alike_join}
 use Rattle.arch.proofs.zero_eights.Given as goal
 
 abbrev pub invariant-loop-end : goal.invariant-loop-end

@@ -1,5 +1,4 @@
 -- The end past which only zeros are made: the smaller length for and, the first for andnot, the larger for or and xor.
-use borrow.Author.Rules.{rules}
 use Rattle.pairs.proofs.end_of.Goals as goal
 
 pub returns-in-And : goal.returns-in-And

@@ -1,10 +1,6 @@
 -- Whether the operation makes only zero words. Loop: the words that it makes below k are 0.
-use Prim.Native.Nat.{◌-◌}
 use native.Mathlib.Omega.{arith}
-use borrow.Author.Rules.{rules}
-use Rattle.arch.specs.Scans.{Alike}
 use Rattle.arch.proofs.Scans.{alike_one, alike_join}
-use Rattle.pairs.specs.Pairs.{words_by}
 use Rattle.pairs.proofs.Scans.{past_end, zero-not, zero-all, eights_zero}
 use mathlib.Core.Path.{sym, ◌∙◌}
 use Rattle.pairs.proofs.is_zero.Goals as goal

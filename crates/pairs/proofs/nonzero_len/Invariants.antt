@@ -1,13 +1,8 @@
 -- The length of what the operation makes, without trailing zero words. Loop: the words that it makes from `end` on are 0.
 use Prim.Native.Nat.{◌≤◌}
-use native.Mathlib.Omega.{arith}
-use borrow.Author.Rules.{rules}
 use lib.ListN.{length}
 use Rattle.arch.specs.Scans.{Alike}
-use Rattle.arch.proofs.Scans.{alike_to, alike_one, alike_join, nonzero_at, nonzero_none}
 use Rattle.pairs.specs.Pairs.{words_by}
-use Rattle.pairs.proofs.Scans.{past_end, end-within}
-use mathlib.Core.Path.{sym, ◌∙◌}
 use Rattle.pairs.proofs.nonzero_len.Given as goal
 
 abbrev pub invariant-loop-end : goal.invariant-loop-end

@@ -1,12 +1,7 @@
 -- The answer is 0 exactly where the eight words made from i on are 0. Loop: `some` is 0 exactly where those from i on, below k, are 0.
-use mathlib.Core.Path.{sym, ◌∙◌}
 use Prim.Native.Nat.{◌+◌, ◌-◌, ◌≤◌}
-use native.Mathlib.Omega.{arith}
-use borrow.Author.Rules.{rules}
-use Rattle.arch.proofs.Scans.{alike_to}
 use Rattle.pairs.specs.Pairs.{words_by}
-use Rattle.pairs.proofs.Tables.{by_at}
-use Rattle.pairs.proofs.Scans.{Joined, joined-start, joined-more}
+use Rattle.pairs.proofs.Scans.{Joined}
 use Rattle.pairs.proofs.some_in_eight.Given as goal
 
 abbrev pub invariant-loop-k : goal.invariant-loop-k

@@ -2,7 +2,6 @@
 use mathlib.Core.Path.{sym, ap₂, ◌∙◌}
 use Rattle.pairs.specs.Pairs.{word_by}
 use Rattle.pairs.proofs.Tables.{by_at}
-use borrow.Author.Rules.{rules}
 use Rattle.pairs.proofs.word_at.Goals as goal
 
 pub returns : goal.returns

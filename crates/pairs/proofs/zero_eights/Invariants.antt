@@ -1,14 +1,9 @@
 -- The index behind the whole eights of zeros made from `from` on, where both slices have them. Loop: k is whole eights on, and from `from` on, below k, all are 0.
 use mathlib.Core.Path.{◌≡◌}
 use Prim.Native.Nat.{◌-◌, ◌%◌, ◌≤◌, min, max}
-use native.Mathlib.Omega.{arith}
-use borrow.Author.Rules.{rules}
 use lib.ListN.{length}
 use Rattle.arch.specs.Scans.{Alike}
-use Rattle.arch.proofs.Scans.{alike_none, alike_join}
 use Rattle.pairs.specs.Pairs.{words_by}
-use Rattle.pairs.proofs.Tables.{by_length}
-use Rattle.pairs.proofs.Scans.{eights_end, eights_other}
 use Rattle.pairs.proofs.zero_eights.Given as goal
 
 abbrev pub invariant-loop-k : goal.invariant-loop-k

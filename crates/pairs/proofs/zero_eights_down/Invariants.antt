@@ -1,9 +1,6 @@
 -- Every word made from the answer on, below `from`, is 0. Loop: those from `end` on, below `from`, are 0, and both slices reach to `end`.
-use Prim.Native.Nat.{◌-◌, ◌≤◌}
-use native.Mathlib.Omega.{arith}
-use borrow.Author.Rules.{rules}
+use Prim.Native.Nat.{◌≤◌}
 use Rattle.arch.specs.Scans.{Alike}
-use Rattle.arch.proofs.Scans.{alike_none, alike_join}
 use Rattle.pairs.specs.Pairs.{words_by}
 use lib.ListN.{length}
 use Rattle.pairs.proofs.zero_eights_down.Given as goal

@@ -1,7 +1,6 @@
 -- How many of the eight bytes are at most n: as n and the bytes leave each top bit free, no byte borrows of the next.
 use mathlib.Core.Path.{◌∙◌, ap}
 use Prim.Native.Nat.{ℕ, ◌/◌, ◌^◌}
-use borrow.Author.Rules.{rules}
 use Rattle.select.proofs.Before.{no_borrow, before}
 use Rattle.select.proofs.bytes_before.Goals as goal
 

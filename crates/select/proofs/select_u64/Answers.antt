@@ -1,6 +1,5 @@
 -- The place of the n-th set bit, 64 if there is none: the constant is the table of the rule, each of its 2,048 entries computed.
 use mathlib.Core.Path.{refl}
-use borrow.Author.Rules.{rules}
 use Rattle.word.specs.Sets.{count_below, nth}
 use Rattle.word.specs.Places.{bit, tab_from}
 use Rattle.select.specs.Select.{select_table}

@@ -1,7 +1,6 @@
 -- 64 where x has at most n set bits, else the place of the n-th one by the table that is lent.
 use mathlib.Core.Path.{sym}
 use native.Mathlib.Omega.{arith}
-use borrow.Author.Rules.{rules}
 use Rattle.select.proofs.Table.{select_none}
 use Rattle.select.proofs.select_u64_portable.Goals as goal
 

@@ -1,6 +1,5 @@
 -- The first store's refusal, and where it has none what is found of the two others in their order.
 use mathlib.Core.Path.{sym, ◌∙◌}
-use borrow.Author.Rules.{rules}
 use Rattle.storage.proofs.Checks.{guard_stops, guard_goes_on}
 use Rattle.storage.proofs.check_three.Goals as goal
 

@@ -1,6 +1,5 @@
 -- The first store's refusal, and where it has none what is found of the second.
 use mathlib.Core.Path.{sym, ◌∙◌}
-use borrow.Author.Rules.{rules}
 use Rattle.storage.proofs.Checks.{guard_stops, guard_goes_on}
 use Rattle.storage.proofs.check_two.Goals as goal
 

@@ -1,5 +1,4 @@
 -- The words from the old count on, below the new one, become 0, as far as the store has them; the others stay.
-use borrow.Author.Rules.{rules}
 use Rattle.storage.specs.Stores.{zeroed}
 use Rattle.storage.proofs.zero_words.Goals as goal
 

@@ -1,7 +1,6 @@
 -- Each of the four operations, one by one: every place has what the truth table makes of the two bits.
 use native.Mathlib.Omega.{arith}
 use Rattle.pairs.proofs.Tables.{by_and, by_andnot, by_or, by_xor}
-use borrow.Author.Rules.{rules}
 use Rattle.pairs.proofs.SetOp.word.Goals as goal
 
 pub returns-in-And : goal.returns-in-And
