@@ -63,13 +63,13 @@ pub fn right_words(words: &mut [u64], k: usize)
 {
     let n = words.len();
     let whole = k / 64;
-    let odd = k % 64;
-    let rest = 64 - odd;
+    let down = k % 64;
+    let rest = 64 - down;
     if whole >= n {
         arch::fill_words(words, 0, n, 0);
         return;
     }
-    if odd == 0 {
+    if down == 0 {
         moves::move_down(words, whole);
         arch::fill_words(words, n - whole, n, 0);
         return;
@@ -78,10 +78,10 @@ pub fn right_words(words: &mut [u64], k: usize)
     let last = n - whole - 1;
     let mut i = 0;
     while i < last {
-        words[i] = step(words[i + whole], words[i + whole + 1], odd, rest);
+        words[i] = step(words[i + whole], words[i + whole + 1], down, rest);
         i += 1;
     }
-    words[last] = step(words[n - 1], 0, odd, rest);
+    words[last] = step(words[n - 1], 0, down, rest);
     arch::fill_words(words, last + 1, n, 0);
 }
 

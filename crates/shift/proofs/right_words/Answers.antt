@@ -19,16 +19,16 @@ shape_of-words-then-whole-n c = ap length c.fill_words.ensures ∙ length-filled
 pub returns-then-whole-n : goal.returns-then-whole-n
 returns-then-whole-n c = right_out _ (λ m. omega (arith, c.slice_known-1.given m)) _ _ (omega arith) c.fill_words.ensures
 
-pub shape_of-words-then-odd-eq0 : goal.shape_of-words-then-odd-eq0
-shape_of-words-then-odd-eq0 c = ap length c.fill_words-then-odd-eq0.ensures ∙ length-filled_words _ _ _ _ ∙ (gone_down _ _ _ c.move_down.ensures).long
+pub shape_of-words-then-down-eq0 : goal.shape_of-words-then-down-eq0
+shape_of-words-then-down-eq0 c = ap length c.fill_words-then-down-eq0.ensures ∙ length-filled_words _ _ _ _ ∙ (gone_down _ _ _ c.move_down.ensures).long
 
-pub returns-then-odd-eq0 : goal.returns-then-odd-eq0
-returns-then-odd-eq0 c =
+pub returns-then-down-eq0 : goal.returns-then-down-eq0
+returns-then-down-eq0 c =
     right_moved c.args.words.now
     (λ m. omega (arith, c.slice_known-1.given m)) _
     c.move_down.new.words _
     (gone_down _ _ _ c.move_down.ensures) (omega arith) (omega arith)
-    c.fill_words-then-odd-eq0.ensures
+    c.fill_words-then-down-eq0.ensures
 
 pub loop-i-init : goal.loop-i-init
 loop-i-init c = (omega arith, sweep_none _ _ _)
