@@ -1,64 +1,80 @@
 // Reads a change sheet from standard input and prints what each edition makes of it, from an empty bitmap: edition, number, record, word count, and
 // the list unless it is empty.
-use libc::{STDIN_FILENO, STDOUT_FILENO};
+#![tactic(auto)]
+
 use sheet::Reading;
+use std::io;
+use std::io::Read;
 use storage::{Amount, Bitmap, EMPTY};
 use style::PLAIN;
 
 // The most bytes of a sheet that is read.
 const MOST: usize = 65_535;
 
-fn put(text: &[u8]) {
-    io::write_all(STDOUT_FILENO, text);
+fn put(rt: &impl Print, text: &[u8]) -> io::Result<()> {
+    rt.write_all(text)
 }
 
 // Edition, number, record and word count, with one blank between.
-fn answer(edition: usize, number: usize, record: usize, count: usize) {
-    io::print_decimal(STDOUT_FILENO, edition as u64);
-    put(b" ");
-    io::print_decimal(STDOUT_FILENO, number as u64);
-    put(b" ");
-    io::print_decimal(STDOUT_FILENO, record as u64);
-    put(b" ");
-    io::print_decimal(STDOUT_FILENO, count as u64);
+fn answer(
+    rt: &impl Print,
+    edition: usize,
+    number: usize,
+    record: usize,
+    count: usize,
+) -> io::Result<()> {
+    rt.print(edition)?;
+    put(rt, b" ")?;
+    rt.print(number)?;
+    put(rt, b" ")?;
+    rt.print(record)?;
+    put(rt, b" ")?;
+    rt.print(count)
 }
 
 // A blank and the list; nothing for an empty one.
-fn list(words: &[u64], b: Bitmap) {
-    let mut out = io::large_buffer();
+fn list(rt: &impl Print, words: &[u64], b: Bitmap) -> io::Result<()> {
+    let mut out = [0u8; 65536];
     match print::write_list(words, b, &mut out, PLAIN) {
         Amount::Is(n) => {
             if n > 0 {
-                put(b" ");
-                put(&out[..n]);
+                put(rt, b" ")?;
+                put(rt, &out[..n])?;
             }
         }
         Amount::Refused(_) => {}
     }
+    Ok(())
 }
 
 // One edition's line.
-fn line(edition: usize, sheet: &[u8]) {
+fn line(rt: &impl Print, edition: usize, sheet: &[u8]) -> io::Result<()> {
     let old: [u64; 1] = [0; 1];
     let mut store: [u64; 128] = [0; 128];
     match reader::read(edition, sheet, &old, EMPTY, &mut store) {
         Reading::Done(records, b) => {
-            answer(edition, 0, records, b.count);
-            list(&store, b);
+            answer(rt, edition, 0, records, b.count)?;
+            list(rt, &store, b)?;
         }
-        Reading::Refused(e, record) => answer(edition, e.number() as usize, record, 0),
+        Reading::Refused(e, record) => answer(rt, edition, e.number() as usize, record, 0)?,
     }
-    put(b"\n");
+    put(rt, b"\n")
 }
 
-fn main() {
-    let mut input = io::large_buffer();
-    let n = io::read_full(STDIN_FILENO, &mut input);
+// Reads until the buffer is full or the input ends: how many bytes it has then.
+fn load(rt: &impl Input, input: &mut [u8; 65536]) -> io::Result<usize> {
+    let mut to = &mut input[..];
+    let n = io::copy(&mut rt.reader().take(65_536), &mut to)?;
+    Ok(n as usize)
+}
+
+fn main(rt: HostRuntime) -> io::Result<()> {
+    let mut input = [0u8; 65536];
+    let n = load(&rt, &mut input)?;
     if n > MOST {
-        answer(0, 6, 0, 0);
-        put(b"\n");
-        return;
+        answer(&rt, 0, 6, 0, 0)?;
+        return put(&rt, b"\n");
     }
-    line(1, &input[..n]);
-    line(2, &input[..n]);
+    line(&rt, 1, &input[..n])?;
+    line(&rt, 2, &input[..n])
 }
