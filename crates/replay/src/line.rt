@@ -1,6 +1,7 @@
 // A line of the list: hexadecimal numbers with a comma between, byte 10 at the end. A number without digits is 0; a tilde before it stands for its
 // complement.
-use libc::STDIN_FILENO;
+use std::io;
+use std::io::Read;
 use word::Word;
 
 // What a line is.
@@ -43,23 +44,30 @@ fn wide(x: u8) -> u64 {
     x as u64
 }
 
+// Reads until the buffer is full or the input ends: how many bytes it has then.
+fn load(rt: &impl Input, buf: &mut [u8; 65536]) -> io::Result<usize> {
+    let mut to = &mut buf[..];
+    let n = io::copy(&mut rt.reader().take(65_536), &mut to)?;
+    Ok(n as usize)
+}
+
 // The next byte of the input: bytes at to end of the buffer are not yet read.
-fn next(buf: &mut [u8; 65536], at: usize, end: usize) -> Byte {
+fn next(rt: &impl Input, buf: &mut [u8; 65536], at: usize, end: usize) -> io::Result<Byte> {
     if at < end {
         if at < 65536 {
-            return Byte {
+            return Ok(Byte {
                 byte: wide(buf[at]),
                 at: at + 1,
                 end: end,
-            };
+            });
         }
     }
-    let n = io::read_full(STDIN_FILENO, buf);
-    Byte {
+    let n = load(rt, buf)?;
+    Ok(Byte {
         byte: if n == 0 { NONE } else { wide(buf[0]) },
         at: 1,
         end: n,
-    }
+    })
 }
 
 // The value of a hexadecimal digit; 16 for any other byte.
@@ -163,7 +171,12 @@ pub(crate) fn told(kind: u64, count: usize, at: usize, end: usize) -> Line {
 }
 
 // Reads a line's numbers, of which at most 1,024 are kept.
-pub(crate) fn read(buf: &mut [u8; 65536], from: Line, numbers: &mut [u64; 1024]) -> Line {
+pub(crate) fn read(
+    rt: &impl Input,
+    buf: &mut [u8; 65536],
+    from: Line,
+    numbers: &mut [u64; 1024],
+) -> io::Result<Line> {
     let mut b = Byte {
         byte: 0,
         at: from.at,
@@ -171,12 +184,12 @@ pub(crate) fn read(buf: &mut [u8; 65536], from: Line, numbers: &mut [u64; 1024])
     };
     let mut p = before(SOUND, false, 0);
     for step in 0..LONGEST {
-        b = next(buf, b.at, b.end);
+        b = next(rt, buf, b.at, b.end)?;
         put(numbers, p.count, p.x ^ p.flip);
         p = taken(p, b.byte, step);
         if p.ended {
-            return told(p.kind, p.count, b.at, b.end);
+            return Ok(told(p.kind, p.count, b.at, b.end));
         }
     }
-    told(MALFORMED, p.count, b.at, b.end)
+    Ok(told(MALFORMED, p.count, b.at, b.end))
 }

@@ -1,5 +1,7 @@
 // Replays a list of calls with the answers of the Rust, from standard input (oracle/README.md has its lines): a line for each mismatch, and a line for
 // each call with the number of its cases and of its mismatches.
+#![tactic(auto)]
+
 mod call;
 mod case;
 mod changing;
@@ -8,7 +10,7 @@ mod line;
 mod reading;
 mod store;
 
-use libc::STDOUT_FILENO;
+use std::io;
 
 // The most lines of a list.
 const MOST: u64 = 100_000_000;
@@ -22,43 +24,43 @@ struct Tally {
     all_wrong: u64,
 }
 
-fn put(text: &[u8]) {
-    io::write_all(STDOUT_FILENO, text);
+fn put(rt: &impl Print, text: &[u8]) -> io::Result<()> {
+    rt.write_all(text)
 }
 
-fn number(n: u64) {
-    put(b" ");
-    io::print_decimal(STDOUT_FILENO, n);
+fn number(rt: &impl Print, n: u64) -> io::Result<()> {
+    put(rt, b" ")?;
+    rt.print(n)
 }
 
 // Names the line, the call by its number, and what differs.
-fn mismatch(line: u64, op: u64, what: u64) {
-    put(b"line");
-    number(line);
-    put(b": call ");
-    io::print_hex(STDOUT_FILENO, op, 2);
+fn mismatch(rt: &impl Print, line: u64, op: u64, what: u64) -> io::Result<()> {
+    put(rt, b"line")?;
+    number(rt, line)?;
+    put(rt, b": call ")?;
+    print!(rt; "{op:02x}")?;
     match what {
-        case::OTHER_ANSWER => put(b" answers otherwise\n"),
-        case::OTHER_WORDS => put(b" leaves other words\n"),
-        case::OTHER_OUTPUT => put(b" leaves another second output\n"),
-        _ => put(b" is malformed\n"),
+        case::OTHER_ANSWER => put(rt, b" answers otherwise\n"),
+        case::OTHER_WORDS => put(rt, b" leaves other words\n"),
+        case::OTHER_OUTPUT => put(rt, b" leaves another second output\n"),
+        _ => put(rt, b" is malformed\n"),
     }
 }
 
 // The line of a call whose cases are all replayed: the list has its name.
-fn summary(line: &[u64; 1024], t: Tally) -> Tally {
+fn summary(rt: &impl Print, line: &[u64; 1024], t: Tally) -> io::Result<Tally> {
     let name = store::bytes(line, 512);
     let n = store::at_most(store::at(line, 16), 512);
-    put(&name[0..n]);
-    number(t.cases);
-    number(t.wrong);
-    put(b"\n");
-    Tally {
+    put(rt, &name[0..n])?;
+    number(rt, t.cases)?;
+    number(rt, t.wrong)?;
+    put(rt, b"\n")?;
+    Ok(Tally {
         cases: 0,
         wrong: 0,
         all_cases: t.all_cases,
         all_wrong: t.all_wrong,
-    }
+    })
 }
 
 fn counted(t: Tally, wrong: u64) -> Tally {
@@ -71,24 +73,31 @@ fn counted(t: Tally, wrong: u64) -> Tally {
 }
 
 // Replays a line of that kind and count of numbers.
-fn one(n: u64, kind: u64, count: usize, numbers: &[u64; 1024], t: Tally) -> Tally {
+fn one(
+    rt: &impl Print,
+    n: u64,
+    kind: u64,
+    count: usize,
+    numbers: &[u64; 1024],
+    t: Tally,
+) -> io::Result<Tally> {
     let op = store::at(numbers, 0);
     let mut what = case::MALFORMED;
     if kind == line::SOUND && case::sound(numbers, count) {
         if op == case::TITLE {
-            return summary(numbers, t);
+            return summary(rt, numbers, t);
         }
         what = case::replay(numbers);
     }
     if what == case::AGREES {
-        return counted(t, 0);
+        return Ok(counted(t, 0));
     }
-    mismatch(n, op, what);
-    counted(t, 1)
+    mismatch(rt, n, op, what)?;
+    Ok(counted(t, 1))
 }
 
 // Replays every line.
-fn all(buf: &mut [u8; 65536]) -> Tally {
+fn all(rt: &(impl Input + Print), buf: &mut [u8; 65536]) -> io::Result<Tally> {
     let mut numbers = [0u64; 1024];
     let mut l = line::told(line::SOUND, 0, 0, 0);
     let mut t = Tally {
@@ -98,21 +107,21 @@ fn all(buf: &mut [u8; 65536]) -> Tally {
         all_wrong: 0,
     };
     for n in 0..MOST {
-        l = line::read(buf, l, &mut numbers);
+        l = line::read(rt, buf, l, &mut numbers)?;
         if l.kind == line::END {
-            return t;
+            return Ok(t);
         }
-        t = one(n + 1, l.kind, l.count, &numbers, t);
+        t = one(rt, n + 1, l.kind, l.count, &numbers, t)?;
     }
-    put(b"the list is too long\n");
-    t
+    put(rt, b"the list is too long\n")?;
+    Ok(t)
 }
 
-fn main() {
-    let mut buf = io::large_buffer();
-    let t = all(&mut buf);
-    put(b"all");
-    number(t.all_cases);
-    number(t.all_wrong);
-    put(b"\n");
+fn main(rt: HostRuntime) -> io::Result<()> {
+    let mut buf = [0u8; 65536];
+    let t = all(&rt, &mut buf)?;
+    put(&rt, b"all")?;
+    number(&rt, t.all_cases)?;
+    number(&rt, t.all_wrong)?;
+    put(&rt, b"\n")
 }
