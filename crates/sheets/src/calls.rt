@@ -3,6 +3,7 @@ use crate::scan::LOST;
 use crate::tally::Numbers;
 use crate::{scan, tally};
 use sheet::{Added, Fields};
+use std::io;
 
 // The most bytes of a payload that is given, and the most places that a call is to change.
 const PAYLOAD: usize = 65_600;
@@ -140,32 +141,51 @@ fn asked(counts: &[u64; 170], payload: &[u8], buffer: &mut [u8]) -> Added {
 }
 
 // What a call answered and the buffer against what is right.
-fn compared(got: Numbers, memory: &[u8], counts: &mut [u64; 170]) {
+fn compared(
+    rt: &impl Print,
+    got: Numbers,
+    memory: &[u8],
+    counts: &mut [u64; 170],
+) -> io::Result<()> {
     let half = memory.len() / 2;
     let size = tally::at_most(counts[tally::SIZE], half);
     let same = same_bytes(&memory[0..size], &memory[half..half + size]);
     let number = counts[NUMBER];
     let answer = tally::same(got, number, 0, counts[GROWN]);
-    tally::case(counts, number, answer, same);
+    tally::case(rt, counts, number, answer, same)?;
     if number == 0 {
         counts[tally::LENGTH] = counts[GROWN];
     }
+    Ok(())
 }
 
 // What the list says of a call: its answer, and the changes, made in the second buffer.
-fn judge(s: &[u8], at: usize, got: Numbers, memory: &mut [u8], counts: &mut [u64; 170]) -> usize {
+fn judge(
+    rt: &impl Print,
+    s: &[u8],
+    at: usize,
+    got: Numbers,
+    memory: &mut [u8],
+    counts: &mut [u64; 170],
+) -> io::Result<usize> {
     let p = scan::numbers(s, at, counts, NUMBER, tally::OLD);
     let half = memory.len() / 2;
     let size = tally::at_most(counts[tally::SIZE], half);
     let after = changes(s, p, counts[PLACES], &mut memory[half..half + size]);
     if after != LOST {
-        compared(got, memory, counts);
+        compared(rt, got, memory, counts)?;
     }
-    after
+    Ok(after)
 }
 
 // A start or an addition.
-pub(crate) fn call(s: &[u8], at: usize, memory: &mut [u8], counts: &mut [u64; 170]) -> usize {
+pub(crate) fn call(
+    rt: &impl Print,
+    s: &[u8],
+    at: usize,
+    memory: &mut [u8],
+    counts: &mut [u64; 170],
+) -> io::Result<usize> {
     let mut payload: [u8; 65600] = [0; 65600];
     let p = scan::numbers(s, at, counts, tally::PART, NUMBER);
     let body = scan::bytes(s, p, &mut payload);
@@ -173,5 +193,5 @@ pub(crate) fn call(s: &[u8], at: usize, memory: &mut [u8], counts: &mut [u64; 17
     let half = memory.len() / 2;
     let size = tally::at_most(counts[tally::SIZE], half);
     let got = said(asked(counts, &payload[0..n], &mut memory[0..size]));
-    judge(s, body.at, got, memory, counts)
+    judge(rt, s, body.at, got, memory, counts)
 }

@@ -1,12 +1,15 @@
 // Replays a list of sheets and writer calls with the answers of a model in another language: oracle/sheet tells of both. Prints what was met by
 // part and number, and a line for each mismatch.
+#![tactic(auto)]
+
 mod calls;
 mod readings;
 mod scan;
 mod tally;
 
 use crate::scan::LOST;
-use libc::{STDIN_FILENO, STDOUT_FILENO};
+use std::io;
+use std::io::Read;
 
 // The place after a line's end.
 fn line_end(s: &[u8], at: usize) -> usize {
@@ -26,16 +29,22 @@ fn last(s: &[u8], at: usize, counts: &mut [u64; 170]) -> usize {
 }
 
 // A line, by its letter: one of the hexadecimal digits.
-fn line(s: &[u8], at: usize, memory: &mut [u8], counts: &mut [u64; 170]) -> usize {
+fn line(
+    rt: &impl Print,
+    s: &[u8],
+    at: usize,
+    memory: &mut [u8],
+    counts: &mut [u64; 170],
+) -> io::Result<usize> {
     let first = scan::num(s, at);
     let letter = first.v;
     match letter {
-        0xa => calls::call(s, first.at, memory, counts),
-        0xb => calls::lend(s, first.at, memory, counts),
-        0xc => readings::old(s, first.at, counts),
-        0xe => readings::edition(s, first.at, memory, counts),
-        0xf => last(s, first.at, counts),
-        _ => LOST,
+        0xa => calls::call(rt, s, first.at, memory, counts),
+        0xb => Ok(calls::lend(s, first.at, memory, counts)),
+        0xc => Ok(readings::old(s, first.at, counts)),
+        0xe => readings::edition(rt, s, first.at, memory, counts),
+        0xf => Ok(last(s, first.at, counts)),
+        _ => Ok(LOST),
     }
 }
 
@@ -48,43 +57,51 @@ fn next(s: &[u8], at: usize, counts: &[u64; 170]) -> usize {
 }
 
 // Every line, up to one that can't be read; each takes a byte or more.
-fn lines(s: &[u8], memory: &mut [u8; 400000], counts: &mut [u64; 170]) {
+fn lines(
+    rt: &impl Print,
+    s: &[u8],
+    memory: &mut [u8; 400000],
+    counts: &mut [u64; 170],
+) -> io::Result<()> {
     let mut at: usize = 0;
     for turn in 0..s.len() {
         if at >= s.len() {
-            return;
+            return Ok(());
         }
         tally::more(counts, tally::LINE);
-        at = next(s, line(s, at, memory, counts), counts);
+        at = next(s, line(rt, s, at, memory, counts)?, counts);
     }
+    Ok(())
 }
 
-fn too_long() {
-    io::write_all(STDOUT_FILENO, b"the list is too long\n");
+fn too_long(rt: &impl Print) -> io::Result<()> {
+    rt.write_all(b"the list is too long\n")
 }
 
 // The list is the first n bytes; where it fills them all, some may be missing. The memory is the buffer, and as many bytes that it should have.
-fn replay(s: &[u8], n: usize) {
+fn replay(rt: &impl Print, s: &[u8], n: usize) -> io::Result<()> {
     let mut memory: [u8; 400000] = [0; 400000];
     let mut counts: [u64; 170] = [0; 170];
     if n >= s.len() {
-        too_long();
-        return;
+        return too_long(rt);
     }
-    lines(&s[0..n], &mut memory, &mut counts);
-    tally::report(&counts);
+    lines(rt, &s[0..n], &mut memory, &mut counts)?;
+    tally::report(rt, &counts)
 }
 
-fn load(input: &mut [u8; 1048576]) -> usize {
-    io::read_full(STDIN_FILENO, input)
+// Reads until the input fills its place or ends: how many bytes there are then.
+fn load(rt: &impl Input, input: &mut [u8; 1048576]) -> io::Result<usize> {
+    let mut to = &mut input[..];
+    let n = io::copy(&mut rt.reader().take(1_048_576), &mut to)?;
+    Ok(n as usize)
 }
 
-fn run(input: &[u8; 1048576], n: usize) {
-    replay(input, n);
+fn run(rt: &impl Print, input: &[u8; 1048576], n: usize) -> io::Result<()> {
+    replay(rt, input, n)
 }
 
-fn main() {
+fn main(rt: HostRuntime) -> io::Result<()> {
     let mut input: [u8; 1048576] = [0; 1048576];
-    let n = load(&mut input);
-    run(&input, n);
+    let n = load(&rt, &mut input)?;
+    run(&rt, &input, n)
 }

@@ -3,6 +3,7 @@ use crate::scan::LOST;
 use crate::tally::Numbers;
 use crate::{scan, tally};
 use sheet::Reading;
+use std::io;
 use storage::{Bitmap, EMPTY};
 
 // The numbers of a line after its part: edition, number, record, count, and how many words follow.
@@ -84,14 +85,19 @@ fn told(counts: &[u64; 170], sheet: &[u8], store: &mut [u64]) -> Numbers {
 }
 
 // One reading of the buffer's sheet against its answer in the list; what is behind the store is compared too.
-fn reading(want: &[u64; 128], memory: &[u8], counts: &mut [u64; 170]) {
+fn reading(
+    rt: &impl Print,
+    want: &[u64; 128],
+    memory: &[u8],
+    counts: &mut [u64; 170],
+) -> io::Result<()> {
     let mut store: [u64; 128] = [0; 128];
     let length = tally::at_most(counts[tally::LENGTH], memory.len());
     let capacity = tally::at_most(counts[tally::CAPACITY], tally::STORE);
     let got = told(counts, &memory[0..length], &mut store[0..capacity]);
     let number = counts[NUMBER];
     let answer = tally::same(got, number, counts[RECORD], counts[COUNTED]);
-    tally::case(counts, number, answer, same_words(&store, want));
+    tally::case(rt, counts, number, answer, same_words(&store, want))
 }
 
 // The result's capacity and the old bitmap.
@@ -110,14 +116,20 @@ fn readable(at: usize, length: u64) -> usize {
 }
 
 // A reading of the buffer's sheet by one edition.
-pub(crate) fn edition(s: &[u8], at: usize, memory: &[u8], counts: &mut [u64; 170]) -> usize {
+pub(crate) fn edition(
+    rt: &impl Print,
+    s: &[u8],
+    at: usize,
+    memory: &[u8],
+    counts: &mut [u64; 170],
+) -> io::Result<usize> {
     let mut want: [u64; 128] = [0; 128];
     let from = readable(at, counts[tally::LENGTH]);
     let p = scan::numbers(s, from, counts, tally::PART, FOLLOW + 1);
     let capacity = tally::at_most(counts[tally::CAPACITY], tally::STORE);
     let after = wanted(s, p, counts[FOLLOW], &mut want[0..capacity]);
     if after != LOST {
-        reading(&want, memory, counts);
+        reading(rt, &want, memory, counts)?;
     }
-    after
+    Ok(after)
 }

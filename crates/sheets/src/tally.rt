@@ -1,7 +1,7 @@
 // What was met: for each part and in all, the cases by the number that they should answer, and the mismatches.
 ghost use Rattle.std.specs.Prelude.{◌≤◌};
 
-use libc::STDOUT_FILENO;
+use std::io;
 
 // Four parts and the total have a row each: a count for each number to 14, the mismatches and the cases.
 const TOTAL: usize = 4;
@@ -52,14 +52,14 @@ pub struct Numbers {
     pub count: u64,
 }
 
-fn put(text: &[u8]) {
-    io::write_all(STDOUT_FILENO, text);
+fn put(rt: &impl Print, text: &[u8]) -> io::Result<()> {
+    rt.write_all(text)
 }
 
 // A number, and what stands after it.
-fn show(n: u64, text: &[u8]) {
-    io::print_decimal(STDOUT_FILENO, n);
-    put(text);
+fn show(rt: &impl Print, n: u64, text: &[u8]) -> io::Result<()> {
+    rt.print(n)?;
+    put(rt, text)
 }
 
 // One more at a place.
@@ -107,94 +107,104 @@ pub(crate) fn same(a: Numbers, number: u64, record: u64, count: u64) -> bool {
     a.count == count
 }
 
-fn mismatch(line: u64, number: u64) {
-    put(b"line ");
-    show(line, b": another answer than number ");
-    show(number, b"\n");
+fn mismatch(rt: &impl Print, line: u64, number: u64) -> io::Result<()> {
+    put(rt, b"line ")?;
+    show(rt, line, b": another answer than number ")?;
+    show(rt, number, b"\n")
 }
 
 // A case of the line's part: the number that is right, whether it and what belongs to it was answered, and whether the lent memory is as it should be.
-pub(crate) fn case(counts: &mut [u64; 170], number: u64, answer: bool, memory: bool) {
+pub(crate) fn case(
+    rt: &impl Print,
+    counts: &mut [u64; 170],
+    number: u64,
+    answer: bool,
+    memory: bool,
+) -> io::Result<()> {
     let row = (counts[PART] % 4) as usize;
     both(counts, row, (number % 15) as usize);
     both(counts, row, CASES);
     if answer {
         if memory {
-            return;
+            return Ok(());
         }
     }
     both(counts, row, WRONG);
-    mismatch(counts[LINE], number);
+    mismatch(rt, counts[LINE], number)
 }
 
 // A number and its cases; nothing where there are none.
-fn met(n: usize, cases: u64) {
+fn met(rt: &impl Print, n: usize, cases: u64) -> io::Result<()> {
     if cases > 0 {
-        put(b" ");
-        show(n as u64, b":");
-        show(cases, b"");
+        put(rt, b" ")?;
+        show(rt, n as u64, b":")?;
+        show(rt, cases, b"")?;
     }
+    Ok(())
 }
 
 // The cases of a row by their numbers.
-fn by_number(counts: &[u64; 170], row: usize) {
+fn by_number(rt: &impl Print, counts: &[u64; 170], row: usize) -> io::Result<()> {
     for n in 0..15 {
-        met(n, counts[row % 5 * ROW + n]);
+        met(rt, n, counts[row % 5 * ROW + n])?;
     }
+    Ok(())
 }
 
-fn of_readings(row: usize) {
+fn of_readings(rt: &impl Print, row: usize) -> io::Result<()> {
     match row {
-        0 => put(b"readings: "),
-        _ => put(b"written sheets read back: "),
+        0 => put(rt, b"readings: "),
+        _ => put(rt, b"written sheets read back: "),
     }
 }
 
-fn of_calls(row: usize) {
+fn of_calls(rt: &impl Print, row: usize) -> io::Result<()> {
     match row {
-        1 => put(b"writer calls: "),
-        _ => put(b"additions to a sheet given: "),
+        1 => put(rt, b"writer calls: "),
+        _ => put(rt, b"additions to a sheet given: "),
     }
 }
 
-fn name(row: usize) {
+fn name(rt: &impl Print, row: usize) -> io::Result<()> {
     match row {
-        0 => of_readings(row),
-        1 => of_calls(row),
-        2 => of_calls(row),
-        3 => of_readings(row),
-        _ => put(b"total: "),
+        0 => of_readings(rt, row),
+        1 => of_calls(rt, row),
+        2 => of_calls(rt, row),
+        3 => of_readings(rt, row),
+        _ => put(rt, b"total: "),
     }
 }
 
-fn sums(cases: u64, wrong: u64) {
-    show(cases, b" cases, ");
-    show(wrong, b" mismatches; by number");
+fn sums(rt: &impl Print, cases: u64, wrong: u64) -> io::Result<()> {
+    show(rt, cases, b" cases, ")?;
+    show(rt, wrong, b" mismatches; by number")
 }
 
-fn summary(counts: &[u64; 170], row: usize) {
+fn summary(rt: &impl Print, counts: &[u64; 170], row: usize) -> io::Result<()> {
     let first = row % 5 * ROW;
-    name(row);
-    sums(counts[first + CASES], counts[first + WRONG]);
-    by_number(counts, row);
-    put(b"\n");
+    name(rt, row)?;
+    sums(rt, counts[first + CASES], counts[first + WRONG])?;
+    by_number(rt, counts, row)?;
+    put(rt, b"\n")
 }
 
-fn summaries(counts: &[u64; 170]) {
+fn summaries(rt: &impl Print, counts: &[u64; 170]) -> io::Result<()> {
     for row in 0..5 {
-        summary(counts, row);
+        summary(rt, counts, row)?;
     }
+    Ok(())
 }
 
-fn unread(line: u64) {
-    put(b"the list can't be read from line ");
-    show(line, b" on\n");
+fn unread(rt: &impl Print, line: u64) -> io::Result<()> {
+    put(rt, b"the list can't be read from line ")?;
+    show(rt, line, b" on\n")
 }
 
 // A line for each part and for the total, and one more where the list is not whole.
-pub(crate) fn report(counts: &[u64; 170]) {
-    summaries(counts);
+pub(crate) fn report(rt: &impl Print, counts: &[u64; 170]) -> io::Result<()> {
+    summaries(rt, counts)?;
     if counts[WHOLE] != 1 {
-        unread(counts[LINE]);
+        unread(rt, counts[LINE])?;
     }
+    Ok(())
 }
