@@ -1,5 +1,5 @@
 // What was met: for each part and in all, the cases by the number that they should answer, and the mismatches.
-use libc::STDOUT_FILENO;
+use std::io;
 
 // Three parts and the total have a row each: a count for each number to 16, the mismatches and the cases.
 const TOTAL: usize = 3;
@@ -24,14 +24,14 @@ pub const UNREAD: u64 = 2;
 
 pub const MORE: u64 = 3;
 
-fn put(text: &[u8]) {
-    io::write_all(STDOUT_FILENO, text);
+fn put(rt: &impl Print, text: &[u8]) -> io::Result<()> {
+    rt.write_all(text)
 }
 
 // A number, and what stands after it.
-fn show(n: u64, text: &[u8]) {
-    io::print_decimal(STDOUT_FILENO, n);
-    put(text);
+fn show(rt: &impl Print, n: u64, text: &[u8]) -> io::Result<()> {
+    rt.print(n)?;
+    put(rt, text)
 }
 
 // One more at a place.
@@ -55,75 +55,84 @@ pub(crate) fn case(counts: &mut [u64; 78], part: u64, number: u64) {
 }
 
 // A mismatch: the number that is right, and whether something else was answered or left.
-pub(crate) fn mismatch(counts: &mut [u64; 78], part: u64, number: u64, answer: bool) {
+pub(crate) fn mismatch(
+    rt: &impl Print,
+    counts: &mut [u64; 78],
+    part: u64,
+    number: u64,
+    answer: bool,
+) -> io::Result<()> {
     both(counts, (part % 3) as usize, WRONG);
-    put(b"line ");
-    show(counts[LINE], b": number ");
-    show(number, b" is right, and ");
+    put(rt, b"line ")?;
+    show(rt, counts[LINE], b": number ")?;
+    show(rt, number, b" is right, and ")?;
     if answer {
-        put(b"something else is answered\n");
+        put(rt, b"something else is answered\n")
     } else {
-        put(b"something else is left in memory\n");
+        put(rt, b"something else is left in memory\n")
     }
 }
 
 // A number and its cases; nothing where there are none.
-fn met(n: usize, cases: u64) {
+fn met(rt: &impl Print, n: usize, cases: u64) -> io::Result<()> {
     if cases > 0 {
-        put(b" ");
-        show(n as u64, b":");
-        show(cases, b"");
+        put(rt, b" ")?;
+        show(rt, n as u64, b":")?;
+        show(rt, cases, b"")?;
     }
+    Ok(())
 }
 
 // The cases of a row by their numbers.
-fn by_number(counts: &[u64; 78], row: usize) {
+fn by_number(rt: &impl Print, counts: &[u64; 78], row: usize) -> io::Result<()> {
     for n in 0..17 {
-        met(n, counts[row % 4 * ROW + n]);
+        met(rt, n, counts[row % 4 * ROW + n])?;
     }
+    Ok(())
 }
 
-fn name(row: usize) {
+fn name(rt: &impl Print, row: usize) -> io::Result<()> {
     match row {
-        0 => put(b"texts read: "),
-        1 => put(b"sets printed: "),
-        2 => put(b"sets printed and read back: "),
-        _ => put(b"total: "),
+        0 => put(rt, b"texts read: "),
+        1 => put(rt, b"sets printed: "),
+        2 => put(rt, b"sets printed and read back: "),
+        _ => put(rt, b"total: "),
     }
 }
 
-fn summary(counts: &[u64; 78], row: usize) {
+fn summary(rt: &impl Print, counts: &[u64; 78], row: usize) -> io::Result<()> {
     let first = row % 4 * ROW;
-    name(row);
-    show(counts[first + CASES], b" cases, ");
-    show(counts[first + WRONG], b" mismatches; by number");
-    by_number(counts, row);
-    put(b"\n");
+    name(rt, row)?;
+    show(rt, counts[first + CASES], b" cases, ")?;
+    show(rt, counts[first + WRONG], b" mismatches; by number")?;
+    by_number(rt, counts, row)?;
+    put(rt, b"\n")
 }
 
-fn summaries(counts: &[u64; 78]) {
+fn summaries(rt: &impl Print, counts: &[u64; 78]) -> io::Result<()> {
     for row in 0..4 {
-        summary(counts, row);
+        summary(rt, counts, row)?;
     }
+    Ok(())
 }
 
 // A line for each part and for the total, and one more where the list is not whole.
-pub(crate) fn report(counts: &[u64; 78]) {
-    summaries(counts);
+pub(crate) fn report(rt: &impl Print, counts: &[u64; 78]) -> io::Result<()> {
+    summaries(rt, counts)?;
     let line = counts[LINE];
     match counts[ENDED] {
-        WHOLE => {}
+        WHOLE => Ok(()),
         CUT => {
-            put(b"the list is cut after line ");
-            show(line, b"\n");
+            put(rt, b"the list is cut after line ")?;
+            show(rt, line, b"\n")
         }
         UNREAD => {
-            put(b"line ");
-            show(line, b" can't be read\n");
+            put(rt, b"line ")?;
+            show(rt, line, b" can't be read\n")
         }
         _ => {
-            put(b"the list goes on after its last line, ");
-            show(line, b"\n");
+            put(rt, b"the list goes on after its last line, ")?;
+            show(rt, line, b"\n")
         }
     }
 }
