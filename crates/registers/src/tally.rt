@@ -1,5 +1,5 @@
 // What was met: the cases by the number that they should answer, and the mismatches.
-use libc::STDOUT_FILENO;
+use std::io;
 
 // A count for each number to 16, the mismatches and the cases; then the number of the line, and how the list ended.
 const WRONG: usize = 17;
@@ -19,14 +19,14 @@ pub const UNREAD: u64 = 2;
 
 pub const MORE: u64 = 3;
 
-fn put(text: &[u8]) {
-    io::write_all(STDOUT_FILENO, text);
+fn put(rt: &impl Print, text: &[u8]) -> io::Result<()> {
+    rt.write_all(text)
 }
 
 // A number, and what stands after it.
-fn show(n: u64, text: &[u8]) {
-    io::print_decimal(STDOUT_FILENO, n);
-    put(text);
+fn show(rt: &impl Print, n: u64, text: &[u8]) -> io::Result<()> {
+    rt.print(n)?;
+    put(rt, text)
 }
 
 // So many more at a place.
@@ -43,55 +43,62 @@ pub(crate) fn case(counts: &mut [u64; 21], number: u64) {
 }
 
 // A mismatch: the number that is right, and whether something else was answered or left.
-pub(crate) fn mismatch(counts: &mut [u64; 21], number: u64, answer: bool) {
+pub(crate) fn mismatch(
+    rt: &impl Print,
+    counts: &mut [u64; 21],
+    number: u64,
+    answer: bool,
+) -> io::Result<()> {
     add(counts, WRONG, 1);
-    put(b"line ");
-    show(counts[LINE], b": number ");
-    show(number, b" is right, and ");
+    put(rt, b"line ")?;
+    show(rt, counts[LINE], b": number ")?;
+    show(rt, number, b" is right, and ")?;
     if answer {
-        put(b"something else is answered\n");
+        put(rt, b"something else is answered\n")
     } else {
-        put(b"something else is left in memory\n");
+        put(rt, b"something else is left in memory\n")
     }
 }
 
 // A number and its cases; nothing where there are none.
-fn met(n: usize, cases: u64) {
+fn met(rt: &impl Print, n: usize, cases: u64) -> io::Result<()> {
     if cases > 0 {
-        put(b" ");
-        show(n as u64, b":");
-        show(cases, b"");
+        put(rt, b" ")?;
+        show(rt, n as u64, b":")?;
+        show(rt, cases, b"")?;
     }
+    Ok(())
 }
 
 // The cases by their numbers.
-fn by_number(counts: &[u64; 21]) {
+fn by_number(rt: &impl Print, counts: &[u64; 21]) -> io::Result<()> {
     for n in 0..17 {
-        met(n, counts[n]);
+        met(rt, n, counts[n])?;
     }
+    Ok(())
 }
 
 // A line for the cases, and one more where the list is not whole.
-pub(crate) fn report(counts: &[u64; 21]) {
-    put(b"registers printed: ");
-    show(counts[CASES], b" cases, ");
-    show(counts[WRONG], b" mismatches; by number");
-    by_number(counts);
-    put(b"\n");
+pub(crate) fn report(rt: &impl Print, counts: &[u64; 21]) -> io::Result<()> {
+    put(rt, b"registers printed: ")?;
+    show(rt, counts[CASES], b" cases, ")?;
+    show(rt, counts[WRONG], b" mismatches; by number")?;
+    by_number(rt, counts)?;
+    put(rt, b"\n")?;
     let line = counts[LINE];
     match counts[ENDED] {
-        WHOLE => {}
+        WHOLE => Ok(()),
         CUT => {
-            put(b"the list is cut after line ");
-            show(line, b"\n");
+            put(rt, b"the list is cut after line ")?;
+            show(rt, line, b"\n")
         }
         UNREAD => {
-            put(b"line ");
-            show(line, b" can't be read\n");
+            put(rt, b"line ")?;
+            show(rt, line, b" can't be read\n")
         }
         _ => {
-            put(b"the list goes on after its last line, ");
-            show(line, b"\n");
+            put(rt, b"the list goes on after its last line, ")?;
+            show(rt, line, b"\n")
         }
     }
 }
