@@ -14,9 +14,7 @@ use Rattle.storage.specs.Promises.{MadeOf, GuardedBoth, HandsNone, Hands, Tests}
 use Rattle.storage.specs.Stores.{Bits, Bounded, view, size, combined}
 use Rattle.storage.specs.declared.Bitmap.{Bitmap}
 use Rattle.storage.specs.declared.Amount.{Amount}
-use Rattle.storage.specs.declared.Amount.TheVariants.{Is, Refused}
 use Rattle.storage.specs.declared.Truth.{Truth}
-use Rattle.storage.specs.declared.Truth.TheVariants.{Is, Refused}
 use Rattle.storage.proofs.Combined.{size_none, none_of_size, made_of, made_is}
 use Rattle.storage.proofs.Outcomes.{bounded_combined}
 use Rattle.storage.proofs.Promises.{guarded_map, both_means, tests}

@@ -10,9 +10,7 @@ use Rattle.storage.specs.declared.Bitmap.{Bitmap}
 use Rattle.storage.specs.declared.Refusal.{Refusal}
 use Rattle.storage.specs.declared.Guard.TheVariants.{Pass, Stop}
 use Rattle.storage.specs.declared.Amount.{Amount}
-use Rattle.storage.specs.declared.Amount.TheVariants.{Is, Refused}
 use Rattle.storage.specs.declared.Truth.{Truth}
-use Rattle.storage.specs.declared.Truth.TheVariants.{Is, Refused}
 use Rattle.storage.proofs.Checks.{both_stopped}
 use Rattle.storage.proofs.Combined.{size-all, zero_words, part_short, made_words, both_read}
 use Rattle.algebra.specs.Algebra.{empty_of, count_of}

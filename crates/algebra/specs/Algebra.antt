@@ -5,9 +5,7 @@ use Rattle.pairs.specs.declared.SetOp.{SetOp}
 use Rattle.storage.specs.Stores.{reading_both, size, combined}
 use Rattle.storage.specs.declared.Bitmap.{Bitmap}
 use Rattle.storage.specs.declared.Amount.{Amount}
-use Rattle.storage.specs.declared.Amount.TheVariants.{Is, Refused}
 use Rattle.storage.specs.declared.Truth.{Truth}
-use Rattle.storage.specs.declared.Truth.TheVariants.{Is, Refused}
 
 -- the operation makes no member of the two
 unfoldable pub empty_of : SetOp → List ℕ → Bitmap → List ℕ → Bitmap → Truth

@@ -20,7 +20,6 @@ use Rattle.storage.specs.declared.Refusal.TheVariants.{PastLength}
 use Rattle.storage.specs.declared.Found.{Found}
 use Rattle.storage.specs.declared.Found.TheVariants.{At, Nothing}
 use Rattle.storage.specs.declared.Amount.{Amount}
-use Rattle.storage.specs.declared.Amount.TheVariants.{Is}
 use Rattle.storage.proofs.Outcomes.{same, never, which, contained_done}
 use Rattle.storage.proofs.Promises.{amount-call, found-call}
 use Rattle.bitwise.specs.Bitwise.{toggling_inside, inverting, reversing, clear_size, count_region, rank_of, selected}

@@ -5,7 +5,6 @@ use Rattle.word.specs.Promises.{MovesWords}
 use Rattle.storage.specs.Stores.{Bits}
 use Rattle.storage.specs.Promises.{Hands, Finds, AmountCall, FoundCall, Meets, Never, MeetsExactly}
 use Rattle.storage.specs.declared.Amount.{Amount}
-use Rattle.storage.specs.declared.Amount.TheVariants.{Is}
 use Rattle.bitwise.specs.Bitwise.{toggling_inside, inverting, reversing, clear_size, count_region, rank_of, selected}
 
 pub record Toggled (i : ℕ) (b s : Bits) : Type 0 where

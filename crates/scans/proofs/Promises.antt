@@ -16,7 +16,6 @@ use Rattle.storage.specs.Promises.{Hands, NextMember}
 use Rattle.storage.specs.declared.Found.{Found}
 use Rattle.storage.specs.declared.Found.TheVariants.{At, Nothing}
 use Rattle.storage.specs.declared.Amount.{Amount}
-use Rattle.storage.specs.declared.Amount.TheVariants.{Is}
 use Rattle.storage.proofs.Combined.{size_none, none_of_size}
 use Rattle.storage.proofs.Promises.{amount-call, found-call, next-member}
 use Rattle.scans.specs.Searches.{last_set, next_clear}

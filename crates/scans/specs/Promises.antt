@@ -4,7 +4,6 @@ use Rattle.word.specs.Sets.{Counted}
 use Rattle.storage.specs.Stores.{Bits, Bounded, size, next_from}
 use Rattle.storage.specs.Promises.{Hands, Finds, NextMember, AmountCall, FoundCall}
 use Rattle.storage.specs.declared.Amount.{Amount}
-use Rattle.storage.specs.declared.Amount.TheVariants.{Is}
 use Rattle.scans.specs.Searches.{last_set, next_clear}
 
 -- `next_set`, `first_set`: the least member from i on, and the least

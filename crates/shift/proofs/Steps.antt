@@ -1,5 +1,5 @@
 -- One step of a walk: the pair's 64 bits from a place up, of two words moved that far and joined.
-use Rattle.std.proofs.Common.{◌≡◌, ℕ, ◌+◌, ◌-◌, ◌*◌, ◌/◌, ◌%◌, ◌^◌, ◌<◌, ◌≤◌, Bool, true, false, ◌&&◌, leb, ltb, sym, refl, ap, ap₂, ◌∙◌, subst, mod-lt, pow_pos, shr_lt, ltb-true, ltb-false, leb-true, lt-ltb, le-ltb, le-leb, arith}
+use Rattle.std.proofs.Common.{◌≡◌, ℕ, ◌+◌, ◌-◌, ◌*◌, ◌/◌, ◌%◌, ◌^◌, ◌<◌, Bool, true, false, ◌&&◌, sym, refl, ap, ap₂, ◌∙◌, subst, mod-lt, pow_pos, lt-ltb, le-ltb, le-leb, arith}
 use Rattle.std.proofs.lemmas.Nat.{xor_lt}
 use Rattle.std.proofs.lemmas.Bool.{lt-leb}
 use lib.Bits.{bit_xor}
@@ -26,11 +26,11 @@ step_is w lo hi down up a b h e ha ea eb =
     bit-xor a b j
     ∙ ap₂ xorb (ap (λ (x : ℕ). bit x j) ea ∙ bit-shr lo down j) (ap (λ (x : ℕ). bit x j) eb ∙ bit-shl-mod hi up w j l)
     ∙ by_lt j up
-      (λ q. ap (λ (t : Bool). xorb (bit lo (down + j)) (t && bit hi (j - up))) (lt-leb up j q) ∙ xor_false (bit lo (down + j))
-        ∙ ap (λ (t : Bool). choose t (bit lo (down + j)) (bit hi (down + j - w))) (sym (lt-ltb (down + j) w (omega arith))))
-      (λ q. ap₂ (λ (s t : Bool). xorb s (t && bit hi (j - up))) (bit_past lo w (down + j) h (omega arith)) (le-leb up j q)
-        ∙ ap (bit hi) (omega arith)
-        ∙ ap (λ (t : Bool). choose t (bit lo (down + j)) (bit hi (down + j - w))) (sym (le-ltb (down + j) w (omega arith)))))
+    (λ q. ap (λ (t : Bool). xorb (bit lo (down + j)) (t && bit hi (j - up))) (lt-leb up j q) ∙ xor_false (bit lo (down + j))
+    ∙ ap (λ (t : Bool). choose t (bit lo (down + j)) (bit hi (down + j - w))) (sym (lt-ltb (down + j) w (omega arith))))
+    (λ q. ap₂ (λ (s t : Bool). xorb s (t && bit hi (j - up))) (bit_past lo w (down + j) h (omega arith)) (le-leb up j q)
+    ∙ ap (bit hi) (omega arith)
+    ∙ ap (λ (t : Bool). choose t (bit lo (down + j)) (bit hi (down + j - w))) (sym (le-ltb (down + j) w (omega arith)))))
 
 -- and that a funnel makes of the same amounts
 pub funneled_is : (w lo hi down up : ℕ) → lo < 2 ^ w → down + up ≡ w → stepped w lo hi down ≡ funneled w lo hi down up

@@ -20,7 +20,6 @@ use Rattle.word.proofs.Words.{bit-low_mask, low_mask-lt, from_place}
 use Rattle.word.proofs.Lists.{Fit, fit_part, member-at}
 use Rattle.storage.specs.Stores.{Bits, view}
 use Rattle.storage.specs.declared.Refusal.TheVariants.{WidthOver}
-use Rattle.storage.specs.declared.Change.TheVariants.{Refused}
 use Rattle.storage.specs.declared.Field.{Field}
 use Rattle.storage.proofs.Views.{view_in, view-part}
 use Rattle.slice.specs.Slices.{field_at}

@@ -19,9 +19,7 @@ use Rattle.storage.specs.Promises.{HandsNone, Tests}
 use Rattle.storage.specs.declared.Refusal.{Refusal}
 use Rattle.storage.specs.declared.Refusal.TheVariants.{WidthOver, PastLength}
 use Rattle.storage.specs.declared.Field.{Field}
-use Rattle.storage.specs.declared.Field.TheVariants.{Is, Refused}
 use Rattle.storage.specs.declared.Truth.{Truth}
-use Rattle.storage.specs.declared.Truth.TheVariants.{Is, Refused}
 use Rattle.storage.proofs.Outcomes.{same, never, which}
 use Rattle.storage.proofs.Promises.{field-call, truth-call, both_means, tests}
 use Rattle.slice.specs.Slices.{front_part, equal, field_at, with_field, setting_field_inside}

@@ -6,7 +6,6 @@ use Rattle.storage.specs.Stores.{Bits, view, held, reading_both}
 use Rattle.storage.specs.Promises.{GuardedBoth, HandsNone, Tests, FieldCall, TruthCall, Meets, MeetsExactly}
 use Rattle.storage.specs.declared.Bitmap.{Bitmap}
 use Rattle.storage.specs.declared.Truth.{Truth}
-use Rattle.storage.specs.declared.Truth.TheVariants.{Is, Refused}
 use Rattle.slice.specs.Slices.{front_part, equal, field_at, setting_field_inside}
 
 -- `get`: 1 exactly where i is a member

@@ -7,7 +7,6 @@ use Rattle.pairs.specs.declared.SetOp.TheVariants.{Xor}
 use Rattle.storage.specs.Stores.{Bits, refused, done, Op, size, combined}
 use Rattle.storage.specs.declared.Refusal.TheVariants.{WidthOver, PastLength}
 use Rattle.storage.specs.declared.Field.{Field}
-use Rattle.storage.specs.declared.Field.TheVariants.{Is, Refused}
 
 -- the front part of the words, up to the last nonzero one
 unfoldable pub front_part : List ℕ → List ℕ

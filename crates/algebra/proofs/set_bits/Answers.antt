@@ -1,7 +1,7 @@
 -- The members that the operation makes are counted, mod 2^64. Each loop: `sum` has those below word k.
-use Rattle.std.proofs.Common.{◌≡◌, ◌-◌, ◌≤◌, min, max, length, arith, rules}
+use Rattle.std.proofs.Common.{arith}
 use Rattle.arch.proofs.Counts.{count-start}
-use Rattle.algebra.proofs.Counts.{below, more, more_first, more_second, all_below}
+use Rattle.algebra.proofs.Counts.{more, more_first, more_second, all_below}
 use Rattle.algebra.proofs.set_bits.Goals as goal
 
 pub loop-k-init : goal.loop-k-init

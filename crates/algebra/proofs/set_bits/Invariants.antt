@@ -1,7 +1,6 @@
 -- The members that the operation makes are counted, mod 2^64. Each loop: `sum` has those below word k.
-use Rattle.std.proofs.Common.{◌≡◌, ◌-◌, ◌≤◌, min, max, length, arith, rules}
-use Rattle.arch.proofs.Counts.{count-start}
-use Rattle.algebra.proofs.Counts.{below, more, more_first, more_second, all_below}
+use Rattle.std.proofs.Common.{◌≡◌, ◌-◌, ◌≤◌, min, max, length}
+use Rattle.algebra.proofs.Counts.{below}
 use Rattle.algebra.proofs.set_bits.Given as goal
 
 abbrev pub invariant-loop-k : goal.invariant-loop-k

@@ -1,6 +1,5 @@
 -- The set bits from i on, below `end`, are counted: no bits, then one word, then an end between two words, then a part of the last word too.
 use native.Mathlib.Omega.{arith}
-use borrow.Author.Rules.{rules}
 use Rattle.word.specs.Places.{member}
 use Rattle.bits.proofs.Counts.{between_none, range-one, range_even, range_odd, most-le, odd_le}
 use Rattle.bits.proofs.count_between.Goals as goal

@@ -1,6 +1,5 @@
 -- The set bits of x from place `from` on, below `end`: x moved down by `from`, and of it the low end - from places.
 use native.Mathlib.Omega.{arith}
-use borrow.Author.Rules.{rules}
 use Rattle.bits.proofs.Counts.{places_count}
 use Rattle.bits.proofs.count_places.Goals as goal
 

@@ -1,6 +1,5 @@
 -- The guard, then every bit of the words in use flips, and the other words stay.
 use mathlib.Core.Path.{sym, ◌∙◌}
-use borrow.Author.Rules.{rules}
 use lib.Seq.{length-take-le}
 use Rattle.storage.specs.Guards.{Passed}
 use Rattle.storage.proofs.Checks.{passed}
@@ -14,17 +13,17 @@ returns-in-Stop c = changes_stopped _ _ _ _ (sym c.in-Stop.is ∙ c.check.ensure
 pub slice_bounds-invert_words-end : goal.slice_bounds-invert_words-end
 slice_bounds-invert_words-end c =
     let ok : Passed c.args.words.now c.args.b =
-      passed _ _ (sym c.in-Pass.is ∙ c.check.ensures) in
+    passed _ _ (sym c.in-Pass.is ∙ c.check.ensures) in
     ok.inside
 
 pub slice_bounds-invert_words-end-2 : goal.slice_bounds-invert_words-end-2
 slice_bounds-invert_words-end-2 c =
     let ok : Passed c.args.words.now c.args.b =
-      passed _ _ (sym c.in-Pass.is ∙ c.check.ensures) in
+    passed _ _ (sym c.in-Pass.is ∙ c.check.ensures) in
     sym (length-take-le _ _ ok.inside)
 
 pub returns : goal.returns
 returns c =
     let ok : Passed c.args.words.now c.args.b =
-      passed _ _ (sym c.in-Pass.is ∙ c.check.ensures) in
+    passed _ _ (sym c.in-Pass.is ∙ c.check.ensures) in
     invert-changes _ _ _ ok c.invert_words.ensures

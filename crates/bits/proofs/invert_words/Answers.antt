@@ -1,10 +1,10 @@
 -- Every bit flips. Loop: the words below k are all ones less what they were, from k on they are as they were.
 use mathlib.Core.Path.{◌≡◌, ap}
-use Prim.Native.Nat.{◌-◌, ◌^◌, ◌≤◌, ℕ}
+use Prim.Native.Nat.{◌-◌, ◌^◌, ℕ}
 use native.Mathlib.Omega.{arith}
-use lib.ListN.{length, get_or}
-use Rattle.word.proofs.Sweep.{Swept, sweep_none, sweep_up}
-use Rattle.word.proofs.Lists.{FitTo, fit_none, fit_more}
+use lib.ListN.{get_or}
+use Rattle.word.proofs.Sweep.{sweep_none, sweep_up}
+use Rattle.word.proofs.Lists.{fit_none, fit_more}
 use Rattle.bits.proofs.Moves.{inverted_is}
 use Rattle.bits.proofs.invert_words.Goals as goal
 

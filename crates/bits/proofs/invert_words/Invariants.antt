@@ -1,11 +1,8 @@
 -- Every bit flips. Loop: the words below k are all ones less what they were, from k on they are as they were.
-use mathlib.Core.Path.{◌≡◌, ap}
-use Prim.Native.Nat.{◌-◌, ◌^◌, ◌≤◌, ℕ}
-use native.Mathlib.Omega.{arith}
+use Prim.Native.Nat.{◌-◌, ◌^◌, ◌≤◌}
 use lib.ListN.{length, get_or}
-use Rattle.word.proofs.Sweep.{Swept, sweep_none, sweep_up}
-use Rattle.word.proofs.Lists.{FitTo, fit_none, fit_more}
-use Rattle.bits.proofs.Moves.{inverted_is}
+use Rattle.word.proofs.Sweep.{Swept}
+use Rattle.word.proofs.Lists.{FitTo}
 use Rattle.bits.proofs.invert_words.Given as goal
 
 abbrev pub invariant-loop-k : goal.invariant-loop-k

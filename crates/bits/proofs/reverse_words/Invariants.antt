@@ -1,12 +1,9 @@
 -- Bit i goes to the length less i less 1. Loop: words below `lo` and from `hi` on are the mirrored ones of the other end, those between as they were.
 use mathlib.Core.Path.{◌≡◌}
 use Prim.Native.Nat.{suc, ◌+◌, ◌-◌}
-use native.Mathlib.Omega.{arith}
-use borrow.Author.Rules.{rules}
-use lib.ListN.{length, get_or, length-set}
-use Rattle.bits.proofs.Moves.{mirror_at, reversed_is}
+use lib.ListN.{length, get_or}
 use Rattle.word.specs.Words.{mirrored}
-use Rattle.word.proofs.Ends.{Closing, close_none, close_both, closed}
+use Rattle.word.proofs.Ends.{Closing}
 use Rattle.bits.proofs.reverse_words.Given as goal
 
 abbrev pub invariant-loop-lo : goal.invariant-loop-lo

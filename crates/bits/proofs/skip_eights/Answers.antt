@@ -1,9 +1,5 @@
 -- The set bits of the words before `at` and `left` make up r. Loop: so they do behind every eight that is passed.
-use Prim.Native.Nat.{◌-◌}
 use native.Mathlib.Omega.{arith}
-use borrow.Author.Rules.{rules}
-use lib.ListN.{length}
-use Rattle.bits.specs.Kernels.{Passing}
 use Rattle.bits.proofs.Ranks.{pass_none, pass_words}
 use Rattle.bits.proofs.skip_eights.Goals as goal
 

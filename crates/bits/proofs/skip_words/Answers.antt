@@ -1,9 +1,5 @@
 -- The set bits before `at` and `left` make up r, and word `at`, if there, has more than `left`. Loop: the set bits before `at` and `left` make up r.
-use Prim.Native.Nat.{◌-◌}
 use native.Mathlib.Omega.{arith}
-use borrow.Author.Rules.{rules}
-use lib.ListN.{length}
-use Rattle.bits.specs.Kernels.{Passing}
 use Rattle.bits.proofs.Ranks.{pass_word}
 use Rattle.bits.proofs.skip_words.Goals as goal
 

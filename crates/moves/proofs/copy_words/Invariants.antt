@@ -1,11 +1,7 @@
 -- Every word becomes that of `from`. Loop: below i they are, from i on they are as they were.
-use mathlib.Core.Path.{refl}
 use Prim.Native.Nat.{◌-◌, ◌≤◌}
-use native.Mathlib.Omega.{arith}
-use borrow.Author.Rules.{rules}
 use lib.ListN.{get_or}
-use Rattle.word.proofs.Sweep.{Swept, sweep_none, sweep_up}
-use Rattle.moves.proofs.Pieces.{copied_all}
+use Rattle.word.proofs.Sweep.{Swept}
 use Rattle.moves.proofs.copy_words.Given as goal
 
 abbrev pub invariant-loop-i : goal.invariant-loop-i

@@ -1,9 +1,6 @@
 -- Each word goes `whole` down where there is room, and the highest stay. Loop: the first i words are those `whole` above, the others as they were.
 use mathlib.Core.Path.{refl}
-use Prim.Native.Nat.{◌-◌, ◌≤◌}
 use native.Mathlib.Omega.{arith}
-use borrow.Author.Rules.{rules}
-use Rattle.moves.specs.Kernels.{Moved}
 use Rattle.moves.proofs.Pieces.{move_none, moved_down-more, moved_down-all}
 use Rattle.moves.proofs.Promises.{down_is}
 use Rattle.moves.proofs.move_down.Goals as goal

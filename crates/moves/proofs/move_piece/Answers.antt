@@ -1,7 +1,5 @@
 -- The m words from `from` on stand from `to` on and the others stay, though the parts overlap: all are read before one is written.
 use mathlib.Core.Path.{refl, sym}
-use Prim.Native.Nat.{◌-◌}
-use borrow.Author.Rules.{rules}
 use lib.Seq.{length-take-le}
 use Rattle.moves.proofs.Pieces.{take_part, held_long, piece_moved}
 use Rattle.moves.proofs.move_piece.Goals as goal

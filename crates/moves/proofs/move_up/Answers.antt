@@ -1,10 +1,6 @@
 -- Each word goes `whole` up where there is room, and the lowest stay. Loop: those from `left` on are moved, the words below left + whole are as they were.
 use mathlib.Core.Path.{refl}
-use Prim.Native.Nat.{◌+◌, ◌-◌, ◌≤◌}
 use native.Mathlib.Omega.{arith}
-use borrow.Author.Rules.{rules}
-use lib.ListN.{length}
-use Rattle.moves.specs.Kernels.{Moved}
 use Rattle.moves.proofs.Pieces.{move_none, moved_up-more, moved_up-all}
 use Rattle.moves.proofs.Promises.{up_is}
 use Rattle.moves.proofs.move_up.Goals as goal

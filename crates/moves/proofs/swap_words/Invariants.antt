@@ -1,10 +1,6 @@
 -- The m words from a on and the m from b on change places. Loop: the first i of both have, all others are as they were.
 use Prim.Native.Nat.{◌-◌, ◌≤◌}
-use native.Mathlib.Omega.{arith}
-use borrow.Author.Rules.{rules}
-use lib.ListN.{length-set}
 use Rattle.moves.specs.Kernels.{Swapped}
-use Rattle.moves.proofs.Pieces.{swap_none, swap_more, swapped_to}
 use Rattle.moves.proofs.swap_words.Given as goal
 
 abbrev pub invariant-loop-i : goal.invariant-loop-i

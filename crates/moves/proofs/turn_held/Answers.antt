@@ -1,7 +1,5 @@
 -- The last m words go before the others: no change where none are to be held, then with room for 32, then with room for 256.
-use Prim.Native.Nat.{◌-◌}
 use native.Mathlib.Omega.{arith}
-use borrow.Author.Rules.{rules}
 use Rattle.moves.proofs.Swaps.{turned_none}
 use Rattle.moves.proofs.turn_held.Goals as goal
 

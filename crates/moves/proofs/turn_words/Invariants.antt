@@ -1,12 +1,9 @@
 -- The last m words go before the others. Loop: behind `low` and `high` all are in place, the first `low` are due `high` up, the next `high` are due `low` down.
-use mathlib.Core.Path.{◌≡◌, refl, sym, ◌∙◌}
-use Prim.Native.Nat.{◌+◌, ◌-◌, ◌≤◌}
-use native.Mathlib.Omega.{arith}
-use borrow.Author.Rules.{rules}
+use mathlib.Core.Path.{◌≡◌}
+use Prim.Native.Nat.{◌+◌, ◌≤◌}
 use lib.ListN.{length, get_or}
-use lib.Seq.{length-take-le}
 use Rattle.moves.specs.Moves.{turned_words}
-use Rattle.moves.proofs.Swaps.{Turning, turned-past, turning_none, turning_low, turning_high, turning_all}
+use Rattle.moves.proofs.Swaps.{Turning}
 use Rattle.moves.proofs.turn_words.Given as goal
 
 abbrev pub invariant-loop-low : goal.invariant-loop-low

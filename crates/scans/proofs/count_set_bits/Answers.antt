@@ -1,6 +1,5 @@
 -- The guard, then the number of set bits in the words in use, which are too few for the count to wrap.
 use mathlib.Core.Path.{sym, ap, ◌∙◌}
-use borrow.Author.Rules.{rules}
 use lib.Seq.{length-take-le}
 use Rattle.storage.specs.Guards.{Passed}
 use Rattle.storage.proofs.Checks.{passed, reading_is, reading_stopped}
@@ -14,11 +13,11 @@ returns-in-Stop c = sym (reading_stopped _ _ _ _ _ (sym c.in-Stop.is ∙ c.check
 pub slice_bounds-count_set_bits-end : goal.slice_bounds-count_set_bits-end
 slice_bounds-count_set_bits-end c =
     let ok : Passed c.args.words.now c.args.b =
-      passed _ _ (sym c.in-Pass.is ∙ c.check.ensures) in
+    passed _ _ (sym c.in-Pass.is ∙ c.check.ensures) in
     sym (length-take-le _ _ ok.inside)
 
 pub returns : goal.returns
 returns c =
     let ok : Passed c.args.words.now c.args.b =
-      passed _ _ (sym c.in-Pass.is ∙ c.check.ensures) in
+    passed _ _ (sym c.in-Pass.is ∙ c.check.ensures) in
     reading_is _ _ _ _ _ ok (ap Amount.Is (count_is _ _ _ ok c.count_set_bits-count.ensures))

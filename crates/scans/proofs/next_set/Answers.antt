@@ -1,7 +1,6 @@
 -- The guard, then nothing past the length, then the first set bit of i's word from i on, then that of the first later word not 0, else nothing.
 use mathlib.Core.Path.{sym, ◌∙◌}
 use native.Mathlib.Omega.{arith}
-use borrow.Author.Rules.{rules}
 use Rattle.storage.specs.Guards.{Passed}
 use Rattle.storage.proofs.Checks.{passed, reading_is, reading_stopped}
 use Rattle.scans.proofs.Scans.{zeros-le, other_found, none_found, set_here, set_after, set_none, set_past}
@@ -13,25 +12,25 @@ returns-in-Stop c = sym (reading_stopped _ _ _ _ _ (sym c.in-Stop.is ∙ c.check
 pub returns-then-k-n : goal.returns-then-k-n
 returns-then-k-n c =
     let ok : Passed c.args.words.now c.args.b =
-      passed _ _ (sym c.in-Pass.is ∙ c.check.ensures) in
+    passed _ _ (sym c.in-Pass.is ∙ c.check.ensures) in
     reading_is _ _ _ _ _ ok (set_past _ _ _ (omega arith))
 
 pub bounds-words-k : goal.bounds-words-k
 bounds-words-k c =
     let ok : Passed c.args.words.now c.args.b =
-      passed _ _ (sym c.in-Pass.is ∙ c.check.ensures) in
+    passed _ _ (sym c.in-Pass.is ∙ c.check.ensures) in
     omega (arith, ok)
 
 pub overflow_add-result : goal.overflow_add-result
 overflow_add-result c =
     let ok : Passed c.args.words.now c.args.b =
-      passed _ _ (sym c.in-Pass.is ∙ c.check.ensures) in
+    passed _ _ (sym c.in-Pass.is ∙ c.check.ensures) in
     omega (arith, zeros-le _ _ c.trailing_zeros.ensures, ok)
 
 pub returns-then-t-ne0 : goal.returns-then-t-ne0
 returns-then-t-ne0 c =
     let ok : Passed c.args.words.now c.args.b =
-      passed _ _ (sym c.in-Pass.is ∙ c.check.ensures) in
+    passed _ _ (sym c.in-Pass.is ∙ c.check.ensures) in
     reading_is _ _ _ _ _ ok
     (set_here _ _ _ (λ k. omega (arith, c.shared_slice_known-1.given k)) (omega arith) _
     c.if-t-ne0.true c.trailing_zeros.ensures)
@@ -39,19 +38,19 @@ returns-then-t-ne0 c =
 pub offset_bounds-words-next : goal.offset_bounds-words-next
 offset_bounds-words-next c =
     let ok : Passed c.args.words.now c.args.b =
-      passed _ _ (sym c.in-Pass.is ∙ c.check.ensures) in
+    passed _ _ (sym c.in-Pass.is ∙ c.check.ensures) in
     omega (arith, ok)
 
 pub slice_bounds-first_nonzero-end : goal.slice_bounds-first_nonzero-end
 slice_bounds-first_nonzero-end c =
     let ok : Passed c.args.words.now c.args.b =
-      passed _ _ (sym c.in-Pass.is ∙ c.check.ensures) in
+    passed _ _ (sym c.in-Pass.is ∙ c.check.ensures) in
     omega (arith, ok)
 
 pub overflow_add-result-in-At : goal.overflow_add-result-in-At
 overflow_add-result-in-At c =
     let ok : Passed c.args.words.now c.args.b =
-      passed _ _ (sym c.in-Pass.is ∙ c.check.ensures) in
+    passed _ _ (sym c.in-Pass.is ∙ c.check.ensures) in
     omega (
       arith,
       other_found _ _ _ _ _ _ ok.inside
@@ -62,7 +61,7 @@ overflow_add-result-in-At c =
 pub overflow_mul-result-in-At : goal.overflow_mul-result-in-At
 overflow_mul-result-in-At c =
     let ok : Passed c.args.words.now c.args.b =
-      passed _ _ (sym c.in-Pass.is ∙ c.check.ensures) in
+    passed _ _ (sym c.in-Pass.is ∙ c.check.ensures) in
     omega (
       arith,
       other_found _ _ _ _ _ _ ok.inside
@@ -73,7 +72,7 @@ overflow_mul-result-in-At c =
 pub overflow_add-result-in-At-2 : goal.overflow_add-result-in-At-2
 overflow_add-result-in-At-2 c =
     let ok : Passed c.args.words.now c.args.b =
-      passed _ _ (sym c.in-Pass.is ∙ c.check.ensures) in
+    passed _ _ (sym c.in-Pass.is ∙ c.check.ensures) in
     omega (
       arith,
       other_found _ _ _ _ _ _ ok.inside
@@ -86,7 +85,7 @@ overflow_add-result-in-At-2 c =
 pub returns-in-At : goal.returns-in-At
 returns-in-At c =
     let ok : Passed c.args.words.now c.args.b =
-      passed _ _ (sym c.in-Pass.is ∙ c.check.ensures) in
+    passed _ _ (sym c.in-Pass.is ∙ c.check.ensures) in
     reading_is _ _ _ _ _ ok
     (set_after _ _ _ (λ k. omega
     (arith, c.shared_slice_known-1.given k))
@@ -98,7 +97,7 @@ returns-in-At c =
 pub returns-in-Nothing : goal.returns-in-Nothing
 returns-in-Nothing c =
     let ok : Passed c.args.words.now c.args.b =
-      passed _ _ (sym c.in-Pass.is ∙ c.check.ensures) in
+    passed _ _ (sym c.in-Pass.is ∙ c.check.ensures) in
     reading_is _ _ _ _ _ ok
     (set_none _ _ _ (λ k. omega
     (arith, c.shared_slice_known-1.given k)) (omega arith)

@@ -2,7 +2,6 @@
 use native.Mathlib.Omega.{arith}
 use Rattle.storage.proofs.Combined.{zeroed-put}
 use Rattle.setops.proofs.Combine.{zip_put, end_holds}
-use borrow.Author.Rules.{rules}
 use Rattle.setops.proofs.put.Goals as goal
 
 pub returns : goal.returns

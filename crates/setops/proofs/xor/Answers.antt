@@ -2,7 +2,6 @@
 use mathlib.Core.Path.{sym, ◌∙◌}
 use Prim.Native.Nat.{◌≤◌}
 use native.Mathlib.Omega.{arith}
-use borrow.Author.Rules.{rules}
 use lib.ListN.{length}
 use lib.Seq.{length-take-le}
 use Rattle.storage.specs.Guards.{PassedTwo}
@@ -18,37 +17,36 @@ returns-in-Stop c = two_stopped _ _ _ _ _ _ (sym c.in-Stop.is ∙ c.check_two.en
 pub slice_bounds-nonzero_len-end : goal.slice_bounds-nonzero_len-end
 slice_bounds-nonzero_len-end c =
     let ok : let a = c.args in PassedTwo a.words.now a.b a.other.now a.o =
-      passed_two _ _ _ _ (sym c.in-Pass.is ∙ c.check_two.ensures) in
+    passed_two _ _ _ _ (sym c.in-Pass.is ∙ c.check_two.ensures) in
     sym (length-take-le _ _ ok.other.inside)
 
 pub returns-then-end-words : goal.returns-then-end-words
 returns-then-end-words c =
     let ok : let a = c.args in PassedTwo a.words.now a.b a.other.now a.o =
-      passed_two _ _ _ _ (sym c.in-Pass.is ∙ c.check_two.ensures) in
+    passed_two _ _ _ _ (sym c.in-Pass.is ∙ c.check_two.ensures) in
     let fit : Fit c.args.other.now =
-      λ k. omega (arith, c.shared_slice_known-1.given k) in
+    λ k. omega (arith, c.shared_slice_known-1.given k) in
     xor-refused _ _ _ _ ok fit _ _ c.nonzero_len-last.ensures c.max-end.ensures c.if-end-words.true
 
 pub slice_bounds-put-end : goal.slice_bounds-put-end
 slice_bounds-put-end c =
     let ok : let a = c.args in PassedTwo a.words.now a.b a.other.now a.o =
-      passed_two _ _ _ _ (sym c.in-Pass.is ∙ c.check_two.ensures) in
+    passed_two _ _ _ _ (sym c.in-Pass.is ∙ c.check_two.ensures) in
     let fit : Fit c.args.other.now =
-      λ k. omega (arith, c.shared_slice_known-1.given k) in
+    λ k. omega (arith, c.shared_slice_known-1.given k) in
     let front : c.nonzero_len-last.result ≤ length c.args.other.now =
-      xor-front _ _ _ _ ok fit _ _ c.nonzero_len-last.ensures c.max-end.ensures in
+    xor-front _ _ _ _ ok fit _ _ c.nonzero_len-last.ensures c.max-end.ensures in
     sym (length-take-le _ _ front)
 
 pub put-requires : goal.put-requires
 put-requires c =
     let ok : let a = c.args in PassedTwo a.words.now a.b a.other.now a.o =
-      passed_two _ _ _ _ (sym c.in-Pass.is ∙ c.check_two.ensures) in
+    passed_two _ _ _ _ (sym c.in-Pass.is ∙ c.check_two.ensures) in
     let fit : Fit c.args.other.now =
-      λ k. omega (arith, c.shared_slice_known-1.given k) in
+    λ k. omega (arith, c.shared_slice_known-1.given k) in
     let front : c.nonzero_len-last.result ≤ length c.args.other.now =
-      xor-front _ _ _ _ ok fit _ _ c.nonzero_len-last.ensures c.max-end.ensures in
-    let f = front in
-    (
+    xor-front _ _ _ _ ok fit _ _ c.nonzero_len-last.ensures c.max-end.ensures in
+    let f = front in (
       omega (arith, ok.own.inside),
       omega (arith, c.if-end-words.false),
       omega (arith, length-take-le c.nonzero_len-last.result c.args.other.now f),
@@ -63,8 +61,8 @@ slice_bounds-nonzero_len-end-3 c = sym (length-take-le _ _ (omega (arith, c.if-e
 pub returns : goal.returns
 returns c =
     let ok : let a = c.args in PassedTwo a.words.now a.b a.other.now a.o =
-      passed_two _ _ _ _ (sym c.in-Pass.is ∙ c.check_two.ensures) in
+    passed_two _ _ _ _ (sym c.in-Pass.is ∙ c.check_two.ensures) in
     let fit : Fit c.args.other.now =
-      λ k. omega (arith, c.shared_slice_known-1.given k) in
+    λ k. omega (arith, c.shared_slice_known-1.given k) in
     xor_done _ _ _ _ ok fit _ _ c.nonzero_len-last.ensures c.max-end.ensures _ _
     (omega (arith, c.if-end-words.false)) c.put.ensures c.nonzero_len.ensures

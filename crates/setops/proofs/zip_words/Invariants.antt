@@ -1,12 +1,8 @@
 -- The first e words become the operation's of themselves and the other's. Loop: below k they are, from k on they are as they were.
-use mathlib.Core.Path.{ap, ◌∙◌}
-use Prim.Native.Nat.{◌-◌, ◌≤◌, ℕ}
-use native.Mathlib.Omega.{arith}
-use borrow.Author.Rules.{rules}
+use Prim.Native.Nat.{◌-◌, ◌≤◌}
 use lib.ListN.{get_or}
-use Rattle.word.proofs.Sweep.{sweep_up, Swept, sweep_none}
+use Rattle.word.proofs.Sweep.{Swept}
 use Rattle.pairs.specs.Pairs.{word_by}
-use Rattle.storage.proofs.Combined.{swept_put}
 use Rattle.setops.proofs.zip_words.Given as goal
 
 abbrev pub invariant-loop-k : goal.invariant-loop-k

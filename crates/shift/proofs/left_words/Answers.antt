@@ -1,14 +1,10 @@
 -- Bit i goes to i + k: all out, then whole words, then odd bits. Loop: the words above i are the moved ones, up to i they are as they were.
 use mathlib.Core.Path.{refl, ap, ◌∙◌}
-use Prim.Native.Nat.{◌+◌, ◌≤◌, ◌<◌}
 use native.Mathlib.Omega.{arith}
-use borrow.Author.Rules.{rules}
 use lib.ListN.{length}
-use Rattle.word.specs.Places.{member, word_of}
-use Rattle.word.proofs.Sweep.{Swept, sweep_none, sweep_to}
+use Rattle.word.proofs.Sweep.{sweep_none, sweep_to}
 use Rattle.arch.proofs.Regions.{length-filled_words}
 use Rattle.moves.proofs.Promises.{gone_up}
-use Rattle.shifts.specs.Shifts.{moved_up}
 use Rattle.shift.proofs.Moves.{length_after_lem, left_step, left-last, left_out, left_moved}
 use Rattle.shift.proofs.Steps.{funneled_is}
 use Rattle.shift.proofs.left_words.Goals as goal

@@ -1,6 +1,5 @@
 -- The guard, then the bits go k down and those below k are lost; the count and the other words stay.
 use mathlib.Core.Path.{refl, sym, ◌∙◌}
-use borrow.Author.Rules.{rules}
 use lib.Seq.{length-take-le}
 use Rattle.storage.specs.Guards.{Passed}
 use Rattle.storage.proofs.Checks.{passed}
@@ -15,19 +14,19 @@ returns-in-Stop c = changes_stopped _ _ _ _ (sym c.in-Stop.is ∙ c.check.ensure
 pub slice_bounds-right_words-end : goal.slice_bounds-right_words-end
 slice_bounds-right_words-end c =
     let ok : Passed c.args.words.now c.args.b =
-      passed _ _ (sym c.in-Pass.is ∙ c.check.ensures) in
+    passed _ _ (sym c.in-Pass.is ∙ c.check.ensures) in
     ok.inside
 
 pub slice_bounds-right_words-end-2 : goal.slice_bounds-right_words-end-2
 slice_bounds-right_words-end-2 c =
     let ok : Passed c.args.words.now c.args.b =
-      passed _ _ (sym c.in-Pass.is ∙ c.check.ensures) in
+    passed _ _ (sym c.in-Pass.is ∙ c.check.ensures) in
     sym (length-take-le _ _ ok.inside)
 
 pub returns : goal.returns
 unfolding shifting_right
 returns c =
     let ok : Passed c.args.words.now c.args.b =
-      passed _ _ (sym c.in-Pass.is ∙ c.check.ensures) in
+    passed _ _ (sym c.in-Pass.is ∙ c.check.ensures) in
     kept-changes _ (λ len. moved_down c.args.k) _ _ _
     ok refl c.right_words.ensures

@@ -1,13 +1,9 @@
 -- Each bit goes `down` places down, on from the end past the start; no change for 0. Loop: the words below i are turned, from i on they are as they were.
-use mathlib.Core.Path.{◌∙◌}
 use Prim.Native.Nat.{◌-◌, ◌*◌, ◌≤◌}
-use native.Mathlib.Omega.{arith}
-use borrow.Author.Rules.{rules}
-use lib.ListN.{length-set, length}
+use lib.ListN.{length}
 use Rattle.word.specs.Places.{member, word_of}
-use Rattle.word.proofs.Sweep.{Swept, sweep_none}
+use Rattle.word.proofs.Sweep.{Swept}
 use Rattle.shifts.specs.Shifts.{turned_down}
-use Rattle.shift.proofs.Turns.{sunk_none, down_step, down_last}
 use Rattle.shift.proofs.turn_down.Given as goal
 
 abbrev pub invariant-loop-i : goal.invariant-loop-i

@@ -2,7 +2,6 @@
 use mathlib.Core.Path.{refl}
 use native.Mathlib.Nat.{mod-lt}
 use native.Mathlib.Omega.{arith}
-use borrow.Author.Rules.{rules}
 use Rattle.shift.proofs.Turns.{no_words_lem, turn_left_is}
 use Rattle.shift.proofs.turn_left.Goals as goal
 

@@ -2,7 +2,6 @@
 use mathlib.Core.Path.{refl}
 use native.Mathlib.Nat.{mod-lt, le_of_lt}
 use native.Mathlib.Omega.{arith}
-use borrow.Author.Rules.{rules}
 use Rattle.shift.proofs.Turns.{no_words_lem, turn_right_is}
 use Rattle.shift.proofs.turn_right.Goals as goal
 

@@ -1,13 +1,9 @@
 -- Each bit goes `up` places up, on from the start past the end; no change for 0. Loop: the words above i are turned, up to i they are as they were.
-use mathlib.Core.Path.{refl, ◌∙◌}
 use Prim.Native.Nat.{◌+◌, ◌*◌, ◌<◌}
-use native.Mathlib.Omega.{arith}
-use borrow.Author.Rules.{rules}
-use lib.ListN.{length-set, length}
+use lib.ListN.{length}
 use Rattle.word.specs.Places.{member, word_of}
-use Rattle.word.proofs.Sweep.{Swept, sweep_none, sweep_to}
+use Rattle.word.proofs.Sweep.{Swept}
 use Rattle.shifts.specs.Shifts.{turned_up}
-use Rattle.shift.proofs.Turns.{turn_none, up_step, up_last}
 use Rattle.shift.proofs.turn_up.Given as goal
 
 abbrev pub invariant-loop-i : goal.invariant-loop-i

@@ -1,7 +1,6 @@
 -- The guard of both stores, then false where the parts without trailing zeros differ in length, then whether xor makes only zeros of them.
 use mathlib.Core.Path.{sym, ap, ◌∙◌}
 use native.Mathlib.Omega.{arith}
-use borrow.Author.Rules.{rules}
 use lib.Seq.{length-take-le}
 use Rattle.storage.specs.declared.Truth.{Truth}
 use Rattle.storage.specs.Guards.{PassedTwo}
@@ -15,20 +14,20 @@ returns-in-Stop c = sym (both_stopped _ _ _ _ _ _ _ (sym c.in-Stop.is ∙ c.chec
 pub slice_bounds-trimmed-end : goal.slice_bounds-trimmed-end
 slice_bounds-trimmed-end c =
     let ok : PassedTwo c.args.words.now c.args.b c.args.other.now c.args.o =
-      passed_two _ _ _ _ (sym c.in-Pass.is ∙ c.check_two.ensures) in
+    passed_two _ _ _ _ (sym c.in-Pass.is ∙ c.check_two.ensures) in
     sym (length-take-le _ _ ok.own.inside)
 
 pub slice_bounds-trimmed-end-2 : goal.slice_bounds-trimmed-end-2
 slice_bounds-trimmed-end-2 c =
     let ok : PassedTwo c.args.words.now c.args.b c.args.other.now c.args.o =
-      passed_two _ _ _ _ (sym c.in-Pass.is ∙ c.check_two.ensures) in
+    passed_two _ _ _ _ (sym c.in-Pass.is ∙ c.check_two.ensures) in
     sym (length-take-le _ _ ok.other.inside)
 
 -- the front parts have another length
 pub returns-then-x-y : goal.returns-then-x-y
 returns-then-x-y c =
     let ok : PassedTwo c.args.words.now c.args.b c.args.other.now c.args.o =
-      passed_two _ _ _ _ (sym c.in-Pass.is ∙ c.check_two.ensures) in
+    passed_two _ _ _ _ (sym c.in-Pass.is ∙ c.check_two.ensures) in
     let p = ok in
     ap Truth.Is
     (equal-not _ _ _ _ p.own.inside p.other.inside _ _ c.trimmed-x.ensures c.trimmed-y.ensures
@@ -39,7 +38,7 @@ returns-then-x-y c =
 pub returns : goal.returns
 returns c =
     let ok : PassedTwo c.args.words.now c.args.b c.args.other.now c.args.o =
-      passed_two _ _ _ _ (sym c.in-Pass.is ∙ c.check_two.ensures) in
+    passed_two _ _ _ _ (sym c.in-Pass.is ∙ c.check_two.ensures) in
     let p = ok in
     let e = equal_is _ _ _ _ p.own.inside p.other.inside _ _ c.trimmed-x.ensures c.trimmed-y.ensures in
     ap Truth.Is (c.is_zero.ensures ∙ e) ∙ sym (both_ok _ _ _ _ _ _ p)

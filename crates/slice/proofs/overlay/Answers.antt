@@ -1,7 +1,6 @@
 -- Word k has x's bits at the mask's places and its own at the others; no other word changes.
 use mathlib.Core.Path.{ap}
 use native.Mathlib.Omega.{arith}
-use borrow.Author.Rules.{rules}
 use lib.ListN.{set}
 use Rattle.slice.proofs.Stricts.{overlay_is}
 use Rattle.slice.proofs.overlay.Goals as goal

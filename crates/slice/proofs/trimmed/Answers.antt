@@ -1,7 +1,6 @@
 -- The front part of the words, up to the last that is not 0.
 use mathlib.Core.Path.{sym, subst}
 use Prim.Native.Nat.{ℕ, ◌≤◌}
-use borrow.Author.Rules.{rules}
 use lib.Seq.{length-take-le}
 use lib.ListN.{length}
 use Rattle.arch.proofs.Scans.{nonzero_le}

@@ -1,10 +1,8 @@
 -- The least member from i on, or nothing, for every i with none up to word `from`. Loop: the words made from `from` on, below k, are 0.
 use mathlib.Core.Path.{sym, ◌∙◌}
-use Prim.Native.Nat.{◌+◌, ◌-◌, ◌≤◌}
+use Prim.Native.Nat.{◌+◌}
 use native.Mathlib.Omega.{arith}
-use borrow.Author.Rules.{rules}
 use lib.ListN.{length}
-use Rattle.arch.specs.Scans.{Alike}
 use Rattle.arch.proofs.Scans.{alike_join, alike_one}
 use Rattle.pairs.specs.Pairs.{words_by}
 use Rattle.pairs.proofs.Tables.{by_fit, end-le}

@@ -1,12 +1,10 @@
 -- The least member from i on in i's word, then in the next word, else nothing, and then both are clear from i on.
 use mathlib.Core.Path.{sym, ◌∙◌}
 use native.Mathlib.Omega.{arith}
-use borrow.Author.Rules.{rules}
 use Rattle.arch.proofs.Scans.{alike_to, alike_one}
 use Rattle.pairs.specs.Pairs.{words_by}
 use Rattle.pairs.proofs.Tables.{by_fit}
 use Rattle.walk.proofs.Walks.{least64, word_below, here_below, clear_here, clear_on, next_here, next_later, below_at, below_none}
-use borrow.Author.Rules.{rules}
 use Rattle.walk.proofs.kernels.near.Goals as goal
 
 pub overflow_add-result : goal.overflow_add-result
