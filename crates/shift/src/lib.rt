@@ -36,13 +36,13 @@ pub fn left_words(words: &mut [u64], k: usize)
 {
     let n = words.len();
     let whole = k / 64;
-    let odd = k % 64;
-    let rest = 64 - odd;
+    let up = k % 64;
+    let down = 64 - up;
     if whole >= n {
         arch::fill_words(words, 0, n, 0);
         return;
     }
-    if odd == 0 {
+    if up == 0 {
         moves::move_up(words, whole);
         arch::fill_words(words, 0, whole, 0);
         return;
@@ -50,10 +50,10 @@ pub fn left_words(words: &mut [u64], k: usize)
     // From the top down, so that each word is read before it is overwritten.
     let mut i = n - 1;
     while i > whole {
-        words[i] = step(words[i - whole - 1], words[i - whole], rest, odd);
+        words[i] = step(words[i - whole - 1], words[i - whole], down, up);
         i -= 1;
     }
-    words[whole] = step(0, words[0], rest, odd);
+    words[whole] = step(0, words[0], down, up);
     arch::fill_words(words, 0, whole, 0);
 }
 
@@ -64,7 +64,7 @@ pub fn right_words(words: &mut [u64], k: usize)
     let n = words.len();
     let whole = k / 64;
     let down = k % 64;
-    let rest = 64 - down;
+    let up = 64 - down;
     if whole >= n {
         arch::fill_words(words, 0, n, 0);
         return;
@@ -78,10 +78,10 @@ pub fn right_words(words: &mut [u64], k: usize)
     let last = n - whole - 1;
     let mut i = 0;
     while i < last {
-        words[i] = step(words[i + whole], words[i + whole + 1], down, rest);
+        words[i] = step(words[i + whole], words[i + whole + 1], down, up);
         i += 1;
     }
-    words[last] = step(words[n - 1], 0, down, rest);
+    words[last] = step(words[n - 1], 0, down, up);
     arch::fill_words(words, last + 1, n, 0);
 }
 
@@ -111,45 +111,45 @@ pub fn shift_right(words: &mut [u64], b: Bitmap, k: usize) -> Change
     Change::Done(b)
 }
 
-// Each bit goes `odd` places up, within its word or into the next; those that pass the end go to the start.
-fn turn_up(words: &mut [u64], odd: usize)
-    requires { (0 < length words.old) × (odd < 64) }
+// Each bit goes `up` places up, within its word or into the next; those that pass the end go to the start.
+fn turn_up(words: &mut [u64], up: usize)
+    requires { (0 < length words.old) × (up < 64) }
     ensures { words.new
-        ≡ words_of (turned_up (64 * length words.old) odd (member words.old)) (length words.old) }
+        ≡ words_of (turned_up (64 * length words.old) up (member words.old)) (length words.old) }
 {
-    if odd == 0 {
+    if up == 0 {
         return;
     }
-    let rest = 64 - odd;
+    let down = 64 - up;
     // From the top down, so that each word is read before it is overwritten; the first word needs the old last one.
     let mut i = words.len() - 1;
     let last = words[i];
     while i > 0 {
-        words[i] = step(words[i - 1], words[i], rest, odd);
+        words[i] = step(words[i - 1], words[i], down, up);
         i -= 1;
     }
-    words[0] = step(last, words[0], rest, odd);
+    words[0] = step(last, words[0], down, up);
 }
 
-// Each bit goes `odd` places down, within its word or into the one before; those that pass the start go to the end.
-fn turn_down(words: &mut [u64], odd: usize)
-    requires { (0 < length words.old) × (odd < 64) }
+// Each bit goes `down` places down, within its word or into the one before; those that pass the start go to the end.
+fn turn_down(words: &mut [u64], down: usize)
+    requires { (0 < length words.old) × (down < 64) }
     ensures { words.new
-        ≡ words_of (turned_down (64 * length words.old) odd (member words.old)) (length words.old) }
+        ≡ words_of (turned_down (64 * length words.old) down (member words.old)) (length words.old) }
 {
-    if odd == 0 {
+    if down == 0 {
         return;
     }
-    let rest = 64 - odd;
+    let up = 64 - down;
     // From the bottom up, so that each word is read before it is overwritten; the last word needs the old first one.
     let end = words.len() - 1;
     let first = words[0];
     let mut i = 0;
     while i < end {
-        words[i] = step(words[i], words[i + 1], odd, rest);
+        words[i] = step(words[i], words[i + 1], down, up);
         i += 1;
     }
-    words[end] = step(words[end], first, odd, rest);
+    words[end] = step(words[end], first, down, up);
 }
 
 // Bit i goes to i + k, counted on from the start past the end.

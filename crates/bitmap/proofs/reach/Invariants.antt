@@ -1,11 +1,8 @@
 -- The words up to those of all listed bits. Loop: `most` is as many as the first t listed bits need.
-use mathlib.Core.Path.{◌≡◌, ap, ◌∙◌}
-use Prim.Native.Nat.{◌+◌, ◌-◌, ◌/◌, ◌≤◌, ℕ, max}
-use native.Mathlib.Omega.{arith}
-use lib.ListN.{length, get_or, take}
-use borrow.Author.Rules.{rules}
+use mathlib.Core.Path.{◌≡◌}
+use Prim.Native.Nat.{◌-◌, ◌≤◌}
+use lib.ListN.{length, take}
 use Rattle.bitmaps.specs.Bitmaps.{reach_of}
-use Rattle.bitmap.proofs.Many.{reach_none, reach-next, take_all}
 use Rattle.bitmap.proofs.reach.Given as goal
 
 abbrev pub invariant-loop-t : goal.invariant-loop-t

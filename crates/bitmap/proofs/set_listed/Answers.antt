@@ -1,10 +1,8 @@
 -- The listed bits are set and the others stay. Loop: the first t listed bits are set, all others are as they were.
 use mathlib.Core.Path.{subst}
 use mathlib.Core.List.{List}
-use Prim.Native.Nat.{◌-◌, ◌≤◌, ℕ}
+use Prim.Native.Nat.{ℕ}
 use native.Mathlib.Omega.{arith}
-use lib.ListN.{length, take}
-use borrow.Author.Rules.{rules}
 use Rattle.bitmap.specs.Kernels.{SetsListed}
 use Rattle.bitmaps.proofs.Cases.{reach_in}
 use Rattle.bitmap.proofs.Many.{take_all, listed_none, listed_next}

@@ -1,13 +1,7 @@
 -- The listed bits are set and the others stay. Loop: the first t listed bits are set, all others are as they were.
-use mathlib.Core.Path.{subst}
-use mathlib.Core.List.{List}
-use Prim.Native.Nat.{◌-◌, ◌≤◌, ℕ}
-use native.Mathlib.Omega.{arith}
+use Prim.Native.Nat.{◌-◌, ◌≤◌}
 use lib.ListN.{length, take}
-use borrow.Author.Rules.{rules}
 use Rattle.bitmap.specs.Kernels.{SetsListed}
-use Rattle.bitmaps.proofs.Cases.{reach_in}
-use Rattle.bitmap.proofs.Many.{take_all, listed_none, listed_next}
 use Rattle.bitmap.proofs.set_listed.Given as goal
 
 abbrev pub invariant-loop-t : goal.invariant-loop-t

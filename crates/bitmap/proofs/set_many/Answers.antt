@@ -5,7 +5,6 @@ use Rattle.storage.specs.Guards.{Passed}
 use Rattle.storage.proofs.Checks.{passed}
 use Rattle.storage.proofs.Stores.{changes_stopped}
 use Rattle.bitmap.proofs.Many.{many_refused, many_changes}
-use borrow.Author.Rules.{rules}
 use Rattle.bitmap.proofs.set_many.Goals as goal
 
 pub returns-in-Stop : goal.returns-in-Stop
@@ -14,7 +13,7 @@ returns-in-Stop c = changes_stopped _ _ _ _ (sym c.in-Stop.is ∙ c.check.ensure
 pub returns-then-need-words : goal.returns-then-need-words
 returns-then-need-words c =
     let ok : Passed c.args.words.now c.args.b =
-      passed _ _ (sym c.in-Pass.is ∙ c.check.ensures) in
+    passed _ _ (sym c.in-Pass.is ∙ c.check.ensures) in
     many_refused c.args.words.now
     c.args.bits.now
     c.args.b
@@ -24,7 +23,7 @@ returns-then-need-words c =
 pub returns : goal.returns
 returns c =
     let ok : Passed c.args.words.now c.args.b =
-      passed _ _ (sym c.in-Pass.is ∙ c.check.ensures) in
+    passed _ _ (sym c.in-Pass.is ∙ c.check.ensures) in
     many_changes c.args.words.now
     c.args.bits.now
     c.args.b

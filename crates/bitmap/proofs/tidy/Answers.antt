@@ -1,7 +1,6 @@
 -- n where word k is not the last, then n where it is not 0, else the length of the n words without trailing zeros.
 use mathlib.Core.Path.{sym}
 use native.Mathlib.Omega.{arith}
-use borrow.Author.Rules.{rules}
 use lib.Seq.{length-take-le}
 use Rattle.bitmap.proofs.Tidies.{tidy_stays, tidy_full, tidy_trims}
 use Rattle.bitmap.proofs.tidy.Goals as goal

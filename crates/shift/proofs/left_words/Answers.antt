@@ -15,16 +15,16 @@ shape_of-words-then-whole-n c = ap length c.fill_words.ensures ∙ length-filled
 pub returns-then-whole-n : goal.returns-then-whole-n
 returns-then-whole-n c = left_out _ (λ m. omega (arith, c.slice_known-1.given m)) _ _ (omega arith) c.fill_words.ensures
 
-pub shape_of-words-then-odd-eq0 : goal.shape_of-words-then-odd-eq0
-shape_of-words-then-odd-eq0 c = ap length c.fill_words-then-odd-eq0.ensures ∙ length-filled_words _ _ _ _ ∙ (gone_up _ _ _ c.move_up.ensures).long
+pub shape_of-words-then-up-eq0 : goal.shape_of-words-then-up-eq0
+shape_of-words-then-up-eq0 c = ap length c.fill_words-then-up-eq0.ensures ∙ length-filled_words _ _ _ _ ∙ (gone_up _ _ _ c.move_up.ensures).long
 
-pub returns-then-odd-eq0 : goal.returns-then-odd-eq0
-returns-then-odd-eq0 c =
+pub returns-then-up-eq0 : goal.returns-then-up-eq0
+returns-then-up-eq0 c =
     left_moved c.args.words.now
     (λ m. omega (arith, c.slice_known-1.given m)) _
     c.move_up.new.words _
     (gone_up _ _ _ c.move_up.ensures) (omega arith) (omega arith)
-    c.fill_words-then-odd-eq0.ensures
+    c.fill_words-then-up-eq0.ensures
 
 pub loop-i-init : goal.loop-i-init
 loop-i-init c = (omega arith, omega arith, sweep_to _ _ _ _ _ _ _ (sweep_none _ _ _) (omega arith) refl)

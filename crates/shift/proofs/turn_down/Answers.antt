@@ -7,8 +7,8 @@ use Rattle.shift.proofs.Turns.{sunk_none, down_step, down_last}
 use Rattle.shift.proofs.Steps.{funneled_is}
 use Rattle.shift.proofs.turn_down.Goals as goal
 
-pub returns-then-odd-eq0 : goal.returns-then-odd-eq0
-returns-then-odd-eq0 c = sunk_none _ (λ m. omega (arith, c.slice_known-1.given m)) _ (omega arith)
+pub returns-then-down-eq0 : goal.returns-then-down-eq0
+returns-then-down-eq0 c = sunk_none _ (λ m. omega (arith, c.slice_known-1.given m)) _ (omega arith)
 
 pub loop-i-init : goal.loop-i-init
 loop-i-init c = (omega arith, sweep_none _ _ _)

@@ -7,7 +7,7 @@ use Rattle.shifts.specs.Shifts.{turned_down}
 use Rattle.shift.proofs.turn_down.Given as goal
 
 abbrev pub invariant-loop-i : goal.invariant-loop-i
-invariant-loop-i l = (l.i ≤ l.end) × Swept l.initial.words (word_of (turned_down (64 * length l.initial.words) l.odd (member l.initial.words))) 0 l.i l.words
+invariant-loop-i l = (l.i ≤ l.end) × Swept l.initial.words (word_of (turned_down (64 * length l.initial.words) l.down (member l.initial.words))) 0 l.i l.words
 
 abbrev pub decreases-loop-i : goal.decreases-loop-i
 decreases-loop-i l = l.end - l.i

@@ -7,8 +7,8 @@ use Rattle.shift.proofs.Turns.{turn_none, up_step, up_last}
 use Rattle.shift.proofs.Steps.{funneled_is}
 use Rattle.shift.proofs.turn_up.Goals as goal
 
-pub returns-then-odd-eq0 : goal.returns-then-odd-eq0
-returns-then-odd-eq0 c = turn_none _ (λ m. omega (arith, c.slice_known-1.given m)) _ (omega arith)
+pub returns-then-up-eq0 : goal.returns-then-up-eq0
+returns-then-up-eq0 c = turn_none _ (λ m. omega (arith, c.slice_known-1.given m)) _ (omega arith)
 
 pub loop-i-init : goal.loop-i-init
 loop-i-init c = (omega arith, sweep_to _ _ _ _ _ _ _ (sweep_none _ _ _) (omega arith) refl)

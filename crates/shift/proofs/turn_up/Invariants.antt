@@ -7,7 +7,7 @@ use Rattle.shifts.specs.Shifts.{turned_up}
 use Rattle.shift.proofs.turn_up.Given as goal
 
 abbrev pub invariant-loop-i : goal.invariant-loop-i
-invariant-loop-i l = (l.i < length l.initial.words) × Swept l.initial.words (word_of (turned_up (64 * length l.initial.words) l.odd (member l.initial.words))) (l.i + 1) (length l.initial.words) l.words
+invariant-loop-i l = (l.i < length l.initial.words) × Swept l.initial.words (word_of (turned_up (64 * length l.initial.words) l.up (member l.initial.words))) (l.i + 1) (length l.initial.words) l.words
 
 abbrev pub decreases-loop-i : goal.decreases-loop-i
 decreases-loop-i l = l.i
