@@ -1,0 +1,7 @@
+-- What `slice::get` answers of bit i, handed out as a truth value.
+use borrow.Author.Rules.{rules}
+use Rattle.calls.proofs.Calls.{truth}
+use Rattle.capi_slice.proofs.readings.taxolbin_get.Goals as goal
+
+pub returns : goal.returns
+returns c = truth c.get-a.ensures c.truth.ensures

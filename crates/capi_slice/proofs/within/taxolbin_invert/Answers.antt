@@ -1,0 +1,7 @@
+-- What `bits::invert` answers and leaves, with its count handed out as a change's.
+use borrow.Author.Rules.{rules}
+use Rattle.calls.proofs.Calls.{changed}
+use Rattle.capi_slice.proofs.within.taxolbin_invert.Goals as goal
+
+pub returns : goal.returns
+returns c = changed c.invert-a.ensures c.change.ensures

@@ -1,0 +1,7 @@
+-- What `shift::rotate_left` answers and leaves, with its count handed out as a change's.
+use borrow.Author.Rules.{rules}
+use Rattle.calls.proofs.Calls.{changed}
+use Rattle.capi_slice.proofs.within.taxolbin_rotate_left.Goals as goal
+
+pub returns : goal.returns
+returns c = changed c.rotate_left-a.ensures c.change.ensures
