@@ -1,0 +1,7 @@
+-- What `bitmap::set_field` answers and leaves, with its count handed out as a change's.
+use borrow.Author.Rules.{rules}
+use Rattle.calls.proofs.Calls.{changed}
+use Rattle.capi_bitmap.proofs.changes.taxolbin_set_field.Goals as goal
+
+pub returns : goal.returns
+returns c = changed c.set_field-a.ensures c.change.ensures

@@ -1,0 +1,7 @@
+-- What `bitmap::set_many` of the listed bits answers and leaves, with its count handed out as a change's.
+use borrow.Author.Rules.{rules}
+use Rattle.calls.proofs.Calls.{changed}
+use Rattle.capi_bitmap.proofs.changes.taxolbin_set_many.Goals as goal
+
+pub returns : goal.returns
+returns c = changed c.set_many-a.ensures c.change.ensures

@@ -1,0 +1,7 @@
+-- What `shape::truncate_bits` answers and leaves, with its count handed out as a change's.
+use borrow.Author.Rules.{rules}
+use Rattle.calls.proofs.Calls.{changed}
+use Rattle.capi_bitmap.proofs.reshapes.taxolbin_truncate_bits.Goals as goal
+
+pub returns : goal.returns
+returns c = changed c.truncate_bits-a.ensures c.change.ensures
