@@ -17,7 +17,7 @@ use Rattle.storage.specs.declared.Bitmap.{Bitmap}
 use Rattle.storage.specs.declared.Refusal.{Refusal}
 use Rattle.storage.specs.declared.Refusal.TheVariants.{NoSpace}
 use Rattle.storage.specs.declared.Amount.{Amount}
-use Rattle.storage.specs.declared.Amount.TheVariants.{Is, Refused}
+use Rattle.storage.specs.declared.Amount.TheVariants.{Is}
 use Rattle.storage.proofs.Checks.{checked_ok, by_guard, reading_ok}
 use Rattle.storage.proofs.Promises.{guarded, guarded_map}
 use Rattle.print.specs.Texts.{fitted, replaced}

@@ -13,7 +13,6 @@ use Rattle.storage.specs.declared.Refusal.{Refusal}
 use Rattle.storage.specs.declared.Refusal.TheVariants.{NoSpace, BadStyle}
 use Rattle.storage.specs.declared.Guard.TheVariants.{Pass, Stop}
 use Rattle.storage.specs.declared.Amount.{Amount}
-use Rattle.storage.specs.declared.Amount.TheVariants.{Is}
 use Rattle.storage.proofs.Checks.{reading_ok, reading_stopped}
 use Rattle.style.specs.Styles.{allowed}
 use Rattle.style.specs.Promises.{Allowed}

@@ -19,7 +19,6 @@ use Rattle.storage.specs.Promises.{LeastCount}
 use Rattle.storage.specs.declared.Bitmap.{Bitmap}
 use Rattle.storage.specs.declared.Refusal.TheVariants.{NotList, BadStyle}
 use Rattle.storage.specs.declared.Amount.{Amount}
-use Rattle.storage.specs.declared.Amount.TheVariants.{Refused}
 use Rattle.storage.specs.declared.Change.{Change}
 use Rattle.storage.specs.declared.Change.TheVariants.{Done}
 use Rattle.storage.proofs.Checks.{reading_ok}

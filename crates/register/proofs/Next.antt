@@ -10,7 +10,6 @@ use Rattle.storage.specs.Guards.{most_words, Passed}
 use Rattle.storage.specs.declared.Bitmap.{Bitmap}
 use Rattle.storage.specs.declared.Refusal.{Refusal}
 use Rattle.storage.specs.declared.Amount.{Amount}
-use Rattle.storage.specs.declared.Amount.TheVariants.{Is, Refused}
 use Rattle.storage.proofs.Checks.{reading_ok}
 use Rattle.storage.proofs.Views.{bounded_view}
 use Rattle.print.specs.Texts.{runs, AnswersRun}

@@ -11,7 +11,6 @@ use Rattle.storage.specs.declared.Refusal.{Refusal}
 use Rattle.storage.specs.declared.Refusal.TheVariants.{NoSpace}
 use Rattle.storage.specs.declared.Guard.TheVariants.{Pass, Stop}
 use Rattle.storage.specs.declared.Amount.{Amount}
-use Rattle.storage.specs.declared.Amount.TheVariants.{Is, Refused}
 use Rattle.storage.proofs.Checks.{reading_ok, reading_stopped}
 use Rattle.storage.proofs.Views.{bounded_view}
 use Rattle.print.specs.Texts.{fitted, replaced}

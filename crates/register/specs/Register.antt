@@ -4,7 +4,6 @@ use Rattle.word.specs.Sets.{choose}
 use Rattle.storage.specs.Stores.{Bits, reading, size}
 use Rattle.storage.specs.declared.Bitmap.{Bitmap}
 use Rattle.storage.specs.declared.Amount.{Amount}
-use Rattle.storage.specs.declared.Amount.TheVariants.{Refused}
 use Rattle.text.specs.Lists.{space, Range}
 use Rattle.print.specs.Texts.{runs, decimal, size_of, fitted, replaced}
 

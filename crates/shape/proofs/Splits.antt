@@ -21,7 +21,6 @@ use Rattle.storage.specs.declared.Bitmap.{Bitmap}
 use Rattle.storage.specs.declared.Refusal.{Refusal}
 use Rattle.storage.specs.declared.Refusal.TheVariants.{NoSpace}
 use Rattle.storage.specs.declared.Amount.{Amount}
-use Rattle.storage.specs.declared.Amount.TheVariants.{Is}
 use Rattle.storage.specs.declared.Guard.TheVariants.{Pass, Stop}
 use Rattle.storage.proofs.Checks.{checked_ok, stopped, reading_ok, reading_stopped, told, told-refused, within_ok, within_no}
 use Rattle.storage.proofs.Views.{view-count, view_out, view-whole}

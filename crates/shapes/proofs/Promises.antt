@@ -10,7 +10,7 @@ use Rattle.word.specs.Sets.{xorb, Top}
 use Rattle.word.proofs.Cases.{by_lt, by_eq, or-false, and-false, xor-true, xor-false}
 use Rattle.word.proofs.Sets.{top, top_is}
 use Rattle.storage.specs.Refusals.{number_of}
-use Rattle.storage.specs.Stores.{Bits, Bounded, refused, done, within, flipped, words_for}
+use Rattle.storage.specs.Stores.{Bits, Bounded, refused, done, flipped, words_for}
 use Rattle.storage.specs.Promises.{Contained}
 use Rattle.storage.specs.declared.Refusal.{Refusal}
 use Rattle.storage.proofs.Checks.{within_done}

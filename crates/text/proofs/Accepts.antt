@@ -24,7 +24,6 @@ use Rattle.text.specs.declared.Token.TheVariants.{Range as Ranging}
 use Rattle.text.proofs.Tokens.{reads_bad}
 use Rattle.text.proofs.Steps.{kind-digit, kind-blank, kind_joiner, kind-comma, kind_other, chosen, token-at, bit_of_lem}
 use Rattle.text.specs.declared.Kind.TheVariants.{Digit, Blank, Joiner, Comma, Other}
-use Rattle.text.specs.declared.Token.{Token}
 
 -- ---- what a byte is
 

@@ -7,7 +7,6 @@ use Rattle.storage.specs.Guards.{PassedThree}
 use Rattle.storage.proofs.Checks.{passed_three}
 use Rattle.combine.proofs.Guards.{all_stopped}
 use Rattle.combine.proofs.Froms.{union-refused, union_done}
-use borrow.Author.Rules.{rules}
 use Rattle.combine.proofs.or_from.Goals as goal
 
 pub returns-in-Stop : goal.returns-in-Stop
@@ -16,25 +15,25 @@ returns-in-Stop c = all_stopped _ _ _ _ _ _ _ _ (sym c.in-Stop.is ∙ c.check_th
 pub slice_bounds-x-end : goal.slice_bounds-x-end
 slice_bounds-x-end c =
     let ok : let a = c.args in PassedThree a.words.now a.b a.left.now a.l a.right.now a.r =
-      passed_three _ _ _ _ _ _ (sym c.in-Pass.is ∙ c.check_three.ensures) in
+    passed_three _ _ _ _ _ _ (sym c.in-Pass.is ∙ c.check_three.ensures) in
     sym (length-take-le _ _ ok.left.inside)
 
 pub slice_bounds-y-end : goal.slice_bounds-y-end
 slice_bounds-y-end c =
     let ok : let a = c.args in PassedThree a.words.now a.b a.left.now a.l a.right.now a.r =
-      passed_three _ _ _ _ _ _ (sym c.in-Pass.is ∙ c.check_three.ensures) in
+    passed_three _ _ _ _ _ _ (sym c.in-Pass.is ∙ c.check_three.ensures) in
     sym (length-take-le _ _ ok.right.inside)
 
 pub returns-then-m-words : goal.returns-then-m-words
 returns-then-m-words c =
     let ok : let a = c.args in PassedThree a.words.now a.b a.left.now a.l a.right.now a.r =
-      passed_three _ _ _ _ _ _ (sym c.in-Pass.is ∙ c.check_three.ensures) in
+    passed_three _ _ _ _ _ _ (sym c.in-Pass.is ∙ c.check_three.ensures) in
     union-refused _ _ _ _ _ _ ok _ c.max-m.ensures c.if-m-words.true
 
 pub zip_words-requires : goal.zip_words-requires
 zip_words-requires c =
     let ok : let a = c.args in PassedThree a.words.now a.b a.left.now a.l a.right.now a.r =
-      passed_three _ _ _ _ _ _ (sym c.in-Pass.is ∙ c.check_three.ensures) in
+    passed_three _ _ _ _ _ _ (sym c.in-Pass.is ∙ c.check_three.ensures) in
     let p = ok in
     let a = c.args in
     (omega arith, omega (arith, length-take-le a.l.count a.left.now p.left.inside), omega (arith, length-take-le a.r.count a.right.now p.right.inside))
@@ -42,7 +41,7 @@ zip_words-requires c =
 pub finish-requires : goal.finish-requires
 finish-requires c =
     let ok : let a = c.args in PassedThree a.words.now a.b a.left.now a.l a.right.now a.r =
-      passed_three _ _ _ _ _ _ (sym c.in-Pass.is ∙ c.check_three.ensures) in
+    passed_three _ _ _ _ _ _ (sym c.in-Pass.is ∙ c.check_three.ensures) in
     let p = ok in
     let a = c.args in
     (omega arith, omega (arith, length-take-le a.l.count a.left.now p.left.inside, length-take-le a.r.count a.right.now p.right.inside))
@@ -50,10 +49,10 @@ finish-requires c =
 pub returns : goal.returns
 returns c =
     let ok : let a = c.args in PassedThree a.words.now a.b a.left.now a.l a.right.now a.r =
-      passed_three _ _ _ _ _ _ (sym c.in-Pass.is ∙ c.check_three.ensures) in
+    passed_three _ _ _ _ _ _ (sym c.in-Pass.is ∙ c.check_three.ensures) in
     let fit-left : Fit c.args.left.now =
-      λ k. omega (arith, c.shared_slice_known-1.given k) in
+    λ k. omega (arith, c.shared_slice_known-1.given k) in
     let fit-right : Fit c.args.right.now =
-      λ k. omega (arith, c.shared_slice_known-2-1.given k) in
+    λ k. omega (arith, c.shared_slice_known-2-1.given k) in
     union_done _ _ _ _ _ _ ok _ c.max-m.ensures _ _ _ _ (omega (arith, c.if-m-words.false)) fit-left fit-right
     (omega arith) c.zip_words.ensures c.finish.ensures

@@ -2,7 +2,6 @@
 use mathlib.Core.Path.{sym, ◌∙◌}
 use native.Mathlib.Omega.{arith}
 use Rattle.word.proofs.Lists.{Fit}
-use borrow.Author.Rules.{rules}
 use lib.Seq.{length-take-le}
 use Rattle.storage.specs.Guards.{Passed}
 use Rattle.storage.proofs.Checks.{passed}
@@ -16,33 +15,33 @@ returns-in-Stop c = changes_stopped _ _ _ _ (sym c.in-Stop.is ∙ c.check.ensure
 pub slice_bounds-close_words-end : goal.slice_bounds-close_words-end
 slice_bounds-close_words-end c =
     let ok : Passed c.args.words.now c.args.b =
-      passed _ _ (sym c.in-Pass.is ∙ c.check.ensures) in
+    passed _ _ (sym c.in-Pass.is ∙ c.check.ensures) in
     ok.inside
 
 pub slice_bounds-close_words-end-2 : goal.slice_bounds-close_words-end-2
 slice_bounds-close_words-end-2 c =
     let ok : Passed c.args.words.now c.args.b =
-      passed _ _ (sym c.in-Pass.is ∙ c.check.ensures) in
+    passed _ _ (sym c.in-Pass.is ∙ c.check.ensures) in
     sym (length-take-le _ _ ok.inside)
 
 pub slice_bounds-nonzero_len-end : goal.slice_bounds-nonzero_len-end
 slice_bounds-nonzero_len-end c =
     let ok : Passed c.args.words.now c.args.b =
-      passed _ _ (sym c.in-Pass.is ∙ c.check.ensures) in
+    passed _ _ (sym c.in-Pass.is ∙ c.check.ensures) in
     omega (arith, ok)
 
 pub slice_bounds-nonzero_len-end-2 : goal.slice_bounds-nonzero_len-end-2
 slice_bounds-nonzero_len-end-2 c =
     let ok : Passed c.args.words.now c.args.b =
-      passed _ _ (sym c.in-Pass.is ∙ c.check.ensures) in
+    passed _ _ (sym c.in-Pass.is ∙ c.check.ensures) in
     sym (length-take-le _ _ (omega (arith, ok)))
 
 pub returns : goal.returns
 returns c =
     let fit : Fit c.args.words.now =
-      λ k. omega (arith, c.slice_known-1.given k) in
+    λ k. omega (arith, c.slice_known-1.given k) in
     let ok : Passed c.args.words.now c.args.b =
-      passed _ _ (sym c.in-Pass.is ∙ c.check.ensures) in
+    passed _ _ (sym c.in-Pass.is ∙ c.check.ensures) in
     close_changes _ _ _ _ ok _ _
     fit c.close_words.ensures
     c.nonzero_len.ensures

@@ -2,7 +2,6 @@
 use mathlib.Core.Path.{◌≡◌, sym, ◌∙◌}
 use Prim.Native.Nat.{suc}
 use native.Mathlib.Omega.{arith}
-use borrow.Author.Rules.{rules}
 use lib.Seq.{length-take-le}
 use Rattle.storage.specs.Stores.{held}
 use Rattle.storage.specs.Guards.{Passed}
@@ -23,45 +22,45 @@ returns-in-Nothing c =
 pub returns-then-top-p : goal.returns-then-top-p
 returns-then-top-p c =
     let ok : Passed c.args.words.now c.args.b =
-      (last-at _ _ _ (sym c.in-At.is ∙ c.last_set.ensures)).0 in
+    (last-at _ _ _ (sym c.in-At.is ∙ c.last_set.ensures)).0 in
     let top : top_of (held c.args.words.now c.args.b) ≡ suc c.in-At.i =
-      (last-at _ _ _ (sym c.in-At.is ∙ c.last_set.ensures)).1 in
+    (last-at _ _ _ (sym c.in-At.is ∙ c.last_set.ensures)).1 in
     open_trims _ _ _ _ ok _ (omega (arith, top)) c.trim-then-top-p.ensures
 
 pub returns-then-k-top : goal.returns-then-k-top
 returns-then-k-top c =
     let ok : Passed c.args.words.now c.args.b =
-      (last-at _ _ _ (sym c.in-At.is ∙ c.last_set.ensures)).0 in
+    (last-at _ _ _ (sym c.in-At.is ∙ c.last_set.ensures)).0 in
     let top : top_of (held c.args.words.now c.args.b) ≡ suc c.in-At.i =
-      (last-at _ _ _ (sym c.in-At.is ∙ c.last_set.ensures)).1 in
+    (last-at _ _ _ (sym c.in-At.is ∙ c.last_set.ensures)).1 in
     open_refused _ _ _ _ ok _ top (omega arith) (omega arith)
 
 pub returns-then-w-words : goal.returns-then-w-words
 returns-then-w-words c =
     let ok : Passed c.args.words.now c.args.b =
-      (last-at _ _ _ (sym c.in-At.is ∙ c.last_set.ensures)).0 in
+    (last-at _ _ _ (sym c.in-At.is ∙ c.last_set.ensures)).0 in
     let top : top_of (held c.args.words.now c.args.b) ≡ suc c.in-At.i =
-      (last-at _ _ _ (sym c.in-At.is ∙ c.last_set.ensures)).1 in
+    (last-at _ _ _ (sym c.in-At.is ∙ c.last_set.ensures)).1 in
     open_no_space _ _ _ _ ok _ top (omega arith) (omega arith) c.if-w-words.true
 
 pub slice_bounds-open_words-end : goal.slice_bounds-open_words-end
 slice_bounds-open_words-end c =
     let ok : Passed c.args.words.now c.args.b =
-      (last-at _ _ _ (sym c.in-At.is ∙ c.last_set.ensures)).0 in
+    (last-at _ _ _ (sym c.in-At.is ∙ c.last_set.ensures)).0 in
     omega (arith, ok.inside)
 
 pub slice_bounds-open_words-end-2 : goal.slice_bounds-open_words-end-2
 slice_bounds-open_words-end-2 c =
     let ok : Passed c.args.words.now c.args.b =
-      (last-at _ _ _ (sym c.in-At.is ∙ c.last_set.ensures)).0 in
+    (last-at _ _ _ (sym c.in-At.is ∙ c.last_set.ensures)).0 in
     sym (length-take-le _ _ (omega (arith, ok.inside)))
 
 pub returns : goal.returns
 returns c =
     let ok : Passed c.args.words.now c.args.b =
-      (last-at _ _ _ (sym c.in-At.is ∙ c.last_set.ensures)).0 in
+    (last-at _ _ _ (sym c.in-At.is ∙ c.last_set.ensures)).0 in
     let top : top_of (held c.args.words.now c.args.b) ≡ suc c.in-At.i =
-      (last-at _ _ _ (sym c.in-At.is ∙ c.last_set.ensures)).1 in
+    (last-at _ _ _ (sym c.in-At.is ∙ c.last_set.ensures)).1 in
     open_changes _ _ _ _ ok _
     top (omega arith) (omega arith) _ _ _
     c.if-w-words.false

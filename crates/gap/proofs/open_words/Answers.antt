@@ -2,7 +2,6 @@
 use mathlib.Core.Path.{ap, ◌∙◌}
 use native.Mathlib.Omega.{arith}
 use Rattle.word.proofs.Lists.{Fit}
-use borrow.Author.Rules.{rules}
 use Prim.Native.Nat.{◌/◌}
 use lib.ListN.{length, length-set}
 use Rattle.word.specs.Places.{member}
@@ -14,7 +13,7 @@ use Rattle.gap.proofs.open_words.Goals as goal
 pub returns-then-a-words : goal.returns-then-a-words
 returns-then-a-words c =
     let fit : Fit c.args.words.now =
-      λ k. omega (arith, c.slice_known-1.given k) in
+    λ k. omega (arith, c.slice_known-1.given k) in
     open_out _ _ _ fit c.if-a-words.true
 
 pub slice_bounds-left_words-count : goal.slice_bounds-left_words-count
@@ -44,7 +43,7 @@ bounds-words-a-4 c =
 pub returns : goal.returns
 returns c =
     let fit : Fit c.args.words.now =
-      λ k. omega (arith, c.slice_known-1.given k) in
+    λ k. omega (arith, c.slice_known-1.given k) in
     open_tail _ _ _ fit _ _
     c.if-a-words.false c.low_mask-mask.ensures
     c.left_words.ensures

@@ -1,7 +1,6 @@
 -- How many digits x has: those of the first ten places, and those that stand before them.
 use Prim.Native.Nat.{◌/◌}
 use native.Mathlib.Omega.{arith}
-use borrow.Author.Rules.{rules}
 use Rattle.print.proofs.Decimals.{digits-left}
 use Rattle.print.proofs.Pieces.{ten_digits}
 use Rattle.print.proofs.decimal_len.Goals as goal

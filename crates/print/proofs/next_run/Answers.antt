@@ -1,6 +1,5 @@
 -- The next run from i on: one bit where the bit after it is clear, else up to the next clear bit, else none at the length; no scan is refused.
 use native.Mathlib.Omega.{arith}
-use borrow.Author.Rules.{rules}
 use Rattle.print.proofs.Runs.{start_below, run_none, run-single, run-found, found_never, clear_never, clear_bit}
 use Rattle.print.proofs.next_run.Goals as goal
 

@@ -1,6 +1,5 @@
 -- The length of a range: the digits of both numbers and one for the joiner.
 use native.Mathlib.Omega.{arith}
-use borrow.Author.Rules.{rules}
 use Rattle.print.proofs.Pieces.{two_length, ten_digits, counted}
 use Rattle.print.proofs.pair_len.Goals as goal
 

@@ -1,9 +1,7 @@
 -- The text of the bitmap is put at the front, the bytes past it as they were. Loop: the `at` bytes of the runs before `run` are put, the others as they were.
-use native.Mathlib.Omega.{arith}
 use Prim.Native.Nat.{◌-◌, ◌*◌}
 use Rattle.storage.specs.Stores.{held}
-use Rattle.storage.proofs.Views.{bounded_view, view_out}
-use Rattle.print.proofs.Printing.{printable, end-within, Shown, shown-start, shown-room, shown-more, shown-end, end_long}
+use Rattle.print.proofs.Printing.{Shown}
 use Rattle.print.proofs.print.Given as goal
 
 abbrev pub invariant-loop-run : goal.invariant-loop-run

@@ -2,7 +2,6 @@
 use mathlib.Core.Path.{ap}
 use Prim.Native.Nat.{ℕ, ◌+◌}
 use native.Mathlib.Omega.{arith}
-use borrow.Author.Rules.{rules}
 use Rattle.print.proofs.Buffer.{decimal_lacks, decimal-fits}
 use Rattle.print.proofs.put_decimal.Goals as goal
 

@@ -5,7 +5,7 @@ use native.Mathlib.Omega.{arith}
 use Prim.Native.Nat.{ℕ, ◌+◌, ◌-◌, ◌%◌, ◌≤◌}
 use lib.ListN.{length, length-set}
 use Rattle.print.specs.Texts.{decimal}
-use Rattle.print.proofs.Buffer.{PuttingDigits, putting_start, putting_place, putting_long, putting_two, putting_end, putting_last}
+use Rattle.print.proofs.Buffer.{putting_start, putting_place, putting_long, putting_two, putting_end, putting_last}
 use Rattle.print.proofs.put_digits.Goals as goal
 
 -- there is room for them

@@ -1,11 +1,7 @@
 -- The digits of x are put up to a place. Loop: those from p on are put, and y has the others.
-use mathlib.Core.Path.{◌∙◌}
-use mathlib.Core.List.{List, []}
-use native.Mathlib.Omega.{arith}
-use Prim.Native.Nat.{ℕ, ◌+◌, ◌-◌, ◌%◌, ◌≤◌}
-use lib.ListN.{length, length-set}
-use Rattle.print.specs.Texts.{decimal}
-use Rattle.print.proofs.Buffer.{PuttingDigits, putting_start, putting_place, putting_long, putting_two, putting_end, putting_last}
+use mathlib.Core.List.{List}
+use Prim.Native.Nat.{ℕ, ◌-◌}
+use Rattle.print.proofs.Buffer.{PuttingDigits}
 use Rattle.print.proofs.put_digits.Given as goal
 
 abbrev pub invariant-loop-p : goal.invariant-loop-p

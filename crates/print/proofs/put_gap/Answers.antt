@@ -1,7 +1,6 @@
 -- What stands before a piece is put at a place: nothing where no byte came before, else a comma, and a blank in a style with one; the answer is the place after it.
 use native.Mathlib.Omega.{arith}
 use lib.ListN.{length-set}
-use borrow.Author.Rules.{rules}
 use Rattle.print.proofs.Pieces.{gap-room, gap_two, puts_gap_none, puts_gap_two, puts_gap_one}
 use Rattle.print.proofs.put_gap.Goals as goal
 

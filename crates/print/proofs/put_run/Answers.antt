@@ -2,8 +2,7 @@
 use mathlib.Core.Path.{sym, ◌∙◌}
 use native.Mathlib.Omega.{arith}
 use borrow.Author.Tests.{leb-true, leb-false}
-use Prim.Native.Nat.{◌-◌, ◌≤◌, ◌<◌}
-use Rattle.print.proofs.Pieces.{whole_room, whole_puts, Putting, putting_first, putting_size, putting_done, number-room, putting_number}
+use Rattle.print.proofs.Pieces.{whole_room, whole_puts, putting_first, putting_size, putting_done, number-room, putting_number}
 use Rattle.print.proofs.Buffer.{puts_long}
 use Rattle.print.proofs.put_run.Goals as goal
 

@@ -1,10 +1,6 @@
 -- A run is put: a range where it is long enough, else each number; the answer is the place after it. Loop: the numbers before `x` are put, up to `p`.
-use mathlib.Core.Path.{sym, ◌∙◌}
-use native.Mathlib.Omega.{arith}
-use borrow.Author.Tests.{leb-true, leb-false}
-use Prim.Native.Nat.{◌-◌, ◌≤◌, ◌<◌}
-use Rattle.print.proofs.Pieces.{whole_room, whole_puts, Putting, putting_first, putting_size, putting_done, number-room, putting_number}
-use Rattle.print.proofs.Buffer.{puts_long}
+use Prim.Native.Nat.{◌-◌}
+use Rattle.print.proofs.Pieces.{Putting}
 use Rattle.print.proofs.put_run.Given as goal
 
 abbrev pub invariant-loop-x : goal.invariant-loop-x

@@ -1,7 +1,6 @@
 -- A number is put after what stands before it; the answer is the place after it.
 use mathlib.Core.Path.{refl}
 use native.Mathlib.Omega.{arith}
-use borrow.Author.Rules.{rules}
 use Rattle.print.proofs.Pieces.{counted, first_room, piece_one}
 use Rattle.print.proofs.put_single.Goals as goal
 

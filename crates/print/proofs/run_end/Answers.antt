@@ -2,8 +2,7 @@
 use mathlib.Core.Path.{refl, sym, ◌∙◌}
 use native.Mathlib.Omega.{arith}
 use borrow.Author.Tests.{leb-true, leb-false}
-use Prim.Native.Nat.{◌-◌, ◌≤◌, ◌<◌}
-use Rattle.print.proofs.Pieces.{single-length, counted, whole-place, whole_short, Counting, counting_start, counting_short, counting_more, counting_end}
+use Rattle.print.proofs.Pieces.{single-length, counted, whole-place, whole_short, counting_start, counting_short, counting_more, counting_end}
 use Rattle.print.proofs.run_end.Goals as goal
 
 pub is_range-requires : goal.is_range-requires

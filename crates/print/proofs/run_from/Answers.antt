@@ -1,7 +1,6 @@
 -- The next run from i on: none at 0 where the guard stops, none at the length past it, else what `next_run` finds, which is the first of the runs left.
 use mathlib.Core.Path.{sym, ◌∙◌}
 use native.Mathlib.Omega.{arith}
-use borrow.Author.Rules.{rules}
 use Rattle.storage.specs.Guards.{Passed}
 use Rattle.storage.proofs.Checks.{passed, reading_stopped}
 use Rattle.print.proofs.Runs.{answer-past, answer-next}
@@ -13,23 +12,23 @@ returns-in-Stop c = sym (reading_stopped _ _ _ _ _ (sym c.in-Stop.is ∙ c.check
 pub overflow_mul-end : goal.overflow_mul-end
 overflow_mul-end c =
     let ok : Passed c.args.words.now c.args.b =
-      passed _ _ (sym c.in-Pass.is ∙ c.check.ensures) in
+    passed _ _ (sym c.in-Pass.is ∙ c.check.ensures) in
     omega (arith, ok)
 
 pub returns-then-i-end : goal.returns-then-i-end
 returns-then-i-end c =
     let ok : Passed c.args.words.now c.args.b =
-      passed _ _ (sym c.in-Pass.is ∙ c.check.ensures) in
+    passed _ _ (sym c.in-Pass.is ∙ c.check.ensures) in
     answer-past _ _ _ ok (omega (arith, c.if-i-end.true))
 
 pub next_run-requires : goal.next_run-requires
 next_run-requires c =
     let ok : Passed c.args.words.now c.args.b =
-      passed _ _ (sym c.in-Pass.is ∙ c.check.ensures) in
+    passed _ _ (sym c.in-Pass.is ∙ c.check.ensures) in
     (ok, c.if-i-end.false)
 
 pub returns : goal.returns
 returns c =
     let ok : Passed c.args.words.now c.args.b =
-      passed _ _ (sym c.in-Pass.is ∙ c.check.ensures) in
+    passed _ _ (sym c.in-Pass.is ∙ c.check.ensures) in
     answer-next _ _ _ ok c.if-i-end.false _ c.next_run.ensures

@@ -1,11 +1,9 @@
 -- The length of the bitmap's text. Loop: `at` is the length of the text of the runs before `run`, and what follows is the text of the others.
 use mathlib.Core.Path.{sym, ap, ◌∙◌}
 use native.Mathlib.Omega.{arith}
-use Prim.Native.Nat.{◌-◌, ◌*◌}
 use lib.ListN.{length}
-use Rattle.storage.specs.Stores.{held}
 use Rattle.storage.proofs.Views.{bounded_view, view_out}
-use Rattle.print.proofs.Printing.{PrintingTo, going_start, going_end, printable, run_short, end-within, going_more}
+use Rattle.print.proofs.Printing.{going_start, going_end, printable, run_short, end-within, going_more}
 use Rattle.print.proofs.text_len.Goals as goal
 
 pub next_run-run-requires : goal.next_run-run-requires

@@ -2,7 +2,6 @@
 use mathlib.Core.Path.{◌≡◌, sym, ◌∙◌}
 use mathlib.Core.Bool.{true}
 use native.Mathlib.Omega.{arith}
-use borrow.Author.Rules.{rules}
 use Rattle.storage.specs.Guards.{Passed}
 use Rattle.storage.proofs.Checks.{passed}
 use Rattle.style.specs.Styles.{allowed}
@@ -16,42 +15,41 @@ returns-in-Stop c = prints_stopped _ _ _ _ _ (sym c.in-Stop.is ∙ c.check.ensur
 pub returns-then-not-is_allowed : goal.returns-then-not-is_allowed
 returns-then-not-is_allowed c =
     let ok : Passed c.args.words.now c.args.b =
-      passed _ _ (sym c.in-Pass.is ∙ c.check.ensures) in
+    passed _ _ (sym c.in-Pass.is ∙ c.check.ensures) in
     prints_no_style _ _ _ _ ok (sym c.is_allowed.ensures ∙ c.if-not-is_allowed.true)
 
 pub text_len-len-requires : goal.text_len-len-requires
 text_len-len-requires c =
     let ok : Passed c.args.words.now c.args.b =
-      passed _ _ (sym c.in-Pass.is ∙ c.check.ensures) in
+    passed _ _ (sym c.in-Pass.is ∙ c.check.ensures) in
     let styled : allowed c.args.style ≡ true =
-      sym c.is_allowed.ensures ∙ c.if-not-is_allowed.false in
+    sym c.is_allowed.ensures ∙ c.if-not-is_allowed.false in
     ((styles_mean _).1 styled, ok)
 
 pub returns-then-len-out : goal.returns-then-len-out
 returns-then-len-out c =
     let ok : Passed c.args.words.now c.args.b =
-      passed _ _ (sym c.in-Pass.is ∙ c.check.ensures) in
+    passed _ _ (sym c.in-Pass.is ∙ c.check.ensures) in
     let styled : allowed c.args.style ≡ true =
-      sym c.is_allowed.ensures ∙ c.if-not-is_allowed.false in
+    sym c.is_allowed.ensures ∙ c.if-not-is_allowed.false in
     prints_short _ _ _ _ ok styled _ c.text_len-len.ensures c.if-len-out.true
 
 pub print-requires : goal.print-requires
 print-requires c =
     let ok : Passed c.args.words.now c.args.b =
-      passed _ _ (sym c.in-Pass.is ∙ c.check.ensures) in
+    passed _ _ (sym c.in-Pass.is ∙ c.check.ensures) in
     let styled : allowed c.args.style ≡ true =
-      sym c.is_allowed.ensures ∙ c.if-not-is_allowed.false in
-    (
-  (styles_mean _).1 styled,
-  ok,
-  omega (arith, c.if-len-out.false, c.text_len-len.ensures),
-)
+    sym c.is_allowed.ensures ∙ c.if-not-is_allowed.false in (
+      (styles_mean _).1 styled,
+      ok,
+      omega (arith, c.if-len-out.false, c.text_len-len.ensures),
+    )
 
 pub returns : goal.returns
 returns c =
     let ok : Passed c.args.words.now c.args.b =
-      passed _ _ (sym c.in-Pass.is ∙ c.check.ensures) in
+    passed _ _ (sym c.in-Pass.is ∙ c.check.ensures) in
     let styled : allowed c.args.style ≡ true =
-      sym c.is_allowed.ensures ∙ c.if-not-is_allowed.false in
+    sym c.is_allowed.ensures ∙ c.if-not-is_allowed.false in
     prints_done _ _ _ _ ok styled _
     c.text_len-len.ensures _ c.if-len-out.false c.print.ensures

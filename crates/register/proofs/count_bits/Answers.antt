@@ -1,5 +1,4 @@
 -- How many set bits there are, as `count_set_bits` says of a store that passes.
-use borrow.Author.Rules.{rules}
 use Rattle.register.proofs.Next.{counted_is, counted_never}
 use Rattle.register.proofs.count_bits.Goals as goal
 

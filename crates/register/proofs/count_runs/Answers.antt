@@ -1,6 +1,6 @@
 -- How many runs there are. Loop: n runs were met, and `run` is the first of the others.
 use native.Mathlib.Omega.{arith}
-use Prim.Native.Nat.{ℕ, ◌-◌, ◌*◌, ◌≤◌, ◌<◌}
+use Prim.Native.Nat.{ℕ, ◌<◌}
 use mathlib.Core.List.{List}
 use lib.ListN.{length}
 use Rattle.storage.specs.Stores.{held}

@@ -1,5 +1,4 @@
 -- How many pages some runs take: one where there is none.
-use borrow.Author.Rules.{rules}
 use Rattle.register.proofs.Rows.{pages_one, pages_more}
 use Rattle.register.proofs.page_count.Goals as goal
 

@@ -1,7 +1,6 @@
 -- Blanks are put; the answer is the place after them. Loop: the blanks up to p are put.
-use native.Mathlib.Omega.{arith}
 use Prim.Native.Nat.{◌+◌, ◌-◌}
-use Rattle.register.proofs.Lines.{Blanking, blanking_start, blanking_long, blanking_more, blanking_end}
+use Rattle.register.proofs.Lines.{Blanking}
 use Rattle.register.proofs.put_blanks.Given as goal
 
 abbrev pub invariant-loop-p : goal.invariant-loop-p

@@ -1,6 +1,5 @@
 -- A number is put into its column: blanks, then its digits.
 use native.Mathlib.Omega.{arith}
-use borrow.Author.Rules.{rules}
 use Rattle.register.proofs.Lines.{narrow_digits, column_puts}
 use Rattle.register.proofs.put_column.Goals as goal
 

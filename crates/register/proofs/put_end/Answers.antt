@@ -1,6 +1,5 @@
 -- Blanks are put, and the line's end behind them.
 use native.Mathlib.Omega.{arith}
-use borrow.Author.Rules.{rules}
 use Rattle.register.proofs.Lines.{end-place, end_puts}
 use Rattle.register.proofs.put_end.Goals as goal
 

@@ -1,6 +1,5 @@
 -- A line of three numbers is put: three columns, 36 blanks and the line's end.
 use native.Mathlib.Omega.{arith}
-use borrow.Author.Rules.{rules}
 use Rattle.register.proofs.Lines.{first_room, second_room, third_room, line_puts}
 use Rattle.register.proofs.put_line.Goals as goal
 

@@ -1,10 +1,8 @@
 -- All lines are put. Loop: the first k lines stand in the buffer, and `run` is the next to be printed.
 use native.Mathlib.Omega.{arith}
-use Prim.Native.Nat.{◌-◌, ◌*◌}
-use Rattle.storage.specs.Stores.{held}
 use Rattle.storage.proofs.Views.{bounded_view}
 use Rattle.register.proofs.Next.{next_first, small}
-use Rattle.register.proofs.Printing.{Printing, printing-start, printing_long, printing_ready, printing-more, printing-end}
+use Rattle.register.proofs.Printing.{printing-start, printing_long, printing_ready, printing-more, printing-end}
 use Rattle.register.proofs.put_lines.Goals as goal
 
 pub overflow_mul-lines : goal.overflow_mul-lines

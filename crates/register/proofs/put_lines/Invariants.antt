@@ -1,10 +1,7 @@
 -- All lines are put. Loop: the first k lines stand in the buffer, and `run` is the next to be printed.
-use native.Mathlib.Omega.{arith}
 use Prim.Native.Nat.{◌-◌, ◌*◌}
 use Rattle.storage.specs.Stores.{held}
-use Rattle.storage.proofs.Views.{bounded_view}
-use Rattle.register.proofs.Next.{next_first, small}
-use Rattle.register.proofs.Printing.{Printing, printing-start, printing_long, printing_ready, printing-more, printing-end}
+use Rattle.register.proofs.Printing.{Printing}
 use Rattle.register.proofs.put_lines.Given as goal
 
 abbrev pub invariant-loop-k : goal.invariant-loop-k

@@ -1,6 +1,5 @@
 -- Line k is put: a foot, and the run waits; or the run's row, and the next run is sought.
 use native.Mathlib.Omega.{arith}
-use borrow.Author.Rules.{rules}
 use Rattle.storage.proofs.Views.{bounded_view}
 use Rattle.register.proofs.Next.{next_more, small}
 use Rattle.register.proofs.Printing.{line-room, foot_narrow, foot-put, foot-more, row_narrow, row_put, row_more}

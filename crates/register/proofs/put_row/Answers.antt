@@ -2,7 +2,6 @@
 use mathlib.Core.Path.{ap, ◌∙◌}
 use mathlib.Core.List.{List}
 use Prim.Native.Nat.{ℕ}
-use borrow.Author.Rules.{rules}
 use Rattle.print.specs.Kernels.{put_at}
 use Rattle.register.proofs.Rows.{row_some, row_none}
 use Rattle.register.proofs.put_row.Goals as goal

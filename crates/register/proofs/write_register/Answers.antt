@@ -1,7 +1,6 @@
 -- The guard, then 6 where the buffer is shorter than the register, then the register at its front and its length; a refusal leaves every byte.
 use mathlib.Core.Path.{sym, ap, ◌∙◌}
 use native.Mathlib.Omega.{arith}
-use borrow.Author.Rules.{rules}
 use Rattle.storage.specs.Guards.{Passed}
 use Rattle.storage.proofs.Checks.{passed}
 use Rattle.register.specs.Register.{pages_for}
@@ -16,48 +15,47 @@ returns-in-Stop c = registers_stopped _ _ _ _ (sym c.in-Stop.is ∙ c.check.ensu
 pub count_runs-requires : goal.count_runs-requires
 count_runs-requires c =
     let ok : Passed c.args.words.now c.args.b =
-      passed _ _ (sym c.in-Pass.is ∙ c.check.ensures) in
+    passed _ _ (sym c.in-Pass.is ∙ c.check.ensures) in
     ok
 
 pub page_count-pages-requires : goal.page_count-pages-requires
 page_count-pages-requires c =
     let ok : Passed c.args.words.now c.args.b =
-      passed _ _ (sym c.in-Pass.is ∙ c.check.ensures) in
+    passed _ _ (sym c.in-Pass.is ∙ c.check.ensures) in
     omega (arith, c.count_runs.ensures, ok, runs_fit _ _ ok)
 
 pub overflow_mul-len-2 : goal.overflow_mul-len-2
 overflow_mul-len-2 c =
     let ok : Passed c.args.words.now c.args.b =
-      passed _ _ (sym c.in-Pass.is ∙ c.check.ensures) in
+    passed _ _ (sym c.in-Pass.is ∙ c.check.ensures) in
     omega (arith, c.page_count-pages.ensures, c.count_runs.ensures, pages_few c.count_runs.result, ok, runs_fit _ _ ok)
 
 pub returns-then-len-out : goal.returns-then-len-out
 returns-then-len-out c =
     let ok : Passed c.args.words.now c.args.b =
-      passed _ _ (sym c.in-Pass.is ∙ c.check.ensures) in
+    passed _ _ (sym c.in-Pass.is ∙ c.check.ensures) in
     registers_short _ _ _ ok _ (c.page_count-pages.ensures ∙ ap pages_for c.count_runs.ensures) c.if-len-out.true
 
 pub count_bits-requires : goal.count_bits-requires
 count_bits-requires c =
     let ok : Passed c.args.words.now c.args.b =
-      passed _ _ (sym c.in-Pass.is ∙ c.check.ensures) in
+    passed _ _ (sym c.in-Pass.is ∙ c.check.ensures) in
     ok
 
 pub put_lines-requires : goal.put_lines-requires
 put_lines-requires c =
     let ok : Passed c.args.words.now c.args.b =
-      passed _ _ (sym c.in-Pass.is ∙ c.check.ensures) in
-    (
-  ok,
-  record {
-    pages_are = c.page_count-pages.ensures ∙ ap pages_for c.count_runs.ensures;
-    count_is = c.count_bits.ensures;
-    room = omega (arith, c.if-len-out.false);
-  },
-)
+    passed _ _ (sym c.in-Pass.is ∙ c.check.ensures) in (
+      ok,
+      record {
+        pages_are = c.page_count-pages.ensures ∙ ap pages_for c.count_runs.ensures;
+        count_is = c.count_bits.ensures;
+        room = omega (arith, c.if-len-out.false);
+      },
+    )
 
 pub returns : goal.returns
 returns c =
     let ok : Passed c.args.words.now c.args.b =
-      passed _ _ (sym c.in-Pass.is ∙ c.check.ensures) in
+    passed _ _ (sym c.in-Pass.is ∙ c.check.ensures) in
     registers_done _ _ _ ok _ (c.page_count-pages.ensures ∙ ap pages_for c.count_runs.ensures) _ c.if-len-out.false c.put_lines.ensures

@@ -1,8 +1,6 @@
 -- The first m words of `other` stand from n on and the rest stays. Loop: the first j of them do, all others are as they were.
 use Rattle.shape.proofs.Sizes.{copied_none, copied_next, copied_to}
-use Rattle.shape.specs.Kernels.{Copied}
 use native.Mathlib.Omega.{arith}
-use Prim.Native.Nat.{◌-◌, ◌≤◌}
 use Rattle.shape.proofs.copy_words.Goals as goal
 
 pub loop-j-init : goal.loop-j-init

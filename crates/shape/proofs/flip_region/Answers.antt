@@ -2,7 +2,6 @@
 use Rattle.shape.proofs.Flips.{flips_region}
 use lib.ListN.{length-set}
 use native.Mathlib.Omega.{arith}
-use borrow.Author.Rules.{rules}
 use Rattle.shape.proofs.flip_region.Goals as goal
 
 pub slice_bounds-invert_words-end : goal.slice_bounds-invert_words-end

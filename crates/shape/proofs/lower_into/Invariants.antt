@@ -1,12 +1,6 @@
 -- The first m words of the tail are the bits from `at` on, and the rest stays. Loop: the first j are, from j on they are as they were.
-use Rattle.shape.proofs.Splits.{lowered_none, lowered-next, lowered_to}
 use Rattle.shape.specs.Kernels.{Lowered}
-use Rattle.word.specs.Words.{funneled}
-use lib.ListN.{get_or}
-use borrow.Author.Rules.{rules}
-use native.Mathlib.Omega.{arith}
-use Prim.Native.Nat.{ℕ, ◌+◌, ◌-◌, ◌/◌, ◌%◌, ◌≤◌}
-use mathlib.Core.Path.{ap, ◌∙◌}
+use Prim.Native.Nat.{◌-◌, ◌≤◌}
 use Rattle.shape.proofs.lower_into.Given as goal
 
 abbrev pub invariant-loop-j : goal.invariant-loop-j

@@ -7,7 +7,6 @@ use lib.Seq.{length-take-le}
 use native.Mathlib.Omega.{arith}
 use Rattle.word.proofs.Lists.{Fit}
 use mathlib.Core.Path.{refl, sym, ◌∙◌}
-use borrow.Author.Rules.{rules}
 use Rattle.shape.proofs.resize_bits.Goals as goal
 
 pub returns-in-Stop : goal.returns-in-Stop
@@ -16,35 +15,35 @@ returns-in-Stop c = changes_stopped _ _ _ _ (sym c.in-Stop.is ∙ c.check.ensure
 pub returns-then-need-words : goal.returns-then-need-words
 returns-then-need-words c =
     let fit : Fit c.args.words.now =
-      λ k. omega (arith, c.slice_known-1.given k) in
+    λ k. omega (arith, c.slice_known-1.given k) in
     let ok : Passed c.args.words.now c.args.b =
-      passed _ _ (sym c.in-Pass.is ∙ c.check.ensures) in
+    passed _ _ (sym c.in-Pass.is ∙ c.check.ensures) in
     resize_refused _ _ _ fit ok c.if-need-words.true
 
 pub slice_bounds-fill_region-end : goal.slice_bounds-fill_region-end
 slice_bounds-fill_region-end c =
     let ok : Passed c.args.words.now c.args.b =
-      passed _ _ (sym c.in-Pass.is ∙ c.check.ensures) in
+    passed _ _ (sym c.in-Pass.is ∙ c.check.ensures) in
     omega (arith, ok)
 
 pub slice_bounds-fill_region-end-2 : goal.slice_bounds-fill_region-end-2
 slice_bounds-fill_region-end-2 c =
     let ok : Passed c.args.words.now c.args.b =
-      passed _ _ (sym c.in-Pass.is ∙ c.check.ensures) in
+    passed _ _ (sym c.in-Pass.is ∙ c.check.ensures) in
     sym (length-take-le _ _ (omega (arith, ok)))
 
 pub overflow_mul-m : goal.overflow_mul-m
 overflow_mul-m c =
     let ok : Passed c.args.words.now c.args.b =
-      passed _ _ (sym c.in-Pass.is ∙ c.check.ensures) in
+    passed _ _ (sym c.in-Pass.is ∙ c.check.ensures) in
     omega (arith, ok.inside, ok.short)
 
 pub returns : goal.returns
 returns c =
     let fit : Fit c.args.words.now =
-      λ k. omega (arith, c.slice_known-1.given k) in
+    λ k. omega (arith, c.slice_known-1.given k) in
     let ok : Passed c.args.words.now c.args.b =
-      passed _ _ (sym c.in-Pass.is ∙ c.check.ensures) in
+    passed _ _ (sym c.in-Pass.is ∙ c.check.ensures) in
     resize_changes _ _ _ fit
     ok _ _ _ _ refl
     c.if-need-words.false

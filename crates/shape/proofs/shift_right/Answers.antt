@@ -7,7 +7,6 @@ use lib.Seq.{length-take-le}
 use native.Mathlib.Omega.{arith}
 use Rattle.word.proofs.Lists.{Fit}
 use mathlib.Core.Path.{sym, ◌∙◌}
-use borrow.Author.Rules.{rules}
 use Rattle.shape.proofs.shift_right.Goals as goal
 
 pub returns-in-Stop : goal.returns-in-Stop
@@ -16,32 +15,32 @@ returns-in-Stop c = changes_stopped _ _ _ _ (sym c.in-Stop.is ∙ c.check.ensure
 pub slice_bounds-right_words-end : goal.slice_bounds-right_words-end
 slice_bounds-right_words-end c =
     let ok : Passed c.args.words.now c.args.b =
-      passed _ _ (sym c.in-Pass.is ∙ c.check.ensures) in
+    passed _ _ (sym c.in-Pass.is ∙ c.check.ensures) in
     ok.inside
 
 pub slice_bounds-right_words-end-2 : goal.slice_bounds-right_words-end-2
 slice_bounds-right_words-end-2 c =
     let ok : Passed c.args.words.now c.args.b =
-      passed _ _ (sym c.in-Pass.is ∙ c.check.ensures) in
+    passed _ _ (sym c.in-Pass.is ∙ c.check.ensures) in
     sym (length-take-le _ _ ok.inside)
 
 pub slice_bounds-nonzero_len-end : goal.slice_bounds-nonzero_len-end
 slice_bounds-nonzero_len-end c =
     let ok : Passed c.args.words.now c.args.b =
-      passed _ _ (sym c.in-Pass.is ∙ c.check.ensures) in
+    passed _ _ (sym c.in-Pass.is ∙ c.check.ensures) in
     omega (arith, ok)
 
 pub slice_bounds-nonzero_len-end-2 : goal.slice_bounds-nonzero_len-end-2
 slice_bounds-nonzero_len-end-2 c =
     let ok : Passed c.args.words.now c.args.b =
-      passed _ _ (sym c.in-Pass.is ∙ c.check.ensures) in
+    passed _ _ (sym c.in-Pass.is ∙ c.check.ensures) in
     sym (length-take-le _ _ (omega (arith, ok)))
 
 pub returns : goal.returns
 returns c =
     let fit : Fit c.args.words.now =
-      λ k. omega (arith, c.slice_known-1.given k) in
+    λ k. omega (arith, c.slice_known-1.given k) in
     let ok : Passed c.args.words.now c.args.b =
-      passed _ _ (sym c.in-Pass.is ∙ c.check.ensures) in
+    passed _ _ (sym c.in-Pass.is ∙ c.check.ensures) in
     right_changes _ _ _ fit
     ok _ _ c.right_words.ensures c.nonzero_len.ensures

@@ -7,15 +7,14 @@ use Rattle.storage.specs.Stores.{held}
 use Rattle.storage.specs.Guards.{Passed}
 use Rattle.shapes.specs.Shapes.{top_of}
 use mathlib.Core.Path.{◌≡◌, sym, ◌∙◌}
-use borrow.Author.Rules.{rules}
 use Rattle.shape.proofs.tail_len.Goals as goal
 
 pub returns-then-p-at : goal.returns-then-p-at
 returns-then-p-at c =
     let ok : Passed c.args.words.now c.args.b =
-      (last-at _ _ _ (sym c.in-At.is ∙ c.last_set.ensures)).0 in
+    (last-at _ _ _ (sym c.in-At.is ∙ c.last_set.ensures)).0 in
     let top : top_of (held c.args.words.now c.args.b) ≡ suc c.in-At.p =
-      (last-at _ _ _ (sym c.in-At.is ∙ c.last_set.ensures)).1 in
+    (last-at _ _ _ (sym c.in-At.is ∙ c.last_set.ensures)).1 in
     tail_is _ _ _ _ ok (tail_none _ _ _ top (omega arith))
 
 pub returns-in-Refused : goal.returns-in-Refused
@@ -27,7 +26,7 @@ returns-in-Nothing c = let q = last-nothing _ _ (sym c.in-Nothing.is ∙ c.last_
 pub returns-else-p-at : goal.returns-else-p-at
 returns-else-p-at c =
     let ok : Passed c.args.words.now c.args.b =
-      (last-at _ _ _ (sym c.in-At.is ∙ c.last_set.ensures)).0 in
+    (last-at _ _ _ (sym c.in-At.is ∙ c.last_set.ensures)).0 in
     let top : top_of (held c.args.words.now c.args.b) ≡ suc c.in-At.p =
-      (last-at _ _ _ (sym c.in-At.is ∙ c.last_set.ensures)).1 in
+    (last-at _ _ _ (sym c.in-At.is ∙ c.last_set.ensures)).1 in
     tail_is _ _ _ _ ok (tail_some _ _ _ top (omega arith))

@@ -1,6 +1,5 @@
 -- Whether a style is allowed: false past the first number's limit and for another joiner, else by the shortest run.
 use mathlib.Core.Path.{sym, ◌∙◌}
-use borrow.Author.Rules.{rules}
 use borrow.Author.Tests.{le-leb, lt-leb}
 use Rattle.style.proofs.is_allowed.Goals as goal
 

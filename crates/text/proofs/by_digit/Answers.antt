@@ -1,5 +1,4 @@
 -- What a digit makes of a token, by the phase: 0, it begins the number; 1, it is one digit more; else the token stops.
-use borrow.Author.Rules.{rules}
 use Rattle.text.proofs.Steps.{by_digit_none, by_digit_open, by_digit-closed}
 use Rattle.text.proofs.by_digit.Goals as goal
 

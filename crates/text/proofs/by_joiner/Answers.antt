@@ -1,6 +1,5 @@
 -- What a joiner makes of a token: a second one stops it, then one after a bad number does, for that number's fault, else that number is the left one.
 use mathlib.Core.Path.{sym, ◌∙◌}
-use borrow.Author.Rules.{rules}
 use Rattle.text.proofs.Steps.{by_joiner_twice, by_joiner_is}
 use Rattle.text.specs.declared.Value.TheVariants.{Of, Bad}
 use Rattle.text.proofs.by_joiner.Goals as goal

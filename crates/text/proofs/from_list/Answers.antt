@@ -1,13 +1,7 @@
 -- The guard, then 15, then 8, then 7 or 16, then 6, then the set of the list: a walk over no words measures, and one over zeroed words sets its ranges.
-use mathlib.Core.Path.{◌≡◌, sym, ◌∙◌}
-use mathlib.Core.Bool.{true}
-use borrow.Author.Rules.{rules}
-use lib.Seq.{length-take-le}
-use Rattle.storage.specs.Guards.{Passed}
+use mathlib.Core.Path.{sym, ◌∙◌}
 use Rattle.storage.proofs.Checks.{passed}
 use Rattle.storage.proofs.Stores.{changes_stopped}
-use Rattle.style.specs.Styles.{allowed}
-use Rattle.text.specs.Lists.{plain}
 use Rattle.text.proofs.Taken.{list-refused_15, list-refused_8, list-refused_as, list-refused_6, list_done}
 use Rattle.text.proofs.from_list.Goals as goal
 

@@ -3,7 +3,6 @@ use mathlib.Core.Path.{sym, ◌∙◌}
 use borrow.Author.Tests.{leb-true}
 use Rattle.word.proofs.Cases.{and-true}
 use Rattle.text.proofs.Steps.{kind-digit, kind-blank, kind_joiner, kind-comma, kind_other}
-use borrow.Author.Rules.{rules}
 use Rattle.text.proofs.kind_of.Goals as goal
 
 pub overflow_sub-result : goal.overflow_sub-result

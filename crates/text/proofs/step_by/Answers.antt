@@ -1,6 +1,5 @@
 -- What the next byte makes of a token, by its kind: a digit, a blank, which ends an open number, a joiner, the comma, which ends it, or a stop.
 use mathlib.Core.Path.{refl, sym, ap, ◌∙◌}
-use borrow.Author.Rules.{rules}
 use Rattle.text.specs.Readings.{by_kind}
 use Rattle.text.specs.Kernels.{part_of}
 use Rattle.text.proofs.Steps.{step-at, number_open, blank_keeps}

@@ -3,9 +3,7 @@ use mathlib.Core.Path.{sym, ◌∙◌}
 use borrow.Author.Tests.{le-leb, lt-leb}
 use Rattle.text.proofs.Steps.{token-at, token_bad, token-empty, chosen, other}
 use Rattle.text.proofs.Steps.{left_none, left_some}
-use Rattle.text.specs.Readings.{empty}
 use Rattle.text.specs.Kernels.{part_of}
-use borrow.Author.Rules.{rules}
 use Rattle.text.proofs.token_of.Goals as goal
 
 pub returns-then-empty : goal.returns-then-empty

@@ -1,15 +1,10 @@
 -- The text is measured, its good tokens' ranges are set. Outer loop: those before `at` are, `top` is their largest. Inner loop: `part` is the token as far as it is read.
 use Rattle.text.specs.Kernels.{part_of, step_of}
-use mathlib.Core.Path.{◌≡◌, refl, sym, ap, ◌∙◌, subst}
+use mathlib.Core.Path.{refl, sym, ap, ◌∙◌, subst}
 use Rattle.text.proofs.Steps.{token_limit}
-use mathlib.Core.Bool.{false}
-use mathlib.Core.List.{List, []}
+use mathlib.Core.List.{[]}
 use native.Mathlib.Omega.{arith}
-use Prim.Native.Nat.{◌-◌}
-use lib.ListN.{length}
-use borrow.Author.Rules.{rules}
-use Rattle.text.specs.Lists.{Range}
-use Rattle.text.proofs.Tokens.{Inside, inside_start, inside_go, inside_stop, Ended, ended-left, ended-comma, TokensTo, going_start, stops, none_at, empty_first, empty_inner, empty-last}
+use Rattle.text.proofs.Tokens.{Inside, inside_start, inside_go, inside_stop, Ended, ended-left, ended-comma, going_start, stops, none_at, empty_first, empty_inner, empty-last}
 use Rattle.text.proofs.Tokens.{range_last, range-more, range_less, going_length, more-length}
 use Rattle.text.proofs.walk.Goals.{else-digits-test, then-digits-test+in-Ends}
 use Rattle.text.proofs.walk.Goals as goal
@@ -37,11 +32,11 @@ pub returns-then-not-more : goal.returns-then-not-more
 returns-then-not-more c =
     -- how the inner loop was left
     let e : Ended c.args.style c.args.text.now c.tokens.at (part_of c.digits.part) c.digits-test.at c.digits-test.more =
-      elim c.digits-test.branch [
-        else-digits-test w ↦ ended-left _ _ _ _ _ _ c.digits.invariant.0 w.digits-test.false (w.more-is ∙ c.digits.invariant.1) _
-        | then-digits-test+in-Ends w ↦
+    elim c.digits-test.branch [
+      | else-digits-test w ↦ ended-left _ _ _ _ _ _ c.digits.invariant.0 w.digits-test.false (w.more-is ∙ c.digits.invariant.1) _
+      | then-digits-test+in-Ends w ↦
           ended-comma _ _ _ _ _ _ _ c.digits.invariant.0 w.digits-test.true w.kind_of.ensures w.step_by-s.ensures (ap step_of w.in-Ends.is) _ _ w.at-is w.more-is
-      ] in
+    ] in
     empty-last _ _ _ _ _ _ _ _ c.tokens.invariant.1 _ _ _ e _
     c.token_of.ensures c.in-Empty.is c.if-any.true c.if-not-more.true
 
@@ -49,11 +44,11 @@ pub shape_of-words-then-not-more-2 : goal.shape_of-words-then-not-more-2
 shape_of-words-then-not-more-2 c =
     -- how the inner loop was left
     let e : Ended c.args.style c.args.text.now c.tokens.at (part_of c.digits.part) c.digits-test.at c.digits-test.more =
-      elim c.digits-test.branch [
-        else-digits-test w ↦ ended-left _ _ _ _ _ _ c.digits.invariant.0 w.digits-test.false (w.more-is ∙ c.digits.invariant.1) _
-        | then-digits-test+in-Ends w ↦
+    elim c.digits-test.branch [
+      | else-digits-test w ↦ ended-left _ _ _ _ _ _ c.digits.invariant.0 w.digits-test.false (w.more-is ∙ c.digits.invariant.1) _
+      | then-digits-test+in-Ends w ↦
           ended-comma _ _ _ _ _ _ _ c.digits.invariant.0 w.digits-test.true w.kind_of.ensures w.step_by-s.ensures (ap step_of w.in-Ends.is) _ _ w.at-is w.more-is
-      ] in
+    ] in
     more-length _ _ _ _ _ _ _ _ c.tokens.invariant.1 _ _ _
     e _
     c.token_of.ensures _ _ c.in-Range.is _
@@ -63,11 +58,11 @@ pub returns-then-not-more-2 : goal.returns-then-not-more-2
 returns-then-not-more-2 c =
     -- how the inner loop was left
     let e : Ended c.args.style c.args.text.now c.tokens.at (part_of c.digits.part) c.digits-test.at c.digits-test.more =
-      elim c.digits-test.branch [
-        else-digits-test w ↦ ended-left _ _ _ _ _ _ c.digits.invariant.0 w.digits-test.false (w.more-is ∙ c.digits.invariant.1) _
-        | then-digits-test+in-Ends w ↦
+    elim c.digits-test.branch [
+      | else-digits-test w ↦ ended-left _ _ _ _ _ _ c.digits.invariant.0 w.digits-test.false (w.more-is ∙ c.digits.invariant.1) _
+      | then-digits-test+in-Ends w ↦
           ended-comma _ _ _ _ _ _ _ c.digits.invariant.0 w.digits-test.true w.kind_of.ensures w.step_by-s.ensures (ap step_of w.in-Ends.is) _ _ w.at-is w.more-is
-      ] in
+    ] in
     range_last _ _ _ _ _ _ _ _ c.tokens.invariant.1 _ _ _
     e _
     c.token_of.ensures _ _ c.in-Range.is _
@@ -77,11 +72,11 @@ pub tokens-smaller : goal.tokens-smaller
 tokens-smaller c =
     -- how the inner loop was left
     let e : Ended c.args.style c.args.text.now c.tokens.at (part_of c.digits.part) c.digits-test.at c.digits-test.more =
-      elim c.digits-test.branch [
-        else-digits-test w ↦ ended-left _ _ _ _ _ _ c.digits.invariant.0 w.digits-test.false (w.more-is ∙ c.digits.invariant.1) _
-        | then-digits-test+in-Ends w ↦
+    elim c.digits-test.branch [
+      | else-digits-test w ↦ ended-left _ _ _ _ _ _ c.digits.invariant.0 w.digits-test.false (w.more-is ∙ c.digits.invariant.1) _
+      | then-digits-test+in-Ends w ↦
           ended-comma _ _ _ _ _ _ _ c.digits.invariant.0 w.digits-test.true w.kind_of.ensures w.step_by-s.ensures (ap step_of w.in-Ends.is) _ _ w.at-is w.more-is
-      ] in
+    ] in
     range_less _ _ _ _ _ _ _ _ c.tokens.invariant.1 _ _ _
     e _
     c.token_of.ensures _ _ c.in-Range.is _
@@ -91,18 +86,17 @@ pub tokens-preserved : goal.tokens-preserved
 tokens-preserved c =
     -- how the inner loop was left
     let e : Ended c.args.style c.args.text.now c.tokens.at (part_of c.digits.part) c.digits-test.at c.digits-test.more =
-      elim c.digits-test.branch [
-        else-digits-test w ↦ ended-left _ _ _ _ _ _ c.digits.invariant.0 w.digits-test.false (w.more-is ∙ c.digits.invariant.1) _
-        | then-digits-test+in-Ends w ↦
+    elim c.digits-test.branch [
+      | else-digits-test w ↦ ended-left _ _ _ _ _ _ c.digits.invariant.0 w.digits-test.false (w.more-is ∙ c.digits.invariant.1) _
+      | then-digits-test+in-Ends w ↦
           ended-comma _ _ _ _ _ _ _ c.digits.invariant.0 w.digits-test.true w.kind_of.ensures w.step_by-s.ensures (ap step_of w.in-Ends.is) _ _ w.at-is w.more-is
-      ] in
-    (
-  _,
-  range-more _ _ _ _ _ _ _ _ c.tokens.invariant.1 _ _ _
-      e _
-      c.token_of.ensures _ _ c.in-Range.is _
-      c.fill_region.ensures _ c.max-top.ensures c.if-not-more-2.false,
-)
+    ] in (
+      _,
+      range-more _ _ _ _ _ _ _ _ c.tokens.invariant.1 _ _ _
+          e _
+          c.token_of.ensures _ _ c.in-Range.is _
+          c.fill_region.ensures _ c.max-top.ensures c.if-not-more-2.false,
+    )
 
 pub shape_of-words-in-Stop : goal.shape_of-words-in-Stop
 shape_of-words-in-Stop c = going_length _ _ _ _ _ _ _ _ c.tokens.invariant.1
@@ -120,11 +114,11 @@ pub returns-else-not-more : goal.returns-else-not-more
 returns-else-not-more c =
     -- how the inner loop was left
     let e : Ended c.args.style c.args.text.now c.tokens.at (part_of c.digits.part) c.digits-test.at c.digits-test.more =
-      elim c.digits-test.branch [
-        else-digits-test w ↦ ended-left _ _ _ _ _ _ c.digits.invariant.0 w.digits-test.false (w.more-is ∙ c.digits.invariant.1) _
-        | then-digits-test+in-Ends w ↦
+    elim c.digits-test.branch [
+      | else-digits-test w ↦ ended-left _ _ _ _ _ _ c.digits.invariant.0 w.digits-test.false (w.more-is ∙ c.digits.invariant.1) _
+      | then-digits-test+in-Ends w ↦
           ended-comma _ _ _ _ _ _ _ c.digits.invariant.0 w.digits-test.true w.kind_of.ensures w.step_by-s.ensures (ap step_of w.in-Ends.is) _ _ w.at-is w.more-is
-      ] in
+    ] in
     empty_inner _ _ _ _ _ _ _ _ c.tokens.invariant.1 _ _ _ e _
     c.token_of.ensures c.in-Empty.is c.if-not-more.false
 
@@ -135,11 +129,11 @@ pub returns-else-any : goal.returns-else-any
 returns-else-any c =
     -- how the inner loop was left
     let e : Ended c.args.style c.args.text.now c.tokens.at (part_of c.digits.part) c.digits-test.at c.digits-test.more =
-      elim c.digits-test.branch [
-        else-digits-test w ↦ ended-left _ _ _ _ _ _ c.digits.invariant.0 w.digits-test.false (w.more-is ∙ c.digits.invariant.1) _
-        | then-digits-test+in-Ends w ↦
+    elim c.digits-test.branch [
+      | else-digits-test w ↦ ended-left _ _ _ _ _ _ c.digits.invariant.0 w.digits-test.false (w.more-is ∙ c.digits.invariant.1) _
+      | then-digits-test+in-Ends w ↦
           ended-comma _ _ _ _ _ _ _ c.digits.invariant.0 w.digits-test.true w.kind_of.ensures w.step_by-s.ensures (ap step_of w.in-Ends.is) _ _ w.at-is w.more-is
-      ] in
+    ] in
     empty_first _ _ _ _ _ _ _ _ c.tokens.invariant.1 _ _ _ e _
     c.token_of.ensures c.in-Empty.is c.if-any.false
 
@@ -150,10 +144,10 @@ pub returns-in-NoRange : goal.returns-in-NoRange
 returns-in-NoRange c =
     -- how the inner loop was left
     let e : Ended c.args.style c.args.text.now c.tokens.at (part_of c.digits.part) c.digits-test.at c.digits-test.more =
-      elim c.digits-test.branch [
-        else-digits-test w ↦ ended-left _ _ _ _ _ _ c.digits.invariant.0 w.digits-test.false (w.more-is ∙ c.digits.invariant.1) _
-        | then-digits-test+in-Ends w ↦
+    elim c.digits-test.branch [
+      | else-digits-test w ↦ ended-left _ _ _ _ _ _ c.digits.invariant.0 w.digits-test.false (w.more-is ∙ c.digits.invariant.1) _
+      | then-digits-test+in-Ends w ↦
           ended-comma _ _ _ _ _ _ _ c.digits.invariant.0 w.digits-test.true w.kind_of.ensures w.step_by-s.ensures (ap step_of w.in-Ends.is) _ _ w.at-is w.more-is
-      ] in
+    ] in
     none_at _ _ _ _ _ _ _ _ c.tokens.invariant.1 _ _ _ e _
     c.token_of.ensures _ c.in-NoRange.is

@@ -1,18 +1,12 @@
 -- The text is measured, its good tokens' ranges are set. Outer loop: those before `at` are, `top` is their largest. Inner loop: `part` is the token as far as it is read.
-use Rattle.text.specs.Kernels.{part_of, step_of}
-use mathlib.Core.Logic.{⊎_elim}
-use borrow.Author.Tests.{not-true, not-false}
-use mathlib.Core.Path.{◌≡◌, refl, sym, ap, ◌∙◌, subst}
-use Rattle.text.proofs.Steps.{token_limit}
+use Rattle.text.specs.Kernels.{part_of}
+use mathlib.Core.Path.{◌≡◌}
 use mathlib.Core.Bool.{false}
-use mathlib.Core.List.{List, []}
-use native.Mathlib.Omega.{arith}
+use mathlib.Core.List.{List}
 use Prim.Native.Nat.{◌-◌}
 use lib.ListN.{length}
-use borrow.Author.Rules.{rules}
 use Rattle.text.specs.Lists.{Range}
-use Rattle.text.proofs.Tokens.{Inside, inside_start, inside_go, inside_stop, Ended, ended-left, ended-comma, TokensTo, going_start, stops, none_at, empty_first, empty_inner, empty-last}
-use Rattle.text.proofs.Tokens.{range_last, range-more, range_less, going_length, more-length}
+use Rattle.text.proofs.Tokens.{Inside, TokensTo}
 use Rattle.text.proofs.walk.Given as goal
 
 abbrev pub invariant-digits : goal.invariant-digits

@@ -1,6 +1,5 @@
 -- From the shorter slice's end on, below m, the words become the longer one's: the rest of the left slice, then the rest of the right.
 use native.Mathlib.Omega.{arith}
-use borrow.Author.Rules.{rules}
 use Rattle.combine.proofs.Writes.{tail_put}
 use Rattle.combine.proofs.kernels.copy_tail.Goals as goal
 

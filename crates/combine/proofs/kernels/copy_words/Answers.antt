@@ -1,8 +1,6 @@
 -- The words from a on, below e, become those of `from`. Loop: below k they are, from k on they are as they were.
 use mathlib.Core.Path.{refl}
-use Prim.Native.Nat.{◌-◌, ◌≤◌, max}
-use lib.ListN.{get_or}
-use Rattle.word.proofs.Sweep.{sweep_up, Swept, sweep_none}
+use Rattle.word.proofs.Sweep.{sweep_up, sweep_none}
 use Rattle.storage.proofs.Combined.{swept_put}
 use native.Mathlib.Omega.{arith}
 use Rattle.combine.proofs.kernels.copy_words.Goals as goal

@@ -1,11 +1,7 @@
 -- The first e words become the operation's of both slices. Loop: below k they are, from k on they are as they were.
 use mathlib.Core.Path.{sym, ◌∙◌}
-use Prim.Native.Nat.{◌-◌, ◌≤◌}
 use native.Mathlib.Omega.{arith}
-use borrow.Author.Rules.{rules}
-use lib.ListN.{get_or}
-use Rattle.word.proofs.Sweep.{sweep_up, Swept, sweep_none}
-use Rattle.pairs.specs.Pairs.{words_by}
+use Rattle.word.proofs.Sweep.{sweep_up, sweep_none}
 use Rattle.pairs.proofs.Tables.{by_at}
 use Rattle.storage.proofs.Combined.{swept_put}
 use Rattle.combine.proofs.kernels.zip_words.Goals as goal

@@ -1,10 +1,8 @@
 -- Whether every byte is below 128. Loop: the text is plain exactly where its bytes from i on are.
-use mathlib.Core.Path.{◌≡◌, refl}
-use native.Mathlib.Omega.{arith}
+use mathlib.Core.Path.{◌≡◌}
 use Prim.Native.Nat.{◌≤◌, ◌-◌}
 use lib.ListN.{length, drop}
 use Rattle.text.specs.Lists.{plain}
-use Rattle.text.proofs.Steps.{plain_go, plain_no, plain_end}
 use Rattle.text.proofs.bytes.is_plain.Given as goal
 
 abbrev pub invariant-loop-i : goal.invariant-loop-i
