@@ -8,21 +8,13 @@ use Rattle.storage.specs.Refusals.{last_number, number_of}
 use Rattle.storage.specs.declared.Refusal.{Refusal}
 use Rattle.storage.proofs.Promises.{each_number_once}
 use Rattle.storage.specs.declared.Change.{Change}
-use Rattle.storage.specs.declared.Change.TheVariants.{Done, Refused}
 use Rattle.shapes.specs.declared.Split.{Split}
-use Rattle.shapes.specs.declared.Split.TheVariants.{Done, Refused}
 use Rattle.storage.specs.declared.Found.{Found}
-use Rattle.storage.specs.declared.Found.TheVariants.{At, Nothing, Refused}
 use Rattle.storage.specs.declared.Amount.{Amount}
-use Rattle.storage.specs.declared.Amount.TheVariants.{Is, Refused}
 use Rattle.storage.specs.declared.Field.{Field}
-use Rattle.storage.specs.declared.Field.TheVariants.{Is, Refused}
 use Rattle.storage.specs.declared.Truth.{Truth}
-use Rattle.storage.specs.declared.Truth.TheVariants.{Is, Refused}
 use Rattle.sheet.specs.declared.Reading.{Reading}
-use Rattle.sheet.specs.declared.Reading.TheVariants.{Done, Refused}
 use Rattle.sheet.specs.declared.Added.{Added}
-use Rattle.sheet.specs.declared.Added.TheVariants.{Done, Refused}
 use Rattle.told.specs.declared.Told.{Told}
 use Rattle.told.specs.Tellings.{found_told}
 use Rattle.answers.specs.Answers.{ChangeOut, SplitOut, FoundOut, ValueOut, AmountOut, FieldOut, TruthOut, ReadingOut, AddedOut}

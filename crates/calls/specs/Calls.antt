@@ -3,7 +3,6 @@
 use Rattle.std.specs.Prelude.{ℕ, ◌≡◌, Bool, not, List, eqb}
 use Rattle.storage.specs.Stores.{Op, reading, answer, store, outcome, bitmap_of}
 use Rattle.storage.specs.declared.Amount.{Amount}
-use Rattle.storage.specs.declared.Amount.TheVariants.{Refused}
 use Rattle.shapes.specs.Shapes.{head_outcome, tail_outcome, split_answer}
 use Rattle.style.specs.declared.Style.{Style}
 use Rattle.print.specs.Texts.{list_answer, list_buffer}

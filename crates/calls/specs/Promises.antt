@@ -4,13 +4,9 @@ use Rattle.storage.specs.Refusals.{found_number, found_flag, found_value, amount
 use Rattle.storage.specs.Stores.{Bits, Bounded, Space, Op, view, beside, reading, reading_both, bitmap_of}
 use Rattle.storage.specs.Promises.{Guarded, GuardedBoth, HandsNone, FindsNone, Meets, Kept, EndsAs, CallEnds, BesideEnds}
 use Rattle.storage.specs.declared.Found.{Found}
-use Rattle.storage.specs.declared.Found.TheVariants.{Refused}
 use Rattle.storage.specs.declared.Amount.{Amount}
-use Rattle.storage.specs.declared.Amount.TheVariants.{Refused}
 use Rattle.storage.specs.declared.Field.{Field}
-use Rattle.storage.specs.declared.Field.TheVariants.{Refused}
 use Rattle.storage.specs.declared.Truth.{Truth}
-use Rattle.storage.specs.declared.Truth.TheVariants.{Refused}
 use Rattle.combine.specs.Combine.{beside_both}
 use Rattle.shapes.specs.Promises.{SplitMeans}
 use Rattle.style.specs.declared.Style.{Style}

@@ -25,13 +25,9 @@ use Rattle.editions.specs.Reader as sheets
 use Rattle.sheet.specs.Reads.{step, edition_of, course}
 use Rattle.storage.specs.declared.Bitmap.{Bitmap}
 use Rattle.storage.specs.declared.Amount.{Amount}
-use Rattle.storage.specs.declared.Amount.TheVariants.{Is, Refused}
 use Rattle.storage.specs.declared.Field.{Field}
-use Rattle.storage.specs.declared.Field.TheVariants.{Refused}
 use Rattle.storage.specs.declared.Found.{Found}
-use Rattle.storage.specs.declared.Found.TheVariants.{Refused}
 use Rattle.storage.specs.declared.Truth.{Truth}
-use Rattle.storage.specs.declared.Truth.TheVariants.{Is, Refused}
 use Rattle.print.specs.Texts.{list_answer, list_buffer}
 use Rattle.register.specs.Register.{column, ended, line, pages_for, foot_of, line_of, lines_of, register_answer, register_buffer}
 use Rattle.register.specs.Register as register

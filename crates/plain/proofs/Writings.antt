@@ -19,7 +19,6 @@ use Rattle.storage.specs.declared.Refusal.{Refusal}
 use Rattle.storage.specs.declared.Refusal.TheVariants.{CountOverStore, NoSpace}
 use Rattle.editions.specs.Frames.{count_in, sheet_fault}
 use Rattle.editions.specs.Reader.{Turn, done, read}
-use Rattle.sheet.specs.Bytes.{bytes}
 use Rattle.editions.specs.Meaning.{total}
 use Rattle.sheet.specs.Reads.{edition_of, latest, fitting, Course, went, course, read_answer, read_store, reading_number, reading_record, reading_count}
 use Rattle.plain.specs.Writer.{most, Request, duty, remark, Entry, edit, note, Checked, bad, good, checked_of, bytes_of, added_number, added_length}

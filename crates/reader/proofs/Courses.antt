@@ -15,7 +15,7 @@ use Rattle.storage.specs.declared.Refusal.{Refusal}
 use Rattle.storage.specs.declared.Refusal.TheVariants.{NoEdition}
 use Rattle.storage.specs.declared.Guard.TheVariants.{Pass, Stop}
 use Rattle.storage.proofs.Checks.{checked_ok, stopped_two}
-use Rattle.editions.specs.Reader.{Answer, refused, done, read}
+use Rattle.editions.specs.Reader.{Answer, refused, read}
 use Rattle.sheet.specs.Reads.{edition_of, latest, fitting, Course, stopped, went, is_edition, course, read_answer, read_store, Reads}
 use Rattle.sheet.specs.declared.Reading.{Reading}
 use Rattle.sheet.specs.declared.Reading.TheVariants.{Done, Refused}

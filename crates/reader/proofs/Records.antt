@@ -11,18 +11,17 @@ use borrow.Author.Tests.{le-leb, lt-leb, lt-ltb, le-ltb}
 use Rattle.word.specs.Sets.{choose}
 use Rattle.word.proofs.Cases.{zero_one}
 use Rattle.word.proofs.Lists.{Fit}
-use Rattle.storage.specs.Stores.{Bits, refused, done, with_count, view, written, answer, store, Leaves, bitmap_of}
+use Rattle.storage.specs.Stores.{Bits, refused, with_count, view, written, answer, store, Leaves, bitmap_of}
 use Rattle.storage.specs.declared.Bitmap.{Bitmap}
 use Rattle.storage.specs.declared.Refusal.{Refusal}
 use Rattle.storage.specs.declared.Refusal.TheVariants.{CutRecord, BytesRemain}
 use Rattle.storage.specs.declared.Change.{Change}
-use Rattle.storage.specs.declared.Change.TheVariants.{Done, Refused}
 use Rattle.storage.proofs.Checks.{passed_as}
 use Rattle.storage.proofs.Views.{view-count, bounded_view}
 use Rattle.storage.proofs.Stores.{view-written, length-written}
 use Rattle.sheet.specs.Kinds.{size_in, rule_of}
 use Rattle.editions.specs.Frames.{Item, end_at, item_at}
-use Rattle.editions.specs.Reader.{Edition, Turn, stop, next, Answer, refused, done, asking, taken, act, then, records}
+use Rattle.editions.specs.Reader.{Edition, Turn, stop, next, Answer, refused, asking, taken, act, then, records}
 use Rattle.sheet.specs.Reads.{edition_of, went, read_answer}
 use Rattle.sheet.specs.declared.Edit.{Edit}
 use Rattle.sheet.specs.declared.Reading.TheVariants as reading

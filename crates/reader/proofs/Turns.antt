@@ -12,7 +12,7 @@ use Rattle.storage.specs.Stores.{Bits, Outcome, refused, done, space_of, view, h
 use Rattle.storage.specs.declared.Bitmap.{Bitmap}
 use Rattle.storage.specs.declared.Refusal.{Refusal}
 use Rattle.storage.specs.declared.Change.{Change}
-use Rattle.storage.specs.declared.Change.TheVariants.{Done, Refused}
+use Rattle.storage.specs.declared.Change.TheVariants.{Done}
 use Rattle.storage.proofs.Stores.{leaves_refused, outcome_ok, written-view}
 use Rattle.sheet.specs.Kinds.{size_in, rule_of}
 use Rattle.editions.specs.Frames.{Item, size_at, end_at, item_at}
@@ -20,7 +20,7 @@ use Rattle.editions.specs.Reader.{Turn, stop, next, asking, taken}
 use Rattle.sheet.specs.Reads.{step, turn_of, edition_of}
 use Rattle.sheet.specs.declared.Edit.{Edit}
 use Rattle.decode.specs.declared.Asked.{Asked}
-use Rattle.decode.specs.declared.Asked.TheVariants.{For, Refused}
+use Rattle.decode.specs.declared.Asked.TheVariants.{For}
 use Rattle.decode.specs.Asks.{asked_by, asked_for}
 use Rattle.reader.specs.Kernels.{Padded, outcome_of, duty_item, turned}
 

@@ -1,10 +1,10 @@
 -- What serves contracts of the reader's private functions.
 use Rattle.std.specs.Prelude.{ℕ, ◌≤◌, ◌≡◌, true, List, length, get_or}
-use Rattle.storage.specs.Stores.{Bits, Outcome, refused, done, Space, written}
+use Rattle.storage.specs.Stores.{Bits, Outcome, refused, Space, written}
 use Rattle.storage.specs.Guards.{Passed}
 use Rattle.storage.specs.declared.Bitmap.{Bitmap}
 use Rattle.editions.specs.Frames.{Item}
-use Rattle.editions.specs.Reader.{Turn, stop, next, Answer, done, act}
+use Rattle.editions.specs.Reader.{Turn, stop, next, Answer, act}
 use Rattle.sheet.specs.Reads.{edition_of, went, read_answer}
 use Rattle.sheet.specs.declared.Reading.{Reading}
 

@@ -4,21 +4,13 @@ use Rattle.storage.specs.Refusals.{number_of}
 use Rattle.storage.specs.declared.Bitmap.{Bitmap}
 use Rattle.storage.specs.declared.Refusal.{Refusal}
 use Rattle.storage.specs.declared.Change.{Change}
-use Rattle.storage.specs.declared.Change.TheVariants.{Done, Refused}
 use Rattle.storage.specs.declared.Found.{Found}
-use Rattle.storage.specs.declared.Found.TheVariants.{At, Nothing, Refused}
 use Rattle.storage.specs.declared.Amount.{Amount}
-use Rattle.storage.specs.declared.Amount.TheVariants.{Is, Refused}
 use Rattle.storage.specs.declared.Field.{Field}
-use Rattle.storage.specs.declared.Field.TheVariants.{Is, Refused}
 use Rattle.storage.specs.declared.Truth.{Truth}
-use Rattle.storage.specs.declared.Truth.TheVariants.{Is, Refused}
 use Rattle.storage.specs.declared.Guard.{Guard}
-use Rattle.storage.specs.declared.Guard.TheVariants.{Pass, Stop}
 use Rattle.arch.specs.declared.FoundWord.{FoundWord}
-use Rattle.arch.specs.declared.FoundWord.TheVariants.{At, Nothing}
 use Rattle.shapes.specs.declared.Split.{Split}
-use Rattle.shapes.specs.declared.Split.TheVariants.{Done, Refused}
 use Rattle.told.specs.declared.Told.{Told}
 use Rattle.told.specs.Tellings.{SameNumbers, four, found_told, amount_told, field_told, truth_told, change_told, split_told, word_told, guard_told}
 

@@ -2,20 +2,15 @@
 use Rattle.std.specs.Prelude.{ℕ, ◌≡◌}
 use Rattle.storage.specs.Refusals.{found_number, found_flag, found_value, guard_number, amount_number, amount_value, field_number, field_value, truth_number, truth_value, change_number, change_record}
 use Rattle.storage.specs.declared.Change.{Change}
-use Rattle.storage.specs.declared.Change.TheVariants.{Done, Refused}
 use Rattle.storage.specs.declared.Found.{Found}
 use Rattle.storage.specs.declared.Amount.{Amount}
-use Rattle.storage.specs.declared.Amount.TheVariants.{Is, Refused}
 use Rattle.storage.specs.declared.Field.{Field}
-use Rattle.storage.specs.declared.Field.TheVariants.{Is, Refused}
 use Rattle.storage.specs.declared.Truth.{Truth}
-use Rattle.storage.specs.declared.Truth.TheVariants.{Is, Refused}
 use Rattle.storage.specs.declared.Guard.{Guard}
 use Rattle.arch.specs.Scans.{word_flag, word_index, word_there}
 use Rattle.arch.specs.declared.FoundWord.{FoundWord}
 use Rattle.shapes.specs.Shapes.{split_number, split_head, split_tail}
 use Rattle.shapes.specs.declared.Split.{Split}
-use Rattle.shapes.specs.declared.Split.TheVariants.{Done, Refused}
 use Rattle.told.specs.declared.Told.{Told}
 
 -- r is t, number by number

@@ -1,6 +1,5 @@
 -- A reading's record and count go out: its own where it is done, its record and 0 where it is refused; the number is returned.
 use mathlib.Core.Path.{sym, ap, ◌∙◌}
-use borrow.Author.Rules.{rules}
 use Rattle.sheet.specs.Reads.{reading_number, reading_record, reading_count}
 use Rattle.answers.proofs.reading.Goals as goal
 

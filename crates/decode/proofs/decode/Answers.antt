@@ -2,7 +2,6 @@
 use native.Mathlib.Omega.{arith}
 use Rattle.decode.proofs.Payloads.{just_reverse}
 use Rattle.decode.proofs.Lengths.{of_kind, as_kind, of_place, of_region, of_field, of_turn, of_size, of_reverse, of_pair}
-use borrow.Author.Rules.{rules}
 use Rattle.decode.proofs.decode.Goals as goal
 
 pub place-requires : goal.place-requires

@@ -2,7 +2,6 @@
 use native.Mathlib.Omega.{arith}
 use mathlib.Core.Path.{sym, ◌∙◌}
 use Rattle.decode.proofs.Lengths.{held, asked_newer, asked_long, asked_edit}
-use borrow.Author.Rules.{rules}
 use Rattle.decode.proofs.edit_of.Goals as goal
 
 pub returns-then-payload-n : goal.returns-then-payload-n

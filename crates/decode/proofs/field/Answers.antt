@@ -3,7 +3,6 @@ use mathlib.Core.Path.{sym}
 use lib.Seq.{length-take-le}
 use native.Mathlib.Omega.{arith}
 use Rattle.decode.proofs.Payloads.{rest, field_odd, field-wide, field_good, value-fits}
-use borrow.Author.Rules.{rules}
 use Rattle.decode.proofs.field.Goals as goal
 
 pub slice_bounds-number_of-end : goal.slice_bounds-number_of-end

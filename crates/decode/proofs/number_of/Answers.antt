@@ -1,10 +1,8 @@
 -- The number of at most eight bytes, below 256 to the power of their count. Loop: x is the number of the first i bytes, below 256 to the power i.
-use Prim.Native.Nat.{◌-◌}
 use mathlib.Core.Path.{refl}
 use native.Mathlib.Omega.{arith}
-use lib.ListN.{length, get_or}
-use borrow.Author.Rules.{rules}
-use Rattle.decode.proofs.Numbers.{ReadUpTo, fits_word, read_none, read_more, read_all}
+use lib.ListN.{get_or}
+use Rattle.decode.proofs.Numbers.{fits_word, read_none, read_more, read_all}
 use Rattle.decode.proofs.number_of.Goals as goal
 
 pub loop-i-init : goal.loop-i-init

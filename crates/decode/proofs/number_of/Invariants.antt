@@ -1,10 +1,7 @@
 -- The number of at most eight bytes, below 256 to the power of their count. Loop: x is the number of the first i bytes, below 256 to the power i.
 use Prim.Native.Nat.{◌-◌}
-use mathlib.Core.Path.{refl}
-use native.Mathlib.Omega.{arith}
-use lib.ListN.{length, get_or}
-use borrow.Author.Rules.{rules}
-use Rattle.decode.proofs.Numbers.{ReadUpTo, fits_word, read_none, read_more, read_all}
+use lib.ListN.{length}
+use Rattle.decode.proofs.Numbers.{ReadUpTo}
 use Rattle.decode.proofs.number_of.Given as goal
 
 abbrev pub invariant-loop-i : goal.invariant-loop-i

@@ -1,7 +1,6 @@
 -- What kinds 9, 10 and 11 ask for: p is the high half of eight bytes and k the low one; 9 toggles, 10 opens, 11 closes.
 use native.Mathlib.Omega.{arith}
 use Rattle.decode.proofs.Payloads.{pair-toggle, pair_open, pair_close}
-use borrow.Author.Rules.{rules}
 use Rattle.decode.proofs.pair.Goals as goal
 
 pub returns-then-kind-eq9 : goal.returns-then-kind-eq9

@@ -1,7 +1,6 @@
 -- What kinds 1 and 2 ask for: the four bytes are p, which 1 sets and 2 unsets.
 use native.Mathlib.Omega.{arith}
 use Rattle.decode.proofs.Payloads.{place_set, place-unset}
-use borrow.Author.Rules.{rules}
 use Rattle.decode.proofs.place.Goals as goal
 
 pub returns-then-kind-eq1 : goal.returns-then-kind-eq1

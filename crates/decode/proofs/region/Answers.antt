@@ -3,7 +3,6 @@ use mathlib.Core.Path.{sym}
 use lib.Seq.{length-take-le}
 use native.Mathlib.Omega.{arith}
 use Rattle.decode.proofs.Payloads.{rest, region_bad, region_good}
-use borrow.Author.Rules.{rules}
 use Rattle.decode.proofs.region.Goals as goal
 
 pub slice_bounds-number_of-end : goal.slice_bounds-number_of-end

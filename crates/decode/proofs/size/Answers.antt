@@ -1,7 +1,6 @@
 -- What kind 7 asks for: 12 where an unused bit is set, then 12 for more bits than a resize may have, then the resize.
 use native.Mathlib.Omega.{arith}
 use Rattle.decode.proofs.Payloads.{size_bad, size-over, size_good}
-use borrow.Author.Rules.{rules}
 use Rattle.decode.proofs.size.Goals as goal
 
 pub returns-then-x-ne0 : goal.returns-then-x-ne0

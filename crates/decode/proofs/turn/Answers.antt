@@ -1,7 +1,6 @@
 -- What kinds 5 and 6 ask for: 12 where an unused bit is set, then direction and k, of a shift for 5 and of a rotation for 6.
 use native.Mathlib.Omega.{arith}
 use Rattle.decode.proofs.Payloads.{turn_bad, turn_shift, turn_rotate}
-use borrow.Author.Rules.{rules}
 use Rattle.decode.proofs.turn.Goals as goal
 
 pub returns-then-x-ne0 : goal.returns-then-x-ne0

@@ -2,7 +2,6 @@
 use mathlib.Core.Path.{refl, sym}
 use native.Mathlib.Omega.{arith}
 use Rattle.word.proofs.Lists.{past}
-use borrow.Author.Rules.{rules}
 use Rattle.frames.proofs.byte_at.Goals as goal
 
 pub overflow_cast-result : goal.overflow_cast-result

@@ -1,7 +1,6 @@
 -- Whether there are four bytes, N and S first: false for fewer, then false for another first letter, then by the second.
 use native.Mathlib.Omega.{arith}
 use Rattle.frames.proofs.Heads.{head_short, head_first, head_second}
-use borrow.Author.Rules.{rules}
 use Rattle.frames.proofs.has_head.Goals as goal
 
 pub returns-then-sheet-lt4 : goal.returns-then-sheet-lt4

@@ -1,6 +1,5 @@
 -- Where a record ends: 0 in a sheet under three bytes, then where its first three bytes pass the end, then where its payload does, else the place after it.
 use Prim.Native.Nat.{◌+◌}
-use borrow.Author.Rules.{rules}
 use native.Mathlib.Omega.{arith}
 use Rattle.frames.proofs.Walks.{torn, whole}
 use Rattle.frames.proofs.record_end.Goals as goal

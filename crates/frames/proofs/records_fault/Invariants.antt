@@ -1,7 +1,6 @@
 -- 10 where one of n records is cut, then 11 where bytes remain, else a pass. Loop: after i records, what the others from `at` on come to decides.
-use native.Mathlib.Omega.{arith}
 use Prim.Native.Nat.{◌-◌}
-use Rattle.frames.proofs.Walks.{Walking, begins, goes_on, gets_10, gets_11, gets_none}
+use Rattle.frames.proofs.Walks.{Walking}
 use Rattle.frames.proofs.records_fault.Given as goal
 
 abbrev pub invariant-loop-i : goal.invariant-loop-i

@@ -4,7 +4,6 @@ use mathlib.Core.Bool.{Bool}
 use Rattle.sheet.specs.Reads.{step}
 use Rattle.sheet.specs.declared.Edit.TheVariants.{Shift, Rotate}
 use Rattle.reader.proofs.Turns.{step_of}
-use borrow.Author.Rules.{rules}
 use Rattle.reader.proofs.apply.Goals as goal
 
 pub returns-then-right : goal.returns-then-right

@@ -1,10 +1,6 @@
 -- 10 for a cut record, or what a record gets, then 11, else done. Loop: the store has what i records made, zeros past the count, and the records left decide.
 use Prim.Native.Nat.{◌-◌}
-use mathlib.Core.Path.{◌∙◌}
-use native.Mathlib.Omega.{arith}
-use borrow.Author.Rules.{rules}
-use Rattle.frames.proofs.Walks.{told-whole, told-cut}
-use Rattle.reader.proofs.Records.{ReadingTo, begins, cut, stops, goes_on, remain, finished, came_refused, came_done}
+use Rattle.reader.proofs.Records.{ReadingTo}
 use Rattle.reader.proofs.each_record.Given as goal
 
 abbrev pub invariant-loop-i : goal.invariant-loop-i

@@ -1,10 +1,7 @@
 -- The result store becomes the n old words and zeros past them. Loop: below k the words are the old ones, from k on they are as they were.
-use mathlib.Core.Path.{refl, ◌∙◌}
-use Prim.Native.Nat.{◌-◌, ◌≤◌}
+use mathlib.Core.Path.{refl}
 use native.Mathlib.Omega.{arith}
-use lib.ListN.{get_or}
-use borrow.Author.Rules.{rules}
-use Rattle.word.proofs.Sweep.{Swept, sweep_none, sweep_up}
+use Rattle.word.proofs.Sweep.{sweep_none, sweep_up}
 use Rattle.reader.proofs.Readings.{loaded}
 use Rattle.reader.proofs.load.Goals as goal
 

@@ -1,11 +1,7 @@
 -- The result store becomes the n old words and zeros past them. Loop: below k the words are the old ones, from k on they are as they were.
-use mathlib.Core.Path.{refl, ◌∙◌}
 use Prim.Native.Nat.{◌-◌, ◌≤◌}
-use native.Mathlib.Omega.{arith}
 use lib.ListN.{get_or}
-use borrow.Author.Rules.{rules}
-use Rattle.word.proofs.Sweep.{Swept, sweep_none, sweep_up}
-use Rattle.reader.proofs.Readings.{loaded}
+use Rattle.word.proofs.Sweep.{Swept}
 use Rattle.reader.proofs.load.Given as goal
 
 abbrev pub invariant-loop-k : goal.invariant-loop-k

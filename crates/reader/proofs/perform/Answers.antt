@@ -1,7 +1,6 @@
 -- A duty record is refused as `edit_of` refuses it, or is what its edit's step does.
 use mathlib.Core.Path.{sym, ◌∙◌}
 use Rattle.reader.proofs.Turns.{duty_refused, duty_does}
-use borrow.Author.Rules.{rules}
 use Rattle.reader.proofs.perform.Goals as goal
 
 pub returns-in-Refused : goal.returns-in-Refused

@@ -1,7 +1,6 @@
 -- 14 below edition 1, then over the latest, then the guard of both stores, then what `read_into` comes to; where that is refused the result is all zero.
 use mathlib.Core.Path.{sym, ◌∙◌}
 use native.Mathlib.Omega.{arith}
-use borrow.Author.Rules.{rules}
 use Rattle.storage.specs.Stores.{no_words}
 use Rattle.storage.specs.Guards.{PassedTwo}
 use Rattle.storage.proofs.Checks.{passed_two}
@@ -20,13 +19,13 @@ returns-in-Stop c = guard_stopped _ _ _ _ _ (omega arith) (omega arith) _ (sym c
 pub read_into-requires : goal.read_into-requires
 read_into-requires c =
     let ok : let a = c.args in PassedTwo a.words.now a.b a.res.now no_words =
-      passed_two _ _ _ _ (sym c.in-Pass.is ∙ c.check_two.ensures) in
+    passed_two _ _ _ _ (sym c.in-Pass.is ∙ c.check_two.ensures) in
     let p = ok in (p.own, p.other)
 
 pub returns-in-Done : goal.returns-in-Done
 returns-in-Done c =
     let ok : let a = c.args in PassedTwo a.words.now a.b a.res.now no_words =
-      passed_two _ _ _ _ (sym c.in-Pass.is ∙ c.check_two.ensures) in
+    passed_two _ _ _ _ (sym c.in-Pass.is ∙ c.check_two.ensures) in
     let r = c.read_into in
     let d = c.in-Done in
     reads_done _ _ _ _ _ (omega arith) (omega arith) ok r.result r.new.res d.n
@@ -35,7 +34,7 @@ returns-in-Done c =
 pub returns-in-Refused : goal.returns-in-Refused
 returns-in-Refused c =
     let ok : let a = c.args in PassedTwo a.words.now a.b a.res.now no_words =
-      passed_two _ _ _ _ (sym c.in-Pass.is ∙ c.check_two.ensures) in
+    passed_two _ _ _ _ (sym c.in-Pass.is ∙ c.check_two.ensures) in
     let r = c.read_into in
     let d = c.in-Refused in
     reads-refused _ _ _ _ _ (omega arith) (omega arith)

@@ -5,7 +5,6 @@ use native.Mathlib.Omega.{arith}
 use Rattle.frames.proofs.Heads.{head_long, told_no, told_yes}
 use Rattle.reader.proofs.Records.{came_refused}
 use Rattle.reader.proofs.Readings.{no_head, no_room, copy_padded, came_copied}
-use borrow.Author.Rules.{rules}
 use Rattle.reader.proofs.read_into.Goals as goal
 
 pub returns-then-not-has_head : goal.returns-then-not-has_head

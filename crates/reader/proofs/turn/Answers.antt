@@ -2,7 +2,6 @@
 use mathlib.Core.Path.{refl}
 use native.Mathlib.Omega.{arith}
 use Rattle.reader.proofs.Turns.{remark, acts}
-use borrow.Author.Rules.{rules}
 use Rattle.reader.proofs.turn.Goals as goal
 
 pub overflow_cast-first : goal.overflow_cast-first

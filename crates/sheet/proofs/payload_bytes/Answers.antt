@@ -1,7 +1,6 @@
 -- The payload's bytes of a kind: none for kind 0, then none from 12 on, then none where its row is newer than the edition, then the row's.
 use mathlib.Core.Path.{sym, ap}
 use native.Mathlib.Omega.{arith}
-use borrow.Author.Rules.{rules}
 use Rattle.sheet.proofs.Tables.{no_kind, past_kinds, row_newer, row-bytes}
 use Rattle.sheet.specs.Kinds.{known}
 use Rattle.sheet.proofs.payload_bytes.Goals as goal

@@ -1,5 +1,4 @@
 -- What is counted as four numbers: the count, or the refusal's number.
-use borrow.Author.Rules.{rules}
 use Rattle.told.specs.Tellings.{amount_told}
 use Rattle.told.proofs.Tellings.{told_of}
 use Rattle.told.proofs.amount.Goals as goal

@@ -1,5 +1,4 @@
 -- A field as four numbers: its bits, or the refusal's number.
-use borrow.Author.Rules.{rules}
 use Rattle.told.specs.Tellings.{field_told}
 use Rattle.told.proofs.Tellings.{told_of}
 use Rattle.told.proofs.field.Goals as goal

@@ -1,5 +1,4 @@
 -- A search's answer as four numbers: the place, or nothing, or the refusal's number.
-use borrow.Author.Rules.{rules}
 use Rattle.told.specs.Tellings.{found_told}
 use Rattle.told.proofs.Tellings.{told_of}
 use Rattle.told.proofs.found.Goals as goal

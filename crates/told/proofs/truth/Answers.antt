@@ -1,5 +1,4 @@
 -- What is tested as four numbers: 1 or 0, or the refusal's number.
-use borrow.Author.Rules.{rules}
 use Rattle.told.specs.Tellings.{truth_told}
 use Rattle.told.proofs.Tellings.{told_of}
 use Rattle.told.proofs.truth.Goals as goal

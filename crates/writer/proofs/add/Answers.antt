@@ -1,5 +1,4 @@
 -- 2 where the length passes the buffer, then the sheet's 9, 10 or 11, then what the duty record or the remark comes to; the fields are in their types' ranges.
-use borrow.Author.Rules.{rules}
 use native.Mathlib.Omega.{arith}
 use mathlib.Core.Path.{sym}
 use lib.Seq.{length-take-le}

@@ -1,5 +1,4 @@
 -- 13, 3 or 4 of the fields, then 6 without room, then R is raised and the record is at the end, its payload of two parts.
-use borrow.Author.Rules.{rules}
 use native.Mathlib.Omega.{arith}
 use Rattle.writer.proofs.Adds.{by_bad, by_good}
 use Rattle.writer.proofs.Duties.{duty_bad, duty_good}

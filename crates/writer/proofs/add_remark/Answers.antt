@@ -1,5 +1,4 @@
 -- 13 for a kind over 127, then 12 for a payload over 65,535 bytes, then 6 without room, then R is raised and the remark is at the end.
-use borrow.Author.Rules.{rules}
 use native.Mathlib.Omega.{arith}
 use Rattle.writer.proofs.Adds.{by_bad, by_good, remark_13, remark_12, remark_good, remark_laid}
 use Rattle.writer.proofs.Places.{room, refused, done}

@@ -1,8 +1,6 @@
 -- The payload is at a place, the other bytes as they were. Loop: its first i bytes are there, the others as they were.
 use native.Mathlib.Omega.{arith}
-use Prim.Native.Nat.{◌-◌}
-use lib.ListN.{length}
-use Rattle.writer.proofs.Puts.{Copying, copy_first, copy-next, copy-last}
+use Rattle.writer.proofs.Puts.{copy_first, copy-next, copy-last}
 use Rattle.writer.proofs.copy.Goals as goal
 
 pub loop-i-init : goal.loop-i-init

@@ -1,8 +1,7 @@
 -- The payload is at a place, the other bytes as they were. Loop: its first i bytes are there, the others as they were.
-use native.Mathlib.Omega.{arith}
 use Prim.Native.Nat.{◌-◌}
 use lib.ListN.{length}
-use Rattle.writer.proofs.Puts.{Copying, copy_first, copy-next, copy-last}
+use Rattle.writer.proofs.Puts.{Copying}
 use Rattle.writer.proofs.copy.Given as goal
 
 abbrev pub invariant-loop-i : goal.invariant-loop-i

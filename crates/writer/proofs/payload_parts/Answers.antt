@@ -1,5 +1,4 @@
 -- A duty record's payload as one number, what is over 64 bits apart, by its kind: 3 for a width over 64, 4 for too large a resize, 13 for no kind.
-use borrow.Author.Rules.{rules}
 use native.Mathlib.Omega.{arith}
 use Rattle.writer.proofs.Requests.{gets_single, gets_both, gets_nothing, gets_directed, gets_region, gets_3, gets_field, gets_4, gets_resize, gets_13_zero, gets_13_past}
 use Rattle.writer.proofs.payload_parts.Goals as goal

@@ -1,5 +1,4 @@
 -- The bytes of a kind's payload in the latest edition, 0 where it has no such kind.
-use borrow.Author.Rules.{rules}
 use Rattle.writer.proofs.Sizes.{size-known, size_newer}
 use Rattle.sheet.specs.Kinds.{size_in}
 use Rattle.sheet.specs.Reads.{latest}

@@ -1,6 +1,5 @@
 -- The n low bytes of x are at a place. Loop: those from i on are there, the other bytes as they were, and `left` is x without them.
-use native.Mathlib.Omega.{arith}
-use Rattle.writer.proofs.Puts.{Putting, put_first, put_next, put_last}
+use Rattle.writer.proofs.Puts.{Putting}
 use Rattle.writer.proofs.put.Given as goal
 
 abbrev pub invariant-loop-i : goal.invariant-loop-i

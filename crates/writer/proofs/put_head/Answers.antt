@@ -1,5 +1,4 @@
 -- R is one more, and the first byte and the payload's length are at the end of the sheet, the other bytes as they were.
-use borrow.Author.Rules.{rules}
 use native.Mathlib.Omega.{arith}
 use lib.ListN.{length, length-set}
 use Rattle.writer.proofs.Places.{put_head}

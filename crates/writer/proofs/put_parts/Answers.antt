@@ -1,5 +1,4 @@
 -- The n low bytes of a number of two parts are at a place: the last eight from the low part, those before them from the high one.
-use borrow.Author.Rules.{rules}
 use native.Mathlib.Omega.{arith}
 use Rattle.writer.proofs.Bytes.{put_parts}
 use Rattle.writer.proofs.put_parts.Goals as goal

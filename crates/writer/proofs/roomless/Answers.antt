@@ -1,5 +1,4 @@
 -- Whether a record has no room: true at 65,535 records, else by whether the bytes behind the sheet are fewer than 3 + n.
-use borrow.Author.Rules.{rules}
 use native.Mathlib.Omega.{arith}
 use Rattle.writer.proofs.Places.{one_too_many, room-left}
 use Rattle.writer.proofs.roomless.Goals as goal

@@ -1,5 +1,4 @@
 -- 6 in a buffer under four bytes, else the letters N and S and two zeros at its front, and the length 4.
-use borrow.Author.Rules.{rules}
 use native.Mathlib.Omega.{arith}
 use lib.ListN.{length-set}
 use Rattle.writer.proofs.Answers.{starts_small, starts}
