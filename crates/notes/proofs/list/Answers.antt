@@ -1,5 +1,5 @@
 -- The part of the buffer that is put is inside it: the length that `write_list` answers is at most the buffer's.
-use Rattle.std.proofs.Common.{◌≡◌, ℕ, ◌≤◌, length, refl, sym, arith}
+use Rattle.std.proofs.Common.{refl, sym, arith}
 use lib.Seq.{length-take-le}
 use Rattle.notes.proofs.Fits.{fits}
 use Rattle.notes.proofs.list.Goals as goal
