@@ -39,7 +39,7 @@ SHORT_WAY = [
 
 
 def names():
-    return [line.split(":")[0] for line in (ROOT / "crates.txt").read_text().splitlines() if line.strip()]
+    return [line.split(":")[0].split()[0] for line in (ROOT / "crates.txt").read_text().splitlines() if line.strip()]
 
 
 def lines(path):

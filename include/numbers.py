@@ -2,7 +2,7 @@
 """Writes what numbers.txt says into the header, the Rust package and README: the numbers that a call returns, each with its name and in words.
 
     include/numbers.py            writes them
-    include/numbers.py --check    says which of them differs from numbers.txt, or which number is not the proved one (numberOf, storage), and then
+    include/numbers.py --check    says which of them differs from numbers.txt, or which number is not the proved one (number_of, storage), and then
                                   exits with 1
 """
 import re
@@ -98,9 +98,9 @@ def pages(table):
 
 def main():
     table = rows()
-    proved = re.findall(r"^numberOf (\w+) = (\d+)$", PROVED.read_text(), re.M)
+    proved = re.findall(r"^number_of (\w+) = (\d+)$", PROVED.read_text(), re.M)
     if [(camel(name), n) for n, name, _, _ in table[1:]] != proved:
-        sys.exit("numbers.txt is not numberOf of crates/storage")
+        sys.exit("numbers.txt is not number_of of crates/storage")
     if sys.argv[1:] not in ([], ["--check"]):
         sys.exit("usage: numbers.py [--check]")
     if sys.argv[1:]:

@@ -132,12 +132,12 @@ package_tidy() {
 
 # listed PROGRAM FOLDER: the program answers a list of another seed as the model in the folder of oracle/ does
 listed() {
-    rt check "$1" && python3 "oracle/$2/make.py" 2 3 > "$out/$1.list" && "target/bin/$1" < "$out/$1.list" > "$out/$1" &&
+    python3 "oracle/$2/make.py" 2 3 > "$out/$1.list" && (cd "crates/$1" && rt run) < "$out/$1.list" > "$out/$1" &&
         tail -1 "$out/$1" | grep ": [1-9][0-9]* cases, 0 mismatches"
 }
 
 replay() {
-    rt check replay && oracle/list.sh "$src" 1100 2 > "$out/replay.list" && target/bin/replay < "$out/replay.list" > "$out/replay" &&
+    oracle/list.sh "$src" 1100 2 > "$out/replay.list" && (cd crates/replay && rt run) < "$out/replay.list" > "$out/replay" &&
         tail -1 "$out/replay" | grep "^all [1-9][0-9]* 0$"
 }
 
