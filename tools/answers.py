@@ -282,13 +282,13 @@ def turn(where, crate, f, names, keep):
             new, place = names.need(old)
             if new is None:
                 new, place = names.need(name)
-            if new is None and TRIVIAL.match(body.split("\n", 1)[1]):
+            if new is None and TRIVIAL.match(sig[1]):
                 continue
             if new is None:
                 notes.append(f"no need {old}")
                 answers.append(comment + [f"-- LOST {old}", body])
                 continue
-            clauses = body.split("\n", 1)[1]
+            clauses = sig[1]
             unf = ""
             while clauses.startswith("unfolding"):
                 first, clauses = clauses.split("\n", 1)
