@@ -1,5 +1,4 @@
 -- What `bitmap::andnoti` answers and leaves, with its count handed out as a change's.
-use borrow.Author.Rules.{rules}
 use Rattle.calls.proofs.Calls.{changed}
 use Rattle.capi_bitmap.proofs.changes.taxolbin_andnoti.Goals as goal
 

@@ -1,5 +1,4 @@
 -- What `bitmap::trim` answers, with its count handed out as a change's; the words are only read.
-use borrow.Author.Rules.{rules}
 use Rattle.calls.proofs.Calls.{changed}
 use Rattle.capi_bitmap.proofs.changes.taxolbin_trim.Goals as goal
 

@@ -1,5 +1,4 @@
 -- What `shape::append` of the other bitmap answers and leaves, with its count handed out as a change's.
-use borrow.Author.Rules.{rules}
 use Rattle.calls.proofs.Calls.{changed}
 use Rattle.capi_bitmap.proofs.reshapes.taxolbin_append.Goals as goal
 

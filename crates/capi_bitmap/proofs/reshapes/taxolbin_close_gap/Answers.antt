@@ -1,5 +1,4 @@
 -- What `gap::close_gap` answers and leaves, with its count handed out as a change's.
-use borrow.Author.Rules.{rules}
 use Rattle.calls.proofs.Calls.{changed}
 use Rattle.capi_bitmap.proofs.reshapes.taxolbin_close_gap.Goals as goal
 

@@ -1,5 +1,4 @@
 -- What `combine::dup_or` answers and leaves in a store with no earlier count, with its count handed out as a change's.
-use borrow.Author.Rules.{rules}
 use Rattle.calls.proofs.Calls.{changed}
 use Rattle.capi_bitmap.proofs.sets.taxolbin_dup_or.Goals as goal
 

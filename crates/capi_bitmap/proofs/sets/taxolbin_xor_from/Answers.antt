@@ -1,5 +1,4 @@
 -- What `combine::xor_from` of the left and the right bitmap answers and leaves, with its count handed out as a change's.
-use borrow.Author.Rules.{rules}
 use Rattle.calls.proofs.Calls.{changed}
 use Rattle.capi_bitmap.proofs.sets.taxolbin_xor_from.Goals as goal
 

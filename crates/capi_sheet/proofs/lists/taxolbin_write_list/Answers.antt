@@ -1,5 +1,4 @@
 -- What `print::write_list` answers and leaves in the buffer, with the text's length handed out as an amount.
-use borrow.Author.Rules.{rules}
 use Rattle.calls.proofs.Calls.{printed}
 use Rattle.capi_sheet.proofs.lists.taxolbin_write_list.Goals as goal
 

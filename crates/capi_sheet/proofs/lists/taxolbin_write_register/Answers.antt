@@ -1,5 +1,4 @@
 -- What `register::write_register` answers and leaves in the buffer, with the text's length handed out as an amount.
-use borrow.Author.Rules.{rules}
 use Rattle.calls.proofs.Calls.{registered}
 use Rattle.capi_sheet.proofs.lists.taxolbin_write_register.Goals as goal
 

@@ -1,5 +1,4 @@
 -- What `writer::start` answers and leaves, with the sheet's length handed out as an addition's.
-use borrow.Author.Rules.{rules}
 use Rattle.calls.proofs.Calls.{written}
 use Rattle.capi_sheet.proofs.sheets.taxolbin_start.Goals as goal
 

@@ -1,5 +1,4 @@
 -- What `algebra::and_count` answers of both bitmaps, handed out as an amount.
-use borrow.Author.Rules.{rules}
 use Rattle.calls.proofs.Calls.{amount}
 use Rattle.capi_slice.proofs.both.taxolbin_and_count.Goals as goal
 

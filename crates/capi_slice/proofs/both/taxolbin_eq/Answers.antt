@@ -1,5 +1,4 @@
 -- What `slice::eq` answers of both bitmaps, handed out as a truth value.
-use borrow.Author.Rules.{rules}
 use Rattle.calls.proofs.Calls.{truth}
 use Rattle.capi_slice.proofs.both.taxolbin_eq.Goals as goal
 

@@ -1,5 +1,4 @@
 -- What `walk::iter_xor` answers of both bitmaps from i on, handed out as a search: whether one is found, and its place.
-use borrow.Author.Rules.{rules}
 use Rattle.calls.proofs.Calls.{found}
 use Rattle.capi_slice.proofs.both.taxolbin_iter_xor.Goals as goal
 

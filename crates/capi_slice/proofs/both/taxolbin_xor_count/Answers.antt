@@ -1,5 +1,4 @@
 -- What `algebra::xor_count` answers of both bitmaps, handed out as an amount.
-use borrow.Author.Rules.{rules}
 use Rattle.calls.proofs.Calls.{amount}
 use Rattle.capi_slice.proofs.both.taxolbin_xor_count.Goals as goal
 

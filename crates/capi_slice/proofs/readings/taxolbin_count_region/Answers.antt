@@ -1,5 +1,4 @@
 -- What `bits::count_region` answers, handed out as an amount.
-use borrow.Author.Rules.{rules}
 use Rattle.calls.proofs.Calls.{amount}
 use Rattle.capi_slice.proofs.readings.taxolbin_count_region.Goals as goal
 

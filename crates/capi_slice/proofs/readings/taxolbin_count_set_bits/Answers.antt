@@ -1,5 +1,4 @@
 -- What `scans::count_set_bits` answers, handed out as an amount.
-use borrow.Author.Rules.{rules}
 use Rattle.calls.proofs.Calls.{amount}
 use Rattle.capi_slice.proofs.readings.taxolbin_count_set_bits.Goals as goal
 

@@ -1,5 +1,4 @@
 -- What `scans::first_clear` answers, handed out as an amount.
-use borrow.Author.Rules.{rules}
 use Rattle.calls.proofs.Calls.{amount}
 use Rattle.capi_slice.proofs.readings.taxolbin_first_clear.Goals as goal
 

@@ -1,5 +1,4 @@
 -- What `scans::first_set` answers, handed out as a search: whether one is found, and its place.
-use borrow.Author.Rules.{rules}
 use Rattle.calls.proofs.Calls.{found}
 use Rattle.capi_slice.proofs.readings.taxolbin_first_set.Goals as goal
 

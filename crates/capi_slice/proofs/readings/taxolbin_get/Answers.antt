@@ -1,5 +1,4 @@
 -- What `slice::get` answers of bit i, handed out as a truth value.
-use borrow.Author.Rules.{rules}
 use Rattle.calls.proofs.Calls.{truth}
 use Rattle.capi_slice.proofs.readings.taxolbin_get.Goals as goal
 

@@ -1,5 +1,4 @@
 -- What `slice::get_field` answers of the bits from i on, handed out as a field.
-use borrow.Author.Rules.{rules}
 use Rattle.calls.proofs.Calls.{field}
 use Rattle.capi_slice.proofs.readings.taxolbin_get_field.Goals as goal
 

@@ -1,5 +1,4 @@
 -- What `scans::next_clear` answers, handed out as an amount.
-use borrow.Author.Rules.{rules}
 use Rattle.calls.proofs.Calls.{amount}
 use Rattle.capi_slice.proofs.readings.taxolbin_next_clear.Goals as goal
 

@@ -1,5 +1,4 @@
 -- What `bits::rank` answers of the bits below i, handed out as an amount.
-use borrow.Author.Rules.{rules}
 use Rattle.calls.proofs.Calls.{amount}
 use Rattle.capi_slice.proofs.readings.taxolbin_rank.Goals as goal
 

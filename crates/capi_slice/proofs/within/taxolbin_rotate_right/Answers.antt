@@ -1,5 +1,4 @@
 -- What `shift::rotate_right` answers and leaves, with its count handed out as a change's.
-use borrow.Author.Rules.{rules}
 use Rattle.calls.proofs.Calls.{changed}
 use Rattle.capi_slice.proofs.within.taxolbin_rotate_right.Goals as goal
 

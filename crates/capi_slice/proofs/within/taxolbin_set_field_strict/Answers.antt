@@ -1,5 +1,4 @@
 -- What `slice::set_field_strict` answers and leaves, with its count handed out as a change's.
-use borrow.Author.Rules.{rules}
 use Rattle.calls.proofs.Calls.{changed}
 use Rattle.capi_slice.proofs.within.taxolbin_set_field_strict.Goals as goal
 
