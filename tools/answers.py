@@ -67,6 +67,15 @@ class Names:
                     return n, self.asked[at][0] if at < len(self.asked) else None
         return None, None
 
+    def step(self, place, name):
+        """The place, from this one back, whose step has the old name."""
+        while place is not None and place in self.by_old:
+            here = self.by_old[place]
+            if here[2] and norm(here[2][0]) == norm(name):
+                return place
+            place = here[1]
+        return None
+
     def arm(self, place, rest):
         """A fact of a match's arm under its name there."""
         given = self.given.get("arms", [])
@@ -137,26 +146,10 @@ def path(names, place, text, var="c"):
         arm = names.arm(at, rest) or names.arm(place, rest)
         if arm:
             return var + "." + ".".join(arm)
-        new = fields = None
-        look = at
-        while look is not None and look in names.by_old:
-            p = names.by_old[look]
-            if p[2] and norm(p[2][0]) == norm(step):
-                new = p[2][1]
-                fields = names.clause_fields(look)
-                break
-            look = p[1]
-        if new is None:
-            look = place
-            while look is not None and look in names.by_old:
-                p = names.by_old[look]
-                if p[2] and norm(p[2][0]) == norm(step):
-                    new = p[2][1]
-                    fields = names.clause_fields(look)
-                    break
-                look = p[1]
-        if new is not None:
-            rest[0] = new
+        look = names.step(at, step) or names.step(place, step)
+        if look:
+            fields = names.clause_fields(look)
+            rest[0] = names.by_old[look][2][1]
             if len(rest) > 2 and rest[1] == "new" and rest[2].isdigit():
                 muts = names.muts(look)
                 if int(rest[2]) < len(muts):

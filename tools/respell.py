@@ -81,29 +81,27 @@ def turned(name, known):
     parts = [snake(p) for p in name.split("-")]
     if len(parts) == 1:
         return parts[0]
-    words = parts
+    whole = names_in(parts, known)
+    if len(whole) > 1:
+        return "-".join(whole)
+    for k in range(len(parts) - 1, 1, -1):
+        # a plain word hangs on behind the last name
+        head = names_in(parts[:k], known)
+        if len(head) > 1:
+            return "-".join(head) + "_" + "_".join(parts[k:])
+    return "_".join(parts)
+
+
+def names_in(words, known):
+    """The fewest names that the words make, none left over; empty where they make none."""
     n = len(words)
-    best = [None] * (n + 1)
-    best[n] = []
+    best = [None] * n + [[]]
     for i in range(n - 1, -1, -1):
         for j in range(n, i, -1):
             one = "_".join(words[i:j])
             if one in known and best[j] is not None and (best[i] is None or len(best[j]) + 1 < len(best[i])):
                 best[i] = [one] + best[j]
-    if best[0] is not None and len(best[0]) > 1:
-        return "-".join(best[0])
-    for k in range(n - 1, 1, -1):
-        # a plain word hangs on behind the last name
-        head = [None] * (k + 1)
-        head[k] = []
-        for i in range(k - 1, -1, -1):
-            for j in range(k, i, -1):
-                one = "_".join(words[i:j])
-                if one in known and head[j] is not None and (head[i] is None or len(head[j]) + 1 < len(head[i])):
-                    head[i] = [one] + head[j]
-        if head[0] is not None and len(head[0]) > 1:
-            return "-".join(head[0]) + "_" + "_".join(words[k:])
-    return "_".join(words)
+    return best[0] or []
 
 
 def functions():
