@@ -1,5 +1,5 @@
 -- The promises of specs/Promises.
-use Rattle.std.proofs.Common.{◌≡◌, ℕ, zero, suc, ◌+◌, ◌*◌, ◌≤◌, max, Bool, true, false, eqb, List, sym, refl, ◌∙◌, inl, inr, arith, eq-eqb, eqb-true}
+use Rattle.std.proofs.Common.{◌≡◌, ℕ, zero, suc, ◌+◌, ◌*◌, ◌≤◌, max, Bool, true, false, eqb, List, sym, refl, ◌∙◌, inl, inr, arith, eq-eqb, eqb-true, Ok, Err}
 use mathlib.Core.Bool.{false≢true}
 use Rattle.word.specs.Sets.{val, count_below, Counted}
 use Rattle.word.proofs.Cases.{by_test}
@@ -9,18 +9,17 @@ use Rattle.pairs.specs.Promises.{ComesIn}
 use Rattle.pairs.proofs.Promises.{table_means}
 use Rattle.pairs.specs.declared.SetOp.{SetOp}
 use Rattle.pairs.specs.declared.SetOp.TheVariants.{And, AndNot, Or, Xor}
-use Rattle.storage.specs.Refusals.{amount_number, amount_value, truth_number, truth_value}
+use Rattle.storage.specs.Refusals.{answer_number, amount_value, truth_value}
 use Rattle.storage.specs.Promises.{MadeOf, GuardedBoth, HandsNone, Hands, Tests}
 use Rattle.storage.specs.Stores.{Bits, Bounded, view, size, combined}
 use Rattle.storage.specs.declared.Bitmap.{Bitmap}
-use Rattle.storage.specs.declared.Amount.{Amount}
-use Rattle.storage.specs.declared.Truth.{Truth}
 use Rattle.storage.proofs.Combined.{size_none, none_of_size, made_of, made_is}
 use Rattle.storage.proofs.Outcomes.{bounded_combined}
 use Rattle.storage.proofs.Promises.{guarded_map, both_means, tests}
 use Rattle.storage.proofs.Views.{view_out}
 use Rattle.algebra.specs.Algebra.{empty_of, count_of}
 use Rattle.algebra.specs.Promises.{is_in, TestMeans, SubsetMeans, DisjointMeans, CountExact, CountMeans, CountsAddUp}
+use Rattle.storage.specs.Refusals.{Amount}
 
 -- ---- the set that an operation makes
 
@@ -53,8 +52,8 @@ module _ (op : SetOp) (b o : Bits) (h : Bounded b) (k : Bounded o) where
 pub test_means : TestMeans
 unfolding empty_of
 test_means op =
-    both_means Truth.Refused (λ b o. Truth.Is (eqb (size (combined op b o)) 0)) (λ r. HandsNone (truth_number r) (truth_value r))
-    (λ b o r. Tests ((i : ℕ) → ComesIn op (b.members i) (o.members i) → ⊥) (truth_number r) (truth_value r)) (λ e. (refl, refl)) (none_comes op)
+    both_means Err (λ b o. Ok (eqb (size (combined op b o)) 0)) (λ r. HandsNone (answer_number r) (truth_value r))
+    (λ b o r. Tests ((i : ℕ) → ComesIn op (b.members i) (o.members i) → ⊥) (answer_number r) (truth_value r)) (λ e. (refl, refl)) (none_comes op)
 
 -- what is tested, said in another way
 tests_as : {P Q : Type 0} {x v : ℕ} → (P → Q) → (Q → P) → Tests P x v → Tests Q x v
@@ -78,8 +77,8 @@ disjoint_means ws b os o r q = both_as (tests_as (λ e i s t. e i (s, t)) (λ h 
 pub count_means : CountMeans
 unfolding count_of view
 count_means op =
-    both_means Amount.Refused (λ b o. Amount.Is (size (combined op b o))) (λ r. HandsNone (amount_number r) (amount_value r))
-    (λ b o r. (s : ℕ → Bool) → MadeOf op b o s → Hands (CountExact s (64 * max b.count o.count)) (amount_number r) (amount_value r)) (λ e. (refl, refl))
+    both_means Err (λ b o. Ok (size (combined op b o))) (λ r. HandsNone (answer_number r) (amount_value r))
+    (λ b o r. (s : ℕ → Bool) → MadeOf op b o s → Hands (CountExact s (64 * max b.count o.count)) (answer_number r) (amount_value r)) (λ e. (refl, refl))
     (λ b o h k s m. (refl, count_exact op b o h k s m))
 
 -- ---- counts that add up

@@ -4,14 +4,13 @@ use Rattle.word.specs.Sets.{Counted}
 use Rattle.pairs.specs.Promises.{ComesIn}
 use Rattle.pairs.specs.declared.SetOp.{SetOp}
 use Rattle.pairs.specs.declared.SetOp.TheVariants.{And, AndNot, Or, Xor}
-use Rattle.storage.specs.Refusals.{amount_number, amount_value, truth_number, truth_value}
+use Rattle.storage.specs.Refusals.{answer_number, amount_value, truth_value}
 use Rattle.storage.specs.Guards.{Passed}
 use Rattle.storage.specs.Promises.{MadeOf, GuardedBoth, HandsNone, Hands, Tests}
 use Rattle.storage.specs.Stores.{held}
 use Rattle.storage.specs.declared.Bitmap.{Bitmap}
-use Rattle.storage.specs.declared.Amount.{Amount}
-use Rattle.storage.specs.declared.Truth.{Truth}
 use Rattle.algebra.specs.Algebra.{empty_of, count_of}
+use Rattle.storage.specs.Refusals.{Amount, Truth}
 
 -- i is a member of the bitmap whose record is b
 abbrev pub is_in : List ℕ → Bitmap → ℕ → Bool
@@ -20,7 +19,7 @@ is_in ws b i = (held ws b).members i
 -- demands 1 and 2: the answer r is refused for a store, or 1 exactly where P holds, else 0
 abbrev pub TestsBoth : List ℕ → Bitmap → List ℕ → Bitmap → Type 0 → Truth → Type 0
 TestsBoth ws b os o P r =
-    GuardedBoth ws b os o (HandsNone (truth_number r) (truth_value r)) (Tests P (truth_number r) (truth_value r))
+    GuardedBoth ws b os o (HandsNone (answer_number r) (truth_value r)) (Tests P (answer_number r) (truth_value r))
 
 -- a test: no number at all comes in
 abbrev pub TestMeans : Type 0
@@ -50,8 +49,8 @@ pub record CountExact (s : ℕ → Bool) (e c : ℕ) : Type 0 where
 abbrev pub CountMeans : Type 0
 CountMeans =
     (op : SetOp) (ws : List ℕ) (b : Bitmap) (os : List ℕ) (o : Bitmap) (r : Amount) → r ≡ count_of op ws b os o
-    → GuardedBoth ws b os o (HandsNone (amount_number r) (amount_value r))
-    ((s : ℕ → Bool) → MadeOf op (held ws b) (held os o) s → Hands (CountExact s (64 * max b.count o.count)) (amount_number r) (amount_value r))
+    → GuardedBoth ws b os o (HandsNone (answer_number r) (amount_value r))
+    ((s : ℕ → Bool) → MadeOf op (held ws b) (held os o) s → Hands (CountExact s (64 * max b.count o.count)) (answer_number r) (amount_value r))
 
 -- four counts of bitmaps that have s and t members
 pub record Sums (s t and or xor andnot : ℕ) : Type 0 where

@@ -7,18 +7,14 @@ use native.Mathlib.Omega.{arith}
 use Rattle.storage.specs.Refusals.{last_number, number_of}
 use Rattle.storage.specs.declared.Refusal.{Refusal}
 use Rattle.storage.proofs.Promises.{each_number_once}
-use Rattle.storage.specs.declared.Change.{Change}
-use Rattle.shapes.specs.declared.Split.{Split}
-use Rattle.storage.specs.declared.Found.{Found}
-use Rattle.storage.specs.declared.Amount.{Amount}
-use Rattle.storage.specs.declared.Field.{Field}
-use Rattle.storage.specs.declared.Truth.{Truth}
-use Rattle.sheet.specs.declared.Reading.{Reading}
-use Rattle.sheet.specs.declared.Added.{Added}
 use Rattle.told.specs.declared.Told.{Told}
 use Rattle.told.specs.Tellings.{found_told}
-use Rattle.answers.specs.Answers.{ChangeOut, SplitOut, FoundOut, ValueOut, AmountOut, FieldOut, TruthOut, ReadingOut, AddedOut}
+use Rattle.answers.specs.Answers.{ChangeOut, SplitOut, FoundOut, ValueOut, AmountOut, TruthOut, ReadingOut, AddedOut}
 use Rattle.answers.specs.Promises.{Crosses, AtMostLast, RefusedHandsOut, Flags}
+use Rattle.storage.specs.Refusals.{Found, Amount, Truth, Change}
+use Rattle.std.specs.Prelude.{Ok, Err, Some, None}
+use Rattle.sheet.specs.Reads.{Reading}
+use Rattle.shapes.specs.Shapes.{Split}
 
 value_out : {t : Told} {r v : ℕ} → ValueOut t r v ↔ ((r ≡ t.number) × (v ≡ t.value))
 value_out = ((λ o. (o.number, o.value)), (λ q. record { number = q.0; value = q.1 }))
@@ -37,8 +33,6 @@ crosses = record {
   found-refused = λ e r f v. found_out;
   amount_is = λ n r v. value_out;
   amount-refused = λ e r v. value_out;
-  field_is = λ x r v. value_out;
-  field-refused = λ e r v. value_out;
   truth-true = λ r v. value_out;
   truth-false = λ r v. value_out;
   truth-refused = λ e r v. value_out;
@@ -54,38 +48,34 @@ top e = (each_number_once.range e).1
 -- ---- of each kind of answer all that is promised: the last number, what a refusal hands out, the flags
 
 change_ends : (a : Change) (r n : ℕ) → ChangeOut a r n → r ≤ last_number
-change_ends (Change.Done b) r n o = omega arith
-change_ends (Change.Refused e b) r n o = omega (arith, top e)
+change_ends (Ok b) r n o = omega arith
+change_ends (Err e) r n o = omega (arith, top e.0)
 
 split_ends : (a : Split) (r n t : ℕ) → SplitOut a r n t → (r ≤ last_number) × (0 < r → t ≡ 0)
-split_ends (Split.Done h t1) r n t o = (omega arith, (λ q. omega arith))
-split_ends (Split.Refused e b) r n t o = (omega (arith, top e), (λ q. omega arith))
+split_ends (Ok (h, t1)) r n t o = (omega arith, (λ q. omega arith))
+split_ends (Err e) r n t o = (omega (arith, top e.0), (λ q. omega arith))
 
 found_ends : (a : Found) (r f v : ℕ) → FoundOut a r f v → (r ≤ last_number) × (0 < r → (f ≡ 0) × (v ≡ 0)) × (f ≤ 1) × (f ≡ 0 → v ≡ 0)
-found_ends (Found.At p) r f v o = (omega arith, (λ q. (omega arith, omega arith)), omega arith, (λ q. omega arith))
-found_ends Found.Nothing r f v o = (omega arith, (λ q. (omega arith, omega arith)), omega arith, (λ q. omega arith))
-found_ends (Found.Refused e) r f v o = (omega (arith, top e), (λ q. (omega arith, omega arith)), omega arith, (λ q. omega arith))
+found_ends (Ok (Some p)) r f v o = (omega arith, (λ q. (omega arith, omega arith)), omega arith, (λ q. omega arith))
+found_ends (Ok None) r f v o = (omega arith, (λ q. (omega arith, omega arith)), omega arith, (λ q. omega arith))
+found_ends (Err e) r f v o = (omega (arith, top e), (λ q. (omega arith, omega arith)), omega arith, (λ q. omega arith))
 
 amount_ends : (a : Amount) (r v : ℕ) → AmountOut a r v → (r ≤ last_number) × (0 < r → v ≡ 0)
-amount_ends (Amount.Is n) r v o = (omega arith, (λ q. omega arith))
-amount_ends (Amount.Refused e) r v o = (omega (arith, top e), (λ q. omega arith))
-
-field_ends : (a : Field) (r v : ℕ) → FieldOut a r v → (r ≤ last_number) × (0 < r → v ≡ 0)
-field_ends (Field.Is x) r v o = (omega arith, (λ q. omega arith))
-field_ends (Field.Refused e) r v o = (omega (arith, top e), (λ q. omega arith))
+amount_ends (Ok n) r v o = (omega arith, (λ q. omega arith))
+amount_ends (Err e) r v o = (omega (arith, top e), (λ q. omega arith))
 
 truth_ends : (a : Truth) (r v : ℕ) → TruthOut a r v → (r ≤ last_number) × (0 < r → v ≡ 0) × (v ≤ 1)
-truth_ends (Truth.Is true) r v o = (omega arith, (λ q. omega arith), omega arith)
-truth_ends (Truth.Is false) r v o = (omega arith, (λ q. omega arith), omega arith)
-truth_ends (Truth.Refused e) r v o = (omega (arith, top e), (λ q. omega arith), omega arith)
+truth_ends (Ok true) r v o = (omega arith, (λ q. omega arith), omega arith)
+truth_ends (Ok false) r v o = (omega arith, (λ q. omega arith), omega arith)
+truth_ends (Err e) r v o = (omega (arith, top e), (λ q. omega arith), omega arith)
 
 reading_ends : (a : Reading) (r k n : ℕ) → ReadingOut a r k n → (r ≤ last_number) × (0 < r → n ≡ 0)
-reading_ends (Reading.Done k1 b) r k n o = (omega arith, (λ q. omega arith))
-reading_ends (Reading.Refused e k1) r k n o = (omega (arith, top e), (λ q. omega arith))
+reading_ends (Ok (k1, b)) r k n o = (omega arith, (λ q. omega arith))
+reading_ends (Err e) r k n o = (omega (arith, top e.0), (λ q. omega arith))
 
-added_ends : (a : Added) (old r n : ℕ) → AddedOut a old r n → (r ≤ last_number) × (0 < r → n ≡ old)
-added_ends (Added.Done n1) old r n o = (omega arith, (λ q. omega arith))
-added_ends (Added.Refused e) old r n o = (omega (arith, top e), (λ q. omega arith))
+added_ends : (a : Amount) (old r n : ℕ) → AddedOut a old r n → (r ≤ last_number) × (0 < r → n ≡ old)
+added_ends (Ok n1) old r n o = (omega arith, (λ q. omega arith))
+added_ends (Err e) old r n o = (omega (arith, top e), (λ q. omega arith))
 
 pub at_most-last : AtMostLast
 at_most-last = record {
@@ -93,7 +83,6 @@ at_most-last = record {
   split = λ a r n t o. (split_ends a r n t o).0;
   found = λ a r f v o. (found_ends a r f v o).0;
   amount = λ a r v o. (amount_ends a r v o).0;
-  field = λ a r v o. (field_ends a r v o).0;
   truth = λ a r v o. (truth_ends a r v o).0;
   reading = λ a r k n o. (reading_ends a r k n o).0;
   added = λ a old r n o. (added_ends a old r n o).0;
@@ -104,7 +93,6 @@ refused_hands_out = record {
   split = λ a r n t o. (split_ends a r n t o).1;
   found = λ a r f v o. (found_ends a r f v o).1;
   amount = λ a r v o. (amount_ends a r v o).1;
-  field = λ a r v o. (field_ends a r v o).1;
   truth = λ a r v o. (truth_ends a r v o).1;
   reading = λ a r k n o. (reading_ends a r k n o).1;
   added = λ a old r n o. (added_ends a old r n o).1;

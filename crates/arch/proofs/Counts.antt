@@ -1,5 +1,6 @@
 -- The set bits of the words, counted word by word.
-use Rattle.std.proofs.Common.{◌≡◌, ℕ, ◌+◌, ◌*◌, ◌%◌, ◌^◌, ◌≤◌, List, length, get_or, sym, refl, ap, ◌∙◌, arith}
+use Rattle.std.proofs.Common.{◌≡◌, ℕ, suc, ◌+◌, ◌*◌, ◌/◌, ◌%◌, ◌^◌, ◌<◌, ◌≤◌, List, [], ◌∷◌, length, get_or, sym, refl, ap, ap₂, ◌∙◌, arith, mod-eq_of_lt}
+use Rattle.std.specs.List.{fold}
 use native.Mathlib.Nat.{mod-add-mod}
 use Rattle.word.specs.Sets.{count_below}
 use Rattle.word.specs.Places.{bit, member}
@@ -31,3 +32,39 @@ count_next ws i n c r en ec er =
     ∙ mod-add-mod (count_below (member ws) (64 * i)) (2 ^ 64) c
     ∙ ap (λ (x : ℕ). (count_below (member ws) (64 * i) + x) % 2 ^ 64) ec
     ∙ ap (λ (x : ℕ). x % 2 ^ 64) (sym (count_word ws i))
+
+-- a word before others
+member_first : (x : ℕ) (ws : List ℕ) (i : ℕ) → i < 64 → member (x ∷ ws) i ≡ bit x i
+unfolding member
+member_first x ws i l =
+    let z : i / 64 ≡ 0 = omega arith in
+    let m : i % 64 ≡ i = omega arith in
+    ap₂ (λ (k j : ℕ). bit (get_or (x ∷ ws) k 0) j) z m
+
+member_later : (x : ℕ) (ws : List ℕ) (i : ℕ) → member (x ∷ ws) (64 + i) ≡ member ws i
+unfolding member
+member_later x ws i =
+    let z : (64 + i) / 64 ≡ suc (i / 64) = omega arith in
+    let m : (64 + i) % 64 ≡ i % 64 = omega arith in
+    ap₂ (λ (k j : ℕ). bit (get_or (x ∷ ws) k 0) j) z m
+
+count_first : (x : ℕ) (ws : List ℕ) → count_below (member (x ∷ ws)) (64 * length (x ∷ ws)) ≡ count_below (bit x) 64 + count_below (member ws) (64 * length ws)
+count_first x ws =
+    ap (count_below (member (x ∷ ws))) (omega arith)
+    ∙ count_add (member (x ∷ ws)) 64 (64 * length ws)
+    ∙ ap₂ (λ (a b : ℕ). a + b) (count_ext (member (x ∷ ws)) (bit x) 64 (member_first x ws))
+    (count_ext (λ j. member (x ∷ ws) (64 + j)) (member ws) (64 * length ws) (λ i l. member_later x ws i))
+
+-- word by word from n on, each sum wrapped
+pub count_fold : (ws : List ℕ) (n : ℕ) → n < 2 ^ 64
+    → fold (λ (a x : ℕ). (a + count_below (bit x) 64) % 2 ^ 64) n ws ≡ (n + count_below (member ws) (64 * length ws)) % 2 ^ 64
+unfolding count_below
+count_fold [] n h = sym (mod-eq_of_lt (omega arith)) ∙ ap (λ (a : ℕ). a % 2 ^ 64) (omega arith)
+count_fold (x ∷ ws) n h =
+    count_fold ws ((n + count_below (bit x) 64) % 2 ^ 64) (omega arith)
+    ∙ mod-add-mod (n + count_below (bit x) 64) (2 ^ 64) (count_below (member ws) (64 * length ws))
+    ∙ ap (λ (a : ℕ). a % 2 ^ 64) (omega (arith, count_first x ws))
+
+pub count_all : (ws : List ℕ) → fold (λ (a x : ℕ). (a + count_below (bit x) 64) % 2 ^ 64) 0 ws ≡ count_set ws
+unfolding count_set
+count_all ws = count_fold ws 0 (omega arith) ∙ ap (λ (a : ℕ). a % 2 ^ 64) (omega arith)

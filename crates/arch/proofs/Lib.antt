@@ -1,5 +1,5 @@
-pub mod Eights
 pub mod Scans
+pub mod Found
 pub mod Counts
 pub mod Regions
 pub mod Promises

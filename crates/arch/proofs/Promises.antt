@@ -11,25 +11,24 @@ use Rattle.word.proofs.Lists.{at_place, member-at, member-past, member_words, le
 use Rattle.arch.specs.Scans.{Alike, first_other, word_found, word_flag, word_index, word_there, nonzero_len, is_zero, count_set, filled}
 use Rattle.arch.specs.Promises.{FirstOther, FirstNonzeroMeans, FirstNotOnesMeans, NonzeroLenMeans, IsZeroMeans, CountSetMeans}
 use Rattle.arch.specs.Promises.{CountIsWhole, FillWordsMeans, FillRegionMeans}
-use Rattle.arch.specs.declared.FoundWord.{FoundWord}
-use Rattle.arch.specs.declared.FoundWord.TheVariants.{At, Nothing}
+use Rattle.std.specs.Prelude.{Option, Some, None}
 use Rattle.arch.proofs.Scans.{nonzero_none, nonzero_le, nonzero_past, nonzero_last}
 use Rattle.arch.proofs.Regions.{length-filled_words, filled_in, filled_below, filled_above}
 
 -- ---- scans
 
-pub first_other_lem : (x : ℕ) (ws : List ℕ) (a : FoundWord) → a ≡ word_found ws (first_other x ws) → FirstOther x ws (word_flag a) (word_index a) (word_there a)
+pub first_other_lem : (x : ℕ) (ws : List ℕ) (a : Option (ℕ × ℕ)) → a ≡ word_found ws (first_other x ws) → FirstOther x ws (word_flag a) (word_index a) (word_there a)
 unfolding first_other word_found
 first_other_lem x ws a e =
     by_lt k (length ws)
     (λ h.
-    subst is (sym (e ∙ ap (λ (t : Bool). choose t (At k (get_or ws k 0)) Nothing) (lt-ltb k (length ws) h)))
+    subst is (sym (e ∙ ap (λ (t : Bool). choose t (Some (k, get_or ws k 0)) None) (lt-ltb k (length ws) h)))
     (inl (refl, h, refl, eqb-false (get_or ws k 0) x (not-true (eqb (get_or ws k 0) x) (r.here (omega arith))), alike)))
     (λ h.
-    subst is (sym (e ∙ ap (λ (t : Bool). choose t (At k (get_or ws k 0)) Nothing) (le-ltb k (length ws) h)))
+    subst is (sym (e ∙ ap (λ (t : Bool). choose t (Some (k, get_or ws k 0)) None) (le-ltb k (length ws) h)))
     (inr (refl, refl, refl, record { at = λ j a b. alike.at j a (omega arith) })))
   where
-    is : FoundWord → Type 0
+    is : Option (ℕ × ℕ) → Type 0
     is a = FirstOther x ws (word_flag a) (word_index a) (word_there a)
 
     s : ℕ → Bool

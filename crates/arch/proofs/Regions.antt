@@ -1,8 +1,11 @@
 -- Whole words filled, and the region of bits that two edge words and the words between make up.
-use Rattle.std.proofs.Common.{◌≡◌, ℕ, ◌+◌, ◌-◌, ◌*◌, ◌/◌, ◌^◌, ◌<◌, ◌≤◌, min, max, Bool, true, false, not, ◌&&◌, ◌||◌, ltb, leb, ◌⊎◌, List, length, get_or, set, sym, refl, ap, ◌∙◌, subst, ap₂, inl, inr, arith, length-set, get_or-set_other, le-ltb, lt-ltb, le-leb}
+use Rattle.std.proofs.Common.{◌≡◌, ℕ, ◌+◌, ◌-◌, ◌*◌, ◌/◌, ◌^◌, ◌<◌, ◌≤◌, min, max, Bool, true, false, not, ◌&&◌, ◌||◌, ltb, leb, ◌⊎◌, List, length, get_or, set, take, drop, sym, refl, ap, ◌∙◌, subst, ap₂, inl, inr, arith, length-set, get_or-set_other, le-ltb, lt-ltb, le-leb}
 use lib.Bits.{bit_and, bit_or, and_lt, or_lt}
 use lib.Pow.{ones_sub-lt}
+use Rattle.std.proofs.lemmas.List.{get_or-replicate, length-replicate}
+use Rattle.std.specs.Prelude.{replicate}
 use borrow.Author.Tests.{lt-leb}
+use borrow.Rule.Slice.PartMut.{put_mid}
 use Rattle.word.specs.Sets.{choose}
 use Rattle.word.specs.Places.{bit, word_of, member, words_of}
 use Rattle.word.specs.Words.{all_ones, low_mask}
@@ -10,7 +13,7 @@ use Rattle.word.proofs.Cases.{by_lt, by_eq, and-false}
 use Rattle.word.proofs.Places.{bit-and, bit-or, bit_not, bit_ones, bit-zero, bit-pack, pack-lt, pack_is}
 use Rattle.word.proofs.Words.{bit-low_mask, low_mask-lt}
 use Rattle.word.proofs.Lists.{Fit, past, length_tab, tab_at, tab_is, member-at}
-use Rattle.word.proofs.Sweep.{Swept, get_d_set}
+use Rattle.word.proofs.Sweep.{Swept, get_d_set, part_long, part_swept}
 use Rattle.arch.specs.Scans.{filled_words, filled}
 use Rattle.arch.specs.Kernels.{places_in, filled_places}
 
@@ -56,6 +59,23 @@ filled_is a e i x ws ws' s l end =
         (λ p. by_lt k e
         (λ q. s.fresh k p (omega arith) ∙ ap₂ (λ (t u : Bool). choose (t && u) x (get_or ws k 0)) (sym (le-leb a k p)) (sym (lt-ltb k e q)))
         (λ q. s.above k (omega arith) ∙ ap₂ (λ (t u : Bool). choose (t && u) x (get_or ws k 0)) (sym (le-leb a k p)) (sym (le-ltb k e q))))
+
+-- a part that is x throughout, put back
+pub filled_part : (a e i x : ℕ) (ws part : List ℕ) → i ≡ min e (length ws) → a < i → part ≡ replicate (length (take (i - a) (drop a ws))) x
+    → put_mid a (i - a) ws part ≡ filled_words a e x ws
+filled_part a e i x ws part q l f =
+    filled_is a e i x ws (put_mid a (i - a) ws part)
+    (record { long = s.long; fresh = λ k p r. s.fresh k p r ∙ at (k - a) (omega arith); below = s.below; above = s.above })
+    (omega arith) (omega arith)
+  where
+    long : length (take (i - a) (drop a ws)) ≡ i - a
+    long = part_long ws a i (omega arith)
+
+    at : (k : ℕ) → k < i - a → get_or part k 0 ≡ x
+    at k h = ap (λ (ys : List ℕ). get_or ys k 0) f ∙ get_or-replicate (length (take (i - a) (drop a ws))) k x 0 (omega (arith, long))
+
+    s : Swept ws (λ k. get_or part (k - a) 0) a i (put_mid a (i - a) ws part)
+    s = part_swept ws part a i (omega arith) (omega arith) (ap length f ∙ length-replicate (length (take (i - a) (drop a ws))) x ∙ long)
 
 -- ---- masks
 

@@ -1,12 +1,13 @@
 -- Scans by eights and by single words: what is passed, and where they stop.
-use Rattle.std.proofs.Common.{◌≡◌, ℕ, suc, ◌+◌, ◌-◌, ◌<◌, ◌≤◌, Bool, not, eqb, List, length, get_or, sym, ap, ◌∙◌, arith, le-ltb, lt-ltb, eq-eqb, ne_eqb, eqb-true}
+use Rattle.std.proofs.Common.{◌≡◌, ℕ, suc, ◌+◌, ◌-◌, ◌<◌, ◌≤◌, Bool, not, eqb, List, length, get_or, refl, sym, ap, ◌∙◌, arith, le-ltb, lt-ltb, eq-eqb, ne_eqb, eqb-true}
 use borrow.Author.Tests.{eqb-false, not-true, not-false}
 use Rattle.word.specs.Sets.{choose}
 use Rattle.word.proofs.Cases.{by_lt, eqb_same}
 use Rattle.word.proofs.Sets.{least, least_is, top, top_is}
 use Rattle.word.proofs.Lists.{past}
 use Rattle.arch.specs.Scans.{Alike, first_other, word_found, nonzero_len, is_zero}
-use Rattle.arch.specs.declared.FoundWord.TheVariants.{At, Nothing}
+use Rattle.std.specs.Prelude.{Option, Some, None}
+use Rattle.std.specs.Option.{is_some}
 
 -- ---- stretches of equal words
 
@@ -48,13 +49,17 @@ other_none ws x i s h =
       under = λ q a b. ap not (eq-eqb (get_or ws q 0) x (s.at q a (omega arith)));
     }))
 
-pub found_at : (ws : List ℕ) (i k : ℕ) → i ≡ k → i < length ws → At i (get_or ws i 0) ≡ word_found ws k
-unfolding word_found
-found_at ws i k e h = sym (ap (word_found ws) (sym e) ∙ ap (λ (t : Bool). choose t (At i (get_or ws i 0)) Nothing) (lt-ltb i (length ws) h))
+first_other_le : (x : ℕ) (ws : List ℕ) → first_other x ws ≤ length ws
+unfolding first_other
+first_other_le x ws = omega (arith, (least (λ k. not (eqb (get_or ws k 0) x)) 0 (length ws)).within)
 
-pub found_none : (ws : List ℕ) (i k : ℕ) → i ≡ k → length ws ≤ i → Nothing ≡ word_found ws k
+pub found_at : (ws : List ℕ) (i k : ℕ) → i ≡ k → i < length ws → Some (i, get_or ws i 0) ≡ word_found ws k
 unfolding word_found
-found_none ws i k e h = sym (ap (word_found ws) (sym e) ∙ ap (λ (t : Bool). choose t (At i (get_or ws i 0)) Nothing) (le-ltb i (length ws) h))
+found_at ws i k e h = sym (ap (word_found ws) (sym e) ∙ ap (λ (t : Bool). choose t (Some (i, get_or ws i 0)) None) (lt-ltb i (length ws) h))
+
+pub found_none : (ws : List ℕ) (i k : ℕ) → i ≡ k → length ws ≤ i → None ≡ word_found ws k
+unfolding word_found
+found_none ws i k e h = sym (ap (word_found ws) (sym e) ∙ ap (λ (t : Bool). choose t (Some (i, get_or ws i 0)) None) (le-ltb i (length ws) h))
 
 -- ---- the length without trailing zero words
 
@@ -117,3 +122,17 @@ zero_is ws i e =
   where
     other : ℕ → ℕ → Bool
     other x k = not (eqb (get_or ws k 0) x)
+
+-- and nothing is found
+pub none_found : (ws : List ℕ) (r : Option (ℕ × ℕ)) (b : Bool) → r ≡ word_found ws (first_other 0 ws) → is_some r ≡ not b → b ≡ is_zero ws
+none_found ws r b e f =
+    by_lt k (length ws)
+    (λ l.
+    not-true b (sym f ∙ ap is_some (e ∙ sym (found_at ws k k refl l)))
+    ∙ sym (ne_eqb k (length ws) (λ q. omega arith)) ∙ zero_is ws k refl)
+    (λ l.
+    not-false b (sym f ∙ ap is_some (e ∙ sym (found_none ws k k refl l)))
+    ∙ sym (eq-eqb k (length ws) (omega (arith, first_other_le 0 ws))) ∙ zero_is ws k refl)
+  where
+    k : ℕ
+    k = first_other 0 ws

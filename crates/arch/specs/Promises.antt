@@ -1,10 +1,9 @@
 -- What the kernels' definitions promise, in words of their own. Each is proved in proofs/Promises.
-use Rattle.std.specs.Prelude.{◌≡◌, ℕ, suc, ◌-◌, ◌*◌, ◌%◌, ◌^◌, ◌<◌, ◌≤◌, Bool, true, false, ◌⊎◌, List, length, slice_index}
+use Rattle.std.specs.Prelude.{◌≡◌, ℕ, suc, ◌-◌, ◌*◌, ◌%◌, ◌^◌, ◌<◌, ◌≤◌, Bool, true, false, ◌⊎◌, List, length, Option, slice_index}
 use Rattle.word.specs.Sets.{count_below, Counts}
 use Rattle.word.specs.Places.{member}
 use Rattle.word.specs.Words.{all_ones}
 use Rattle.arch.specs.Scans.{Alike, first_other, word_found, word_flag, word_index, word_there, nonzero_len, is_zero, count_set, filled_words, filled}
-use Rattle.arch.specs.declared.FoundWord.{FoundWord}
 
 -- by the flag f, the index k and the word w of an answer: a word found is there, is other than x, and no word before it is;
 -- nothing is found only where every word is x
@@ -15,12 +14,12 @@ FirstOther x ws f k w =
 -- `first_nonzero`
 abbrev pub FirstNonzeroMeans : Type 0
 FirstNonzeroMeans =
-    (ws : List ℕ) (r : FoundWord) → r ≡ word_found ws (first_other 0 ws) → FirstOther 0 ws (word_flag r) (word_index r) (word_there r)
+    (ws : List ℕ) (r : Option (ℕ × ℕ)) → r ≡ word_found ws (first_other 0 ws) → FirstOther 0 ws (word_flag r) (word_index r) (word_there r)
 
 -- `first_not_ones`
 abbrev pub FirstNotOnesMeans : Type 0
 FirstNotOnesMeans =
-    (ws : List ℕ) (r : FoundWord) → r ≡ word_found ws (first_other all_ones ws) → FirstOther (2 ^ 64 - 1) ws (word_flag r) (word_index r) (word_there r)
+    (ws : List ℕ) (r : Option (ℕ × ℕ)) → r ≡ word_found ws (first_other all_ones ws) → FirstOther (2 ^ 64 - 1) ws (word_flag r) (word_index r) (word_there r)
 
 -- n words are left without trailing zeros: the last of them is not 0, and every word from n on is
 pub record EndsNonzero (ws : List ℕ) (n : ℕ) : Type 0 where

@@ -1,9 +1,7 @@
 -- What the kernels of arch.rs make of a list of words. Each is total: an empty list and a region that is not there have an answer.
-use Rattle.std.specs.Prelude.{◌≡◌, ℕ, ◌*◌, ◌%◌, ◌^◌, ◌<◌, ◌≤◌, Bool, not, ◌&&◌, List, length, ◌==◌, nat_le, nat_lt, slice_index}
+use Rattle.std.specs.Prelude.{◌≡◌, ℕ, ◌*◌, ◌%◌, ◌^◌, ◌<◌, ◌≤◌, Bool, not, ◌&&◌, List, length, Option, Some, None, ◌==◌, nat_le, nat_lt, slice_index}
 use Rattle.word.specs.Sets.{choose, count_below, least_from, top_below}
 use Rattle.word.specs.Places.{member, tab_from, words_of}
-use Rattle.arch.specs.declared.FoundWord.{FoundWord}
-use Rattle.arch.specs.declared.FoundWord.TheVariants.{At, Nothing}
 
 -- the words from index a on, below e, are all x
 pub record Alike (ws : List ℕ) (x a e : ℕ) : Type 0 where
@@ -14,21 +12,21 @@ unfoldable pub first_other : ℕ → List ℕ → ℕ
 first_other x ws = least_from (λ k. not (slice_index ws k == x)) 0 (length ws)
 
 -- index k with its word, or nothing past the end
-unfoldable pub word_found : List ℕ → ℕ → FoundWord
-word_found ws k = choose (nat_lt k (length ws)) (At k (slice_index ws k)) Nothing
+unfoldable pub word_found : List ℕ → ℕ → Option (ℕ × ℕ)
+word_found ws k = choose (nat_lt k (length ws)) (Some (k, slice_index ws k)) None
 
 -- of a word found its flag, 1, its index and the word itself; where nothing is found all three are 0
-abbrev pub word_flag : FoundWord → ℕ
-word_flag (At k w) = 1
-word_flag Nothing = 0
+abbrev pub word_flag : Option (ℕ × ℕ) → ℕ
+word_flag (Some (k, w)) = 1
+word_flag None = 0
 
-abbrev pub word_index : FoundWord → ℕ
-word_index (At k w) = k
-word_index Nothing = 0
+abbrev pub word_index : Option (ℕ × ℕ) → ℕ
+word_index (Some (k, w)) = k
+word_index None = 0
 
-abbrev pub word_there : FoundWord → ℕ
-word_there (At k w) = w
-word_there Nothing = 0
+abbrev pub word_there : Option (ℕ × ℕ) → ℕ
+word_there (Some (k, w)) = w
+word_there None = 0
 
 -- the length without trailing zero words
 unfoldable pub nonzero_len : List ℕ → ℕ

@@ -11,145 +11,100 @@ ghost use Rattle.arch.specs.Kernels.{places_in, filled_places};
 
 use word::Word;
 
-// A word found in a slice, with its index.
-#[derive(Clone, Copy)]
-pub enum FoundWord {
-    At(usize, u64),
-    Nothing,
-}
-
 // Word k; 0 past the end.
 pub fn word_at(words: &[u64], k: usize) -> u64
     ensures { result ≡ slice_index words.now k }
 {
-    if k < words.len() { words[k] } else { 0 }
+    words.get(k).copied().unwrap_or(0)
 }
 
-// Some bit is set where one of the eight words from i on is not x.
-fn others_in_eight(words: &[u64], i: usize, x: u64) -> u64
-    requires { i + 8 ≤ length words.now }
-    ensures { result ≡ 0 → Alike words.now x i (i + 8) }
+// Some bit is set where one of the eight words is not x.
+fn others(eight: &[u64; 8], x: u64) -> u64
+    ensures { result ≡ 0 → Alike eight.now x 0 8 }
 {
-    (words[i] ^ x)
-        | (words[i + 1] ^ x)
-        | (words[i + 2] ^ x)
-        | (words[i + 3] ^ x)
-        | (words[i + 4] ^ x)
-        | (words[i + 5] ^ x)
-        | (words[i + 6] ^ x)
-        | (words[i + 7] ^ x)
+    let mut some = 0;
+    for word in eight {
+        some |= *word ^ x;
+    }
+    some
 }
 
 // How many words from the start are x, as far as eights tell.
 fn equal_eights(words: &[u64], x: u64) -> usize
     ensures { (result ≤ length words.now) × Alike words.now x 0 result }
 {
-    let n = words.len();
-    let mut i = 0;
-    while n - i >= 8 {
-        if others_in_eight(words, i, x) != 0 {
-            return i;
-        }
-        i += 8;
-    }
-    i
+    let (eights, _) = words.as_chunks::<8>();
+    let passed = eights.iter().position(|eight| others(eight, x) != 0);
+    8 * passed.unwrap_or(eights.len())
 }
 
-// The index of the first word other than x, or the length. Long scans test eight words at a time.
-fn first_other(words: &[u64], x: u64) -> usize
-    ensures { result ≡ first_other x words.now }
+// The first word other than x, with its index. Long scans test eight words at a time.
+fn first_other(words: &[u64], x: u64) -> Option<(usize, u64)>
+    ensures { result ≡ word_found words.now (first_other x words.now) }
 {
-    let mut i = equal_eights(words, x);
-    while i < words.len() {
-        if words[i] != x {
-            return i;
-        }
-        i += 1;
-    }
-    words.len()
+    let passed = equal_eights(words, x);
+    let rest = &words[passed..];
+    let i = passed + rest.iter().position(|word| *word != x)?;
+    Some((i, words[i]))
 }
 
 // The first word that is not zero, with its index.
-pub fn first_nonzero(words: &[u64]) -> FoundWord
+pub fn first_nonzero(words: &[u64]) -> Option<(usize, u64)>
     ensures { result ≡ word_found words.now (first_other 0 words.now) }
 {
-    let i = first_other(words, 0);
-    if i < words.len() {
-        FoundWord::At(i, words[i])
-    } else {
-        FoundWord::Nothing
-    }
+    first_other(words, 0)
 }
 
 // The first word that is not all ones, with its index.
-pub fn first_not_ones(words: &[u64]) -> FoundWord
+pub fn first_not_ones(words: &[u64]) -> Option<(usize, u64)>
     ensures { result ≡ word_found words.now (first_other all_ones words.now) }
 {
-    let i = first_other(words, Word::ONES);
-    if i < words.len() {
-        FoundWord::At(i, words[i])
-    } else {
-        FoundWord::Nothing
-    }
+    first_other(words, Word::ONES)
 }
 
 // An index from which on every word is zero, as far as eights tell.
 fn zero_eights(words: &[u64]) -> usize
     ensures { (result ≤ length words.now) × Alike words.now 0 result (length words.now) }
 {
-    let mut end = words.len();
-    while end >= 8 {
-        if others_in_eight(words, end - 8, 0) != 0 {
-            return end;
-        }
-        end -= 8;
+    let (rest, eights) = words.as_rchunks::<8>();
+    match eights.iter().rposition(|eight| others(eight, 0) != 0) {
+        Some(last) => rest.len() + 8 * (last + 1),
+        None => rest.len(),
     }
-    end
 }
 
 // The length without trailing zero words.
 pub fn nonzero_len(words: &[u64]) -> usize
     ensures { result ≡ nonzero_len words.now }
 {
-    let mut end = zero_eights(words);
-    while end > 0 {
-        if words[end - 1] != 0 {
-            return end;
-        }
-        end -= 1;
+    let end = zero_eights(words);
+    match words[..end].iter().rposition(|word| *word != 0) {
+        Some(last) => last + 1,
+        None => 0,
     }
-    0
 }
 
 // Is every word zero?
 pub fn is_zero(words: &[u64]) -> bool
     ensures { result ≡ is_zero words.now }
 {
-    first_other(words, 0) == words.len()
+    first_nonzero(words).is_none()
 }
 
 // The number of set bits, of which the low 64 bits are kept: a store within the limit has fewer.
 pub fn count_set_bits(words: &[u64]) -> usize
     ensures { result ≡ count_set words.now }
 {
-    let mut n: usize = 0;
-    let mut i = 0;
-    while i < words.len() {
-        n = std::num::wrapping_add_usize(n, Word::count_ones(words[i]));
-        i += 1;
-    }
-    n
+    words.iter().fold(0, |n: usize, word| n.wrapping_add(Word::count_ones(*word)))
 }
 
 // The words from index a on, below e, become x, as far as they are there.
 pub fn fill_words(words: &mut [u64], a: usize, e: usize, x: u64)
     ensures { words.new ≡ filled_words a e x words.old }
 {
-    let end = word::min(e, words.len());
-    let mut i = a;
-    while i < end {
-        words[i] = x;
-        i += 1;
+    let end = e.min(words.len());
+    if a < end {
+        words[a..end].fill(x);
     }
 }
 
@@ -165,21 +120,20 @@ fn places(from: usize, end: usize, k: usize) -> u64
     requires { 64 * k < 2 ^ 64 }
     ensures { result ≡ places_in from end k }
 {
-    let below = Word::low_mask(word::saturating_sub(from, 64 * k));
-    Word::low_mask(word::saturating_sub(end, 64 * k)) & !below
+    let below = Word::low_mask(from.saturating_sub(64 * k));
+    Word::low_mask(end.saturating_sub(64 * k)) & !below
 }
 
 // Word k with `value` at the places of the mask, if the word is there.
 fn overlay(words: &mut [u64], k: usize, mask: u64, value: bool)
     ensures { words.new ≡ slice_set words.old k (filled_places (slice_index words.old k) mask value) }
 {
-    if k >= words.len() {
-        return;
-    }
-    if value {
-        words[k] = words[k] | mask;
-    } else {
-        words[k] = words[k] & !mask;
+    if k < words.len() {
+        if value {
+            words[k] |= mask;
+        } else {
+            words[k] &= !mask;
+        }
     }
 }
 

@@ -15,8 +15,6 @@ use Rattle.storage.specs.Stores.{Bits, Outcome, done, with_count, view, held, in
 use Rattle.storage.specs.Guards.{Passed}
 use Rattle.storage.specs.declared.Bitmap.{Bitmap}
 use Rattle.storage.specs.declared.Refusal.TheVariants.{WidthOver, IndexOver, NoSpace}
-use Rattle.storage.specs.declared.Change.{Change}
-use Rattle.storage.specs.declared.Change.TheVariants.{Done, Refused}
 use Rattle.storage.proofs.Checks.{within_ok, within_no}
 use Rattle.storage.proofs.Views.{view_in}
 use Rattle.storage.proofs.Stores.{Stored, written_stored, outcome_ok, changes_done, changes-refused, changes-same}
@@ -26,6 +24,8 @@ use Rattle.slice.proofs.Fields.{low_digits}
 use Rattle.slice.proofs.Stricts.{setting_in}
 use Rattle.bitmaps.specs.Bitmaps.{setting_region, setting_field}
 use Rattle.bitmaps.proofs.Cases.{Some, field-wide, field-over, field_some, field_cleared}
+use Rattle.storage.specs.Refusals.{Change, refusing}
+use Rattle.std.specs.Prelude.{Ok}
 
 -- what a mask leaves of the value
 masked : (value width mask : ℕ) → value < 2 ^ 64 → width ≤ 64 → mask ≡ low_mask 64 width → bit_and value mask ≡ value % 2 ^ width
@@ -42,7 +42,7 @@ some_digit value width mask h l e n = record {
 
 -- a strict field that was done, by its words
 strict_done : (z ws' : List ℕ) (b : Bitmap) (i value width : ℕ) (r : Change) → Passed z b → 0 < width → width ≤ 64 → i + width ≤ 64 * b.count
-    → Changes (setting_field_inside i value width) z b r ws' → (r ≡ Done b) × Stored z b.count (with_field i value width (held z b)) ws'
+    → Changes (setting_field_inside i value width) z b r ws' → (r ≡ Ok b) × Stored z b.count (with_field i value width (held z b)) ws'
 unfolding answer store with_field view
 strict_done z ws' b i value width r p pos wide end l = (
   l.answers ∙ ap (λ (o : Outcome). answer o b) e,
@@ -56,7 +56,7 @@ strict_done z ws' b i value width r p pos wide end l = (
     e = outcome_ok (setting_field_inside i value width) z b p ∙ setting_in z b i value width p pos wide end
 
 module _ (ws : List ℕ) (b : Bitmap) (i value width : ℕ) (p : Passed ws b) where
-  pub wide-changes : 64 < width → Changes (setting_field i value width) ws b (Refused WidthOver b) ws
+  pub wide-changes : 64 < width → Changes (setting_field i value width) ws b (refusing b WidthOver) ws
   wide-changes h = changes-refused (setting_field i value width) ws b WidthOver p (field-wide i value width (length ws) (view ws b.count) h)
 
   pub zeros-changes : (mask : ℕ) (r : Change) (ws' : List ℕ) → value < 2 ^ 64 → width ≤ 64 → mask ≡ low_mask 64 width → bit_and value mask ≡ 0
@@ -66,13 +66,13 @@ module _ (ws : List ℕ) (b : Bitmap) (i value width : ℕ) (p : Passed ws b) wh
       (field_cleared i value width (length ws) (view ws b.count) l (sym (masked value width mask v l e) ∙ z)) h
 
   module _ (d : Some value width) where
-    pub over-changes : 2 ^ 64 ≤ i + (width - 1) → Changes (setting_field i value width) ws b (Refused IndexOver b) ws
+    pub over-changes : 2 ^ 64 ≤ i + (width - 1) → Changes (setting_field i value width) ws b (refusing b IndexOver) ws
     over-changes h =
         changes-refused (setting_field i value width) ws b IndexOver p
         (field-over i value width (length ws) (view ws b.count) d.wide (omega (arith, d.pos)) (omega (arith, d.pos)))
 
     module _ (w : ℕ) (low : i + (width - 1) < 2 ^ 64) (ew : w ≡ (i + (width - 1)) / 64) where
-      pub no_space_changes : length ws ≤ w → Changes (setting_field i value width) ws b (Refused NoSpace b) ws
+      pub no_space_changes : length ws ≤ w → Changes (setting_field i value width) ws b (refusing b NoSpace) ws
       no_space_changes h =
           changes-refused (setting_field i value width) ws b NoSpace p
           (field_some i value width (length ws) (view ws b.count) d (omega (arith, d.pos)) ∙ within_no (length ws) _ (omega (arith, d.pos)))
@@ -101,5 +101,5 @@ module _ (ws : List ℕ) (b : Bitmap) (i value width : ℕ) (p : Passed ws b) wh
           word : (i + width - 1) / 64 ≡ w
           word = omega (arith, d.pos)
 
-          t : (r ≡ Done (with_count b m)) × Stored z m (with_field i value width (view z m)) ws'
+          t : (r ≡ Ok (with_count b m)) × Stored z m (with_field i value width (view z m)) ws'
           t = strict_done z ws' (with_count b m) i value width r (passed_grown ws z b (w + 1) m p ez em (omega arith)) d.pos d.wide (omega (arith, word)) l

@@ -3,3 +3,4 @@ pub mod Tidies
 pub mod Many
 pub mod Regions
 pub mod Fields
+pub mod Grows

@@ -1,6 +1,6 @@
 -- Listed bits set, one after the other.
 use mathlib.Core.Path.{◌≡◌, refl, sym, ap, ap₂, ◌∙◌, subst}
-use mathlib.Core.Bool.{Bool, true, false, ◌||◌}
+use mathlib.Core.Bool.{Bool, ◌||◌}
 use mathlib.Core.List.{List, [], ◌∷◌}
 use mathlib.Core.Logic.{inl, inr}
 use Prim.Native.Nat.{ℕ, zero, suc, ◌+◌, ◌*◌, ◌/◌, ◌%◌, ◌^◌, ◌≤◌, ◌<◌, max}
@@ -21,24 +21,23 @@ use Rattle.storage.specs.Stores.{with_count, Bits, view, zeroed, Changes}
 use Rattle.storage.specs.Guards.{Passed}
 use Rattle.storage.specs.declared.Bitmap.{Bitmap}
 use Rattle.storage.specs.declared.Refusal.TheVariants.{NoSpace}
-use Rattle.storage.specs.declared.Change.TheVariants.{Done, Refused}
 use Rattle.storage.proofs.Checks.{within_ok, within_no}
 use Rattle.storage.proofs.Views.{view-count}
 use Rattle.storage.proofs.Stores.{changes_done, changes-refused, length-zeroed, zeroed_out, zeroed_fit, grown-bit}
 use Rattle.bitmaps.specs.Bitmaps.{is_listed, reach_of, setting_many}
 use Rattle.bitmap.specs.Kernels.{SetsListed}
+use Rattle.storage.specs.Refusals.{refusing}
+use Rattle.std.specs.Prelude.{Ok}
+use Rattle.std.specs.List.{fold}
+use Rattle.std.proofs.Math.Bool.{or_assoc}
 
 -- ---- one more of the list
-
-or_assoc : (x y z : Bool) → x || (y || z) ≡ (x || y) || z
-or_assoc true y z = refl
-or_assoc false y z = refl
 
 listed_more : (is : List ℕ) (t j : ℕ) → t < length is → is_listed (take (suc t) is) j ≡ is_listed (take t is) j || eqb j (get_or is t 0)
 unfolding is_listed
 listed_more [] t j h = absurd (omega arith)
 listed_more (i ∷ is) zero j h = or-false (eqb j i)
-listed_more (i ∷ is) (suc t) j h = ap (λ (x : Bool). eqb j i || x) (listed_more is t j (omega arith)) ∙ or_assoc (eqb j i) (is_listed (take t is) j) (eqb j (get_or is t 0))
+listed_more (i ∷ is) (suc t) j h = ap (λ (x : Bool). eqb j i || x) (listed_more is t j (omega arith)) ∙ sym (or_assoc (eqb j i) (is_listed (take t is) j) (eqb j (get_or is t 0)))
 
 reach-more : (is : List ℕ) (t : ℕ) → t < length is → reach_of (take (suc t) is) ≡ max (reach_of (take t is)) (get_or is t 0 / 64 + 1)
 unfolding reach_of
@@ -46,20 +45,14 @@ reach-more [] t h = absurd (omega arith)
 reach-more (i ∷ is) zero h = omega arith
 reach-more (i ∷ is) (suc t) h = let e = reach-more is t (omega arith) in omega (arith, e)
 
-pub reach-next : (is : List ℕ) (t : ℕ) → t < length is → max (reach_of (take t is)) (get_or is t 0 / 64 + 1) ≡ reach_of (take (t + 1) is)
-reach-next is t h =
-    let e : t + 1 ≡ suc t = omega arith in
-    sym (ap (λ (m : ℕ). reach_of (take m is)) e ∙ reach-more is t h)
-
-pub reach_none : (is : List ℕ) → 0 ≡ reach_of (take 0 is)
+-- by a fold from the front
+reach_fold : (is : List ℕ) (most : ℕ) → fold (λ (m i : ℕ). max m (i / 64 + 1)) most is ≡ max most (reach_of is)
 unfolding reach_of
-reach_none is = refl
+reach_fold [] most = omega arith
+reach_fold (i ∷ is) most = let e = reach_fold is (max most (i / 64 + 1)) in omega (arith, e)
 
-pub take_all : (is : List ℕ) (t : ℕ) → length is ≤ t → take t is ≡ is
-take_all [] zero h = refl
-take_all [] (suc t) h = refl
-take_all (i ∷ is) zero h = absurd (omega arith)
-take_all (i ∷ is) (suc t) h = ap (λ (l : List ℕ). i ∷ l) (take_all is t (omega arith))
+pub reach_folded : (is : List ℕ) → fold (λ (m i : ℕ). max m (i / 64 + 1)) 0 is ≡ reach_of is
+reach_folded is = omega (arith, reach_fold is 0)
 
 pub listed_none : (ws is : List ℕ) → SetsListed ws (take 0 is) ws
 unfolding is_listed
@@ -98,7 +91,7 @@ listed_next ws is ws' t x s h room ex =
 
     or_back : (m j : ℕ) → (bit (get_or ws m 0) j || is_listed (take t is) (64 * m + j)) || eqb (64 * m + j) i ≡ bit (get_or ws m 0) j || is_listed (take (suc t) is) (64 * m + j)
     or_back m j =
-        sym (or_assoc (bit (get_or ws m 0) j) (is_listed (take t is) (64 * m + j)) (eqb (64 * m + j) i))
+        or_assoc (bit (get_or ws m 0) j) (is_listed (take t is) (64 * m + j)) (eqb (64 * m + j) i)
         ∙ ap (λ (y : Bool). bit (get_or ws m 0) j || y) (sym (listed_more is t (64 * m + j) h))
 
     place : (m j : ℕ) → j < 64 → bit (get_or (set ws' k v) m 0) j ≡ (bit (get_or ws m 0) j || is_listed (take t is) (64 * m + j)) || eqb (64 * m + j) i
@@ -116,12 +109,12 @@ listed_next ws is ws' t x s h room ex =
 -- ---- the call
 
 module _ (ws is : List ℕ) (b : Bitmap) (f : Fit ws) (p : Passed ws b) where
-  pub many_refused : length ws < reach_of is → Changes (setting_many is) ws b (Refused NoSpace b) ws
+  pub many_refused : length ws < reach_of is → Changes (setting_many is) ws b (refusing b NoSpace) ws
   unfolding setting_many
   many_refused h = changes-refused (setting_many is) ws b NoSpace p (within_no (length ws) _ (omega arith))
 
   pub many_changes : (z ws' : List ℕ) (e r : ℕ) → e ≡ reach_of is → e ≤ length ws → z ≡ zeroed b.count e ws → SetsListed z is ws' → r ≡ max b.count e
-      → Changes (setting_many is) ws b (Done (with_count b r)) ws'
+      → Changes (setting_many is) ws b (Ok (with_count b r)) ws'
   unfolding setting_many
   many_changes z ws' e r ee h ez t er =
       changes_done (setting_many is) ws b ws' s r p (within_ok (length ws) s (omega (arith, view-count ws n, p.inside)))

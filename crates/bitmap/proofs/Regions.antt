@@ -20,12 +20,13 @@ use Rattle.storage.specs.Stores.{with_count, Bits, view, within, in_region, zero
 use Rattle.storage.specs.Guards.{Passed}
 use Rattle.storage.specs.declared.Bitmap.{Bitmap}
 use Rattle.storage.specs.declared.Refusal.TheVariants.{IndexOver, NoSpace}
-use Rattle.storage.specs.declared.Change.TheVariants.{Done, Refused}
 use Rattle.storage.proofs.Checks.{within_ok, within_no}
 use Rattle.storage.proofs.Views.{view-count, view-part}
 use Rattle.storage.proofs.Stores.{changes_done, changes-refused, keeps_changes, part-changes, length-zeroed, zeroed_out, zeroed_fit, grown-bit}
 use Rattle.bitmaps.specs.Bitmaps.{setting_region}
 use Rattle.bitmaps.proofs.Cases.{region_none, region-over, region-put}
+use Rattle.storage.specs.Refusals.{refusing}
+use Rattle.std.specs.Prelude.{Ok}
 
 -- ---- the filled words
 
@@ -60,15 +61,15 @@ filled-past a e v ws k f h =
 -- ---- the call
 
 module _ (ws : List ℕ) (b : Bitmap) (i k : ℕ) (f : Fit ws) (p : Passed ws b) where
-  pub region-nothing : (v : Bool) → k ≡ 0 → Changes (setting_region i v k) ws b (Done b) ws
+  pub region-nothing : (v : Bool) → k ≡ 0 → Changes (setting_region i v k) ws b (Ok b) ws
   region-nothing v e = keeps_changes (setting_region i v k) ws b f p (region_none i k (length ws) v (view ws b.count) e)
 
-  pub region_index_over : (v : Bool) → (k ≡ 0 → ⊥) → 2 ^ 64 < i + k → Changes (setting_region i v k) ws b (Refused IndexOver b) ws
+  pub region_index_over : (v : Bool) → (k ≡ 0 → ⊥) → 2 ^ 64 < i + k → Changes (setting_region i v k) ws b (refusing b IndexOver) ws
   region_index_over v n h = changes-refused (setting_region i v k) ws b IndexOver p (region-over i k (length ws) v (view ws b.count) n h)
 
   module _ (last : ℕ) (some : k ≡ 0 → ⊥) (e : last + 1 ≡ i + k) (low : last < 2 ^ 64) where
     pub region_cleared : (v : Bool) (end : ℕ) (part : List ℕ) → v ≡ false → end ≡ min last (64 * b.count) + 1 → part ≡ filled i end false (take b.count ws)
-        → Changes (setting_region i v k) ws b (Done b) (part ++ drop b.count ws)
+        → Changes (setting_region i v k) ws b (Ok b) (part ++ drop b.count ws)
     unfolding filled
     region_cleared v end part ev ee ep =
         part-changes (setting_region i v k) ws part b (λ q. choose (leb i q && ltb q end) false (member (take b.count ws) q)) s p
@@ -89,7 +90,7 @@ module _ (ws : List ℕ) (b : Bitmap) (i k : ℕ) (f : Fit ws) (p : Passed ws b)
         same : (q : ℕ) → q < 64 * b.count → ltb q end ≡ ltb q (i + k)
         same q l = by_lt q end (λ a. lt-ltb q end a ∙ sym (lt-ltb q (i + k) (omega arith))) (λ a. le-ltb q end a ∙ sym (le-ltb q (i + k) (omega arith)))
 
-    pub region_no_space : (v : Bool) → v ≡ true → length ws ≤ last / 64 → Changes (setting_region i v k) ws b (Refused NoSpace b) ws
+    pub region_no_space : (v : Bool) → v ≡ true → length ws ≤ last / 64 → Changes (setting_region i v k) ws b (refusing b NoSpace) ws
     region_no_space v ev h =
         changes-refused (setting_region i v k) ws b NoSpace p
         (region-put i k (length ws) v (view ws b.count) some (omega arith) ∙ within_no (length ws) _ big)
@@ -101,7 +102,7 @@ module _ (ws : List ℕ) (b : Bitmap) (i k : ℕ) (f : Fit ws) (p : Passed ws b)
         big = subst (λ (t : Bool). length ws < choose t (max (view ws b.count).count ((i + k - 1) / 64 + 1)) (view ws b.count).count) (sym ev) (omega (arith, word))
 
     pub region-set : (v : Bool) (z ws' : List ℕ) (r : ℕ) → v ≡ true → last / 64 < length ws → z ≡ zeroed b.count (last / 64 + 1) ws → ws' ≡ filled i (last + 1) true z
-        → r ≡ max b.count (last / 64 + 1) → Changes (setting_region i v k) ws b (Done (with_count b r)) ws'
+        → r ≡ max b.count (last / 64 + 1) → Changes (setting_region i v k) ws b (Ok (with_count b r)) ws'
     region-set v z ws' r ev h ez ew er =
         changes_done (setting_region i v k) ws b ws' s r p
         (region-put i k (length ws) v (view ws b.count) some (omega arith)

@@ -20,16 +20,17 @@ use Rattle.storage.specs.Stores.{with_count, Bits, view, trimmed, zeroed, Change
 use Rattle.storage.specs.Guards.{Passed}
 use Rattle.storage.specs.declared.Bitmap.{Bitmap}
 use Rattle.storage.specs.declared.Refusal.TheVariants.{NoSpace}
-use Rattle.storage.specs.declared.Change.TheVariants.{Done, Refused}
 use Rattle.storage.proofs.Checks.{within_ok, within_no}
 use Rattle.storage.proofs.Views.{view-count, view_in, view_out}
 use Rattle.storage.proofs.Stores.{changes_done, changes-refused, word_stored}
 use Rattle.storage.proofs.Grown.{grown_fit, grown-at, grown-word}
 use Rattle.storage.proofs.Trims.{trimmed-length, trimmed_stored}
 use Rattle.bitmaps.specs.Bitmaps.{trimming, setting, without, unsetting}
+use Rattle.storage.specs.Refusals.{refusing}
+use Rattle.std.specs.Prelude.{Ok}
 
 pub trim-changes : (ws : List ℕ) (b : Bitmap) (r : ℕ) → Fit ws → Passed ws b → r ≡ nonzero_len (take b.count ws)
-    → Changes trimming ws b (Done (with_count b r)) ws
+    → Changes trimming ws b (Ok (with_count b r)) ws
 unfolding trimming
 trim-changes ws b r f p e =
     changes_done trimming ws b ws (trimmed (view ws n)) r p refl
@@ -42,12 +43,12 @@ trim-changes ws b r f p e =
 -- ---- a bit set
 
 module _ (ws : List ℕ) (b : Bitmap) (i : ℕ) (f : Fit ws) (p : Passed ws b) where
-  pub set-refused : length ws ≤ i / 64 → Changes (setting i) ws b (Refused NoSpace b) ws
+  pub set-refused : length ws ≤ i / 64 → Changes (setting i) ws b (refusing b NoSpace) ws
   unfolding setting
   set-refused h = changes-refused (setting i) ws b NoSpace p (within_no (length ws) _ (omega arith))
 
   pub set-changes : (z : List ℕ) (x r : ℕ) → i / 64 < length ws → z ≡ zeroed b.count (i / 64 + 1) ws → x ≡ single 64 (i % 64) → r ≡ max b.count (i / 64 + 1)
-      → Changes (setting i) ws b (Done (with_count b r)) (set z (i / 64) (bit_or (get_or z (i / 64) 0) x))
+      → Changes (setting i) ws b (Ok (with_count b r)) (set z (i / 64) (bit_or (get_or z (i / 64) 0) x))
   unfolding setting
   set-changes z x r h ez ex er =
       changes_done (setting i) ws b (set z k v) s r p (within_ok (length ws) s (omega (arith, view-count ws n, p.inside)))
@@ -74,7 +75,7 @@ module _ (ws : List ℕ) (b : Bitmap) (i : ℕ) (f : Fit ws) (p : Passed ws b) w
 
   -- ---- a bit cleared
 
-  pub unset-past : b.count ≤ i / 64 → Changes (unsetting i) ws b (Done b) ws
+  pub unset-past : b.count ≤ i / 64 → Changes (unsetting i) ws b (Ok b) ws
   unfolding unsetting
   unset-past h =
       changes_done (unsetting i) ws b ws _ b.count p refl
@@ -91,7 +92,7 @@ module _ (ws : List ℕ) (b : Bitmap) (i : ℕ) (f : Fit ws) (p : Passed ws b) w
       (sym (view-count ws b.count))
 
   pub unset-changes : (x : ℕ) → i / 64 < b.count → x ≡ single 64 (i % 64)
-      → Changes (unsetting i) ws b (Done b) (set ws (i / 64) (bit_and (get_or ws (i / 64) 0) ((2 ^ 64 - 1) - x)))
+      → Changes (unsetting i) ws b (Ok b) (set ws (i / 64) (bit_and (get_or ws (i / 64) 0) ((2 ^ 64 - 1) - x)))
   unfolding unsetting
   unset-changes x h ex =
       changes_done (unsetting i) ws b (set ws k v) _ n p refl

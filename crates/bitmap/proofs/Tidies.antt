@@ -1,5 +1,5 @@
 -- One word worked on, and the count trimmed where it is the last and is 0.
-use mathlib.Core.Path.{◌≡◌, refl, sym, ap, ap₂, ◌∙◌, subst}
+use mathlib.Core.Path.{◌≡◌, refl, sym, ap, ap₂, ◌∙◌, subst, fun_ext}
 use mathlib.Core.Bool.{Bool, true, false, not, ◌&&◌, ◌||◌, false≢true}
 use mathlib.Core.List.{List}
 use Prim.Native.Nat.{ℕ, suc, ◌+◌, ◌-◌, ◌*◌, ◌/◌, ◌%◌, ◌^◌, ◌≤◌, ◌<◌, max}
@@ -8,7 +8,6 @@ use lib.ListN.{length, get_or, set, take, length-set}
 use lib.Seq.{get_or-set_other, length-take-le}
 use lib.Dec.{eqb}
 use lib.Bits.{bit_and, bit_xor, and_lt}
-use lib.Pow.{ones_sub-lt}
 use borrow.Author.Tests.{eq-eqb, ne_eqb, eqb-true}
 use Rattle.word.specs.Sets.{choose, xorb}
 use Rattle.word.specs.Places.{bit, word_of}
@@ -20,18 +19,19 @@ use Rattle.word.proofs.Lists.{Fit}
 use Rattle.word.proofs.Sweep.{get_d_set}
 use Rattle.arch.specs.Scans.{nonzero_len}
 use Rattle.arch.proofs.Scans.{nonzero_le}
-use Rattle.storage.specs.Stores.{with_count, Bits, done, Op, view, within, flipped, trimmed, zeroed, Changes}
+use Rattle.storage.specs.Stores.{with_count, Bits, done, Op, Space, view, within, flipped, trimmed, zeroed, Changes}
 use Rattle.storage.specs.Guards.{Passed}
 use Rattle.storage.specs.declared.Bitmap.{Bitmap}
 use Rattle.storage.specs.declared.Refusal.TheVariants.{NoSpace}
-use Rattle.storage.specs.declared.Change.TheVariants.{Done, Refused}
 use Rattle.storage.proofs.Checks.{within_ok, within_no}
 use Rattle.storage.proofs.Views.{view-count, view_in, view_out}
 use Rattle.storage.proofs.Stores.{Stored, changes_done, changes-refused, word_stored}
 use Rattle.storage.proofs.Grown.{flip_stored}
 use Rattle.storage.proofs.Trims.{trimmed-length, trimmed_stored}
 use Rattle.bitmaps.specs.Bitmaps.{tidied, keeping_bit, dropping_bit, flipping_bit}
-use Rattle.bitmap.specs.Kernels.{tidy_count}
+use Rattle.bitmap.specs.Kernels.{tidy_count, masking}
+use Rattle.storage.specs.Refusals.{refusing}
+use Rattle.std.specs.Prelude.{Ok}
 
 -- ---- the count
 
@@ -107,7 +107,7 @@ module _ (ws : List ℕ) (b : Bitmap) (i : ℕ) (f : Fit ws) (p : Passed ws b) w
   in_place : (op : Op) (s : Bits) (v r : ℕ) → i / 64 < b.count → op (length ws) (view ws b.count) ≡ done (tidied (i / 64) s) → s.count ≡ b.count → v < 2 ^ 64
       → ((j : ℕ) → j < 64 → bit v j ≡ s.members (64 * (i / 64) + j))
       → ((m j : ℕ) → (m ≡ i / 64 → ⊥) → j < 64 → (view ws b.count).members (64 * m + j) ≡ s.members (64 * m + j))
-      → r ≡ tidy_count (set ws (i / 64) v) b.count (i / 64) → Changes op ws b (Done (with_count b r)) (set ws (i / 64) v)
+      → r ≡ tidy_count (set ws (i / 64) v) b.count (i / 64) → Changes op ws b (Ok (with_count b r)) (set ws (i / 64) v)
   in_place op s v r h e c hv here there er =
       let st : Stored ws b.count s (set ws (i / 64) v) = word_stored ws b.count (i / 64) v s f p.inside h c hv here there in
       let t = tidied_stored ws (set ws (i / 64) v) b.count (i / 64) b.count s (fit_set v hv) c (omega arith)
@@ -122,7 +122,7 @@ module _ (ws : List ℕ) (b : Bitmap) (i : ℕ) (f : Fit ws) (p : Passed ws b) w
 
   -- past the words in use nothing is worked on
   untouched : (op : Op) (s : Bits) → b.count ≤ i / 64 → op (length ws) (view ws b.count) ≡ done (tidied (i / 64) s) → s.count ≡ b.count
-      → ((m j : ℕ) → m < b.count → j < 64 → (view ws b.count).members (64 * m + j) ≡ s.members (64 * m + j)) → Changes op ws b (Done b) ws
+      → ((m j : ℕ) → m < b.count → j < 64 → (view ws b.count).members (64 * m + j) ≡ s.members (64 * m + j)) → Changes op ws b (Ok b) ws
   unfolding tidied
   untouched op s h e c same =
       changes_done op ws b ws s b.count p
@@ -136,60 +136,36 @@ module _ (ws : List ℕ) (b : Bitmap) (i : ℕ) (f : Fit ws) (p : Passed ws b) w
       })
       (sym c)
 
-  bit_here : (x j : ℕ) → x ≡ single 64 (i % 64) → j < 64 → bit x j ≡ eqb (64 * (i / 64) + j) i
-  bit_here x j ex l =
-      ap (λ (y : ℕ). bit y j) ex ∙ bit-single 64 (i % 64) j l ∙ eqb_same j (i % 64) (64 * (i / 64) + j) i (λ q. omega arith) (λ q. omega arith)
+  -- the places of a mask kept
+  keep_here : (t : Bool) (mask j : ℕ) → j < 64
+      → t && bit mask j ≡ t && (not (eqb ((64 * (i / 64) + j) / 64) (i / 64)) || bit mask ((64 * (i / 64) + j) % 64))
+  keep_here t mask j l =
+      let e : j ≡ (64 * (i / 64) + j) % 64 = omega arith in
+      ap (λ (x : ℕ). t && bit mask x) e
+      ∙ ap (λ (u : Bool). t && (not u || bit mask ((64 * (i / 64) + j) % 64))) (sym (eq-eqb ((64 * (i / 64) + j) / 64) (i / 64) (omega arith)))
 
-  x_lt : (x : ℕ) → x ≡ single 64 (i % 64) → x < 2 ^ 64
-  x_lt x ex = subst (λ (y : ℕ). y < 2 ^ 64) (sym ex) (single-lt 64 (i % 64))
+  keep_there : (t : Bool) (mask m j : ℕ) → (m ≡ i / 64 → ⊥) → j < 64 → t ≡ t && (not (eqb ((64 * m + j) / 64) (i / 64)) || bit mask ((64 * m + j) % 64))
+  keep_there t mask m j q l = sym (ap (λ (u : Bool). t && (not u || bit mask ((64 * m + j) % 64))) (ne_eqb ((64 * m + j) / 64) (i / 64) (omega arith)) ∙ and-keep t)
 
-  -- `andi`
-  keep_here : (t : Bool) (j : ℕ) → j < 64 → t && eqb (64 * (i / 64) + j) i ≡ t && (not (eqb ((64 * (i / 64) + j) / 64) (i / 64)) || eqb (64 * (i / 64) + j) i)
-  keep_here t j l = ap (λ (u : Bool). t && (not u || eqb (64 * (i / 64) + j) i)) (sym (eq-eqb ((64 * (i / 64) + j) / 64) (i / 64) (omega arith)))
-
-  keep_there : (t : Bool) (m j : ℕ) → (m ≡ i / 64 → ⊥) → j < 64 → t ≡ t && (not (eqb ((64 * m + j) / 64) (i / 64)) || eqb (64 * m + j) i)
-  keep_there t m j q l = sym (ap (λ (u : Bool). t && (not u || eqb (64 * m + j) i)) (ne_eqb ((64 * m + j) / 64) (i / 64) (omega arith)) ∙ and-keep t)
-
-  pub andi-changes : (x r : ℕ) → i / 64 < b.count → x ≡ single 64 (i % 64) → r ≡ tidy_count (set ws (i / 64) (bit_and (get_or ws (i / 64) 0) x)) b.count (i / 64)
-      → Changes (keeping_bit i) ws b (Done (with_count b r)) (set ws (i / 64) (bit_and (get_or ws (i / 64) 0) x))
-  unfolding keeping_bit
-  andi-changes x r h ex er =
-      in_place (keeping_bit i) _ (bit_and (get_or ws (i / 64) 0) x) r h refl (view-count ws b.count) (and_lt 64 (get_or ws (i / 64) 0) x (f (i / 64)) (x_lt x ex))
+  pub keep-changes : (mask r : ℕ) → mask < 2 ^ 64 → i / 64 < b.count → r ≡ tidy_count (set ws (i / 64) (bit_and (get_or ws (i / 64) 0) mask)) b.count (i / 64)
+      → Changes (masking i mask) ws b (Ok (with_count b r)) (set ws (i / 64) (bit_and (get_or ws (i / 64) 0) mask))
+  unfolding masking
+  keep-changes mask r fit h er =
+      in_place (masking i mask) _ (bit_and (get_or ws (i / 64) 0) mask) r h refl (view-count ws b.count) (and_lt 64 (get_or ws (i / 64) 0) mask (f (i / 64)) fit)
       (λ j l.
-      bit-and (get_or ws (i / 64) 0) x j ∙ ap₂ (λ (s t : Bool). s && t) (sym (view_in ws b.count (i / 64) j h l)) (bit_here x j ex l)
-      ∙ keep_here ((view ws b.count).members (64 * (i / 64) + j)) j l)
-      (λ m j q l. keep_there ((view ws b.count).members (64 * m + j)) m j q l) er
+      bit-and (get_or ws (i / 64) 0) mask j ∙ ap (λ (s : Bool). s && bit mask j) (sym (view_in ws b.count (i / 64) j h l))
+      ∙ keep_here ((view ws b.count).members (64 * (i / 64) + j)) mask j l)
+      (λ m j q l. keep_there ((view ws b.count).members (64 * m + j)) mask m j q l) er
 
-  pub andi-past : b.count ≤ i / 64 → Changes (keeping_bit i) ws b (Done b) ws
-  unfolding keeping_bit
-  andi-past h =
-      untouched (keeping_bit i) _ h refl (view-count ws b.count) (λ m j l q. keep_there ((view ws b.count).members (64 * m + j)) m j (omega arith) q)
-
-  -- `andnoti`
-  drop_there : (t : Bool) (m j : ℕ) → (m ≡ i / 64 → ⊥) → j < 64 → t ≡ t && not (eqb (64 * m + j) i)
-  drop_there t m j q l = sym (ap (λ (u : Bool). t && not u) (ne_eqb (64 * m + j) i (omega arith)) ∙ and-keep t)
-
-  pub andnoti-changes : (x r : ℕ) → i / 64 < b.count → x ≡ single 64 (i % 64)
-      → r ≡ tidy_count (set ws (i / 64) (bit_and (get_or ws (i / 64) 0) ((2 ^ 64 - 1) - x))) b.count (i / 64)
-      → Changes (dropping_bit i) ws b (Done (with_count b r)) (set ws (i / 64) (bit_and (get_or ws (i / 64) 0) ((2 ^ 64 - 1) - x)))
-  unfolding dropping_bit
-  andnoti-changes x r h ex er =
-      in_place (dropping_bit i) _ (bit_and (get_or ws (i / 64) 0) ((2 ^ 64 - 1) - x)) r h refl (view-count ws b.count)
-      (and_lt 64 (get_or ws (i / 64) 0) ((2 ^ 64 - 1) - x) (f (i / 64)) (ones_sub-lt 64 x))
-      (λ j l.
-      bit-and (get_or ws (i / 64) 0) ((2 ^ 64 - 1) - x) j
-      ∙ ap₂ (λ (s t : Bool). s && t) (sym (view_in ws b.count (i / 64) j h l)) (bit_not x 64 j (x_lt x ex) l ∙ ap not (bit_here x j ex l)))
-      (λ m j q l. drop_there ((view ws b.count).members (64 * m + j)) m j q l) er
-
-  pub andnoti-past : b.count ≤ i / 64 → Changes (dropping_bit i) ws b (Done b) ws
-  unfolding dropping_bit
-  andnoti-past h =
-      untouched (dropping_bit i) _ h refl (view-count ws b.count) (λ m j l q. drop_there ((view ws b.count).members (64 * m + j)) m j (omega arith) q)
+  pub keep-past : (mask : ℕ) → b.count ≤ i / 64 → Changes (masking i mask) ws b (Ok b) ws
+  unfolding masking
+  keep-past mask h =
+      untouched (masking i mask) _ h refl (view-count ws b.count) (λ m j l q. keep_there ((view ws b.count).members (64 * m + j)) mask m j (omega arith) q)
 
   -- `xori`: a word that grew in holds the flipped bit alone, so it is never dropped
   pub xori-changes : (z : List ℕ) (x u r : ℕ) → i / 64 < length ws → z ≡ zeroed b.count (i / 64 + 1) ws → x ≡ single 64 (i % 64) → u ≡ max b.count (i / 64 + 1)
       → r ≡ tidy_count (set z (i / 64) (bit_xor (get_or z (i / 64) 0) x)) u (i / 64)
-      → Changes (flipping_bit i) ws b (Done (with_count b r)) (set z (i / 64) (bit_xor (get_or z (i / 64) 0) x))
+      → Changes (flipping_bit i) ws b (Ok (with_count b r)) (set z (i / 64) (bit_xor (get_or z (i / 64) 0) x))
   unfolding flipping_bit
   xori-changes z x u r h ez ex eu er =
       changes_done (flipping_bit i) ws b ws' (tidied (i / 64) s) r p (within_ok (length ws) (tidied (i / 64) s) (omega (arith, t.1, small))) t.0 (er ∙ t.1)
@@ -225,7 +201,7 @@ module _ (ws : List ℕ) (b : Bitmap) (i : ℕ) (f : Fit ws) (p : Passed ws b) w
       small : tidy_count ws' u (i / 64) ≤ u
       small = tidy_le ws' u (i / 64) (omega (arith, eu, st.long, p.inside))
 
-  pub xori-refused : length ws ≤ i / 64 → Changes (flipping_bit i) ws b (Refused NoSpace b) ws
+  pub xori-refused : length ws ≤ i / 64 → Changes (flipping_bit i) ws b (refusing b NoSpace) ws
   unfolding flipping_bit tidied word_of
   xori-refused h =
       changes-refused (flipping_bit i) ws b NoSpace p
@@ -243,3 +219,37 @@ module _ (ws : List ℕ) (b : Bitmap) (i : ℕ) (f : Fit ws) (p : Passed ws b) w
           false≢true
           (sym (bit-zero (i % 64)) ∙ ap (λ (y : ℕ). bit y (i % 64)) (sym e) ∙ bit-pack 64 (λ j. s.members (64 * (i / 64) + j)) (i % 64) (omega arith)
           ∙ ap₂ xorb (view_out ws b.count (64 * (i / 64) + i % 64) (omega (arith, p.inside))) (eq-eqb (64 * (i / 64) + i % 64) i (omega arith)))
+
+-- ---- the masks of `andi` and `andnoti`: bit i alone, and all but it
+
+module _ (i x : ℕ) (e : x ≡ single 64 (i % 64)) where
+  one_bit : (j : ℕ) → j / 64 ≡ i / 64 → bit x (j % 64) ≡ eqb j i
+  one_bit j q =
+      ap (λ (y : ℕ). bit y (j % 64)) e ∙ bit-single 64 (i % 64) (j % 64) (omega arith)
+      ∙ eqb_same (j % 64) (i % 64) j i (λ r. omega arith) (λ r. omega arith)
+
+  pub keeps_bit : (c : Space) (b : Bits) → keeping_bit i c b ≡ masking i x c b
+  unfolding keeping_bit masking
+  keeps_bit c b = ap (λ (s : ℕ → Bool). done (tidied (i / 64) (record { members = s; count = b.count }))) (fun_ext (λ j. ap (λ (t : Bool). b.members j && t) (at j)))
+    where
+      at : (j : ℕ) → not (eqb (j / 64) (i / 64)) || eqb j i ≡ not (eqb (j / 64) (i / 64)) || bit x (j % 64)
+      at j =
+          by_eq (j / 64) (i / 64)
+          (λ q. ap (λ (t : Bool). not (eqb (j / 64) (i / 64)) || t) (sym (one_bit j q)))
+          (λ q.
+          let z : eqb (j / 64) (i / 64) ≡ false = ne_eqb (j / 64) (i / 64) q in
+          ap (λ (t : Bool). not t || eqb j i) z ∙ sym (ap (λ (t : Bool). not t || bit x (j % 64)) z))
+
+  pub drops_bit : (c : Space) (b : Bits) → dropping_bit i c b ≡ masking i ((2 ^ 64 - 1) - x) c b
+  unfolding dropping_bit masking
+  drops_bit c b = ap (λ (s : ℕ → Bool). done (tidied (i / 64) (record { members = s; count = b.count }))) (fun_ext (λ j. ap (λ (t : Bool). b.members j && t) (at j)))
+    where
+      at : (j : ℕ) → not (eqb j i) ≡ not (eqb (j / 64) (i / 64)) || bit ((2 ^ 64 - 1) - x) (j % 64)
+      at j =
+          by_eq (j / 64) (i / 64)
+          (λ q.
+          ap not (sym (one_bit j q)) ∙ sym (bit_not x 64 (j % 64) (subst (λ (y : ℕ). y < 2 ^ 64) (sym e) (single-lt 64 (i % 64))) (omega arith))
+          ∙ ap (λ (t : Bool). not t || bit ((2 ^ 64 - 1) - x) (j % 64)) (sym (eq-eqb (j / 64) (i / 64) q)))
+          (λ q.
+          ap not (ne_eqb j i (λ r. q (ap (λ (m : ℕ). m / 64) r)))
+          ∙ sym (ap (λ (t : Bool). not t || bit ((2 ^ 64 - 1) - x) (j % 64)) (ne_eqb (j / 64) (i / 64) q)))

@@ -1,9 +1,18 @@
 -- What the private functions of this crate make of words.
-use Rattle.std.specs.Prelude.{ℕ, suc, ◌+◌, ◌*◌, ◌^◌, ◌≤◌, ◌<◌, ◌≡◌, ◌&&◌, ◌||◌, List, length, get_or, take, eqb}
+use Rattle.std.specs.Prelude.{ℕ, suc, ◌+◌, ◌*◌, ◌/◌, ◌%◌, ◌^◌, ◌≤◌, ◌<◌, max, ◌≡◌, not, ◌&&◌, ◌||◌, List, length, get_or, take, eqb, Ok, Err}
 use Rattle.word.specs.Sets.{choose}
 use Rattle.word.specs.Places.{bit}
 use Rattle.arch.specs.Scans.{nonzero_len}
-use Rattle.bitmaps.specs.Bitmaps.{is_listed, reach_of}
+use Rattle.storage.specs.Refusals.{Change}
+use Rattle.storage.specs.Stores.{Bits, done, Op, zeroed}
+use Rattle.storage.specs.declared.Bitmap.{Bitmap}
+use Rattle.storage.specs.declared.Refusal.TheVariants.{NoSpace}
+use Rattle.bitmaps.specs.Bitmaps.{is_listed, reach_of, tidied}
+
+-- room for `need` words in the store ws, in which the bitmap was b: the words that come into use are 0 and counted, or 6 where there are fewer
+abbrev pub Grows : List ℕ → Bitmap → ℕ → Change → List ℕ → Type 0
+Grows ws b need (Ok grown) ws' = (need ≤ length ws) × (ws' ≡ zeroed b.count need ws) × (grown.count ≡ max b.count need)
+Grows ws b need (Err e) ws' = (length ws < need) × (ws' ≡ ws) × (e ≡ (NoSpace, b))
 
 -- the listed bits are set, and words that have none are as they were
 pub record SetsListed (ws is ws' : List ℕ) : Type 0 where
@@ -15,3 +24,11 @@ pub record SetsListed (ws is ws' : List ℕ) : Type 0 where
 -- the trimmed count where word k is the last of n and is 0
 unfoldable pub tidy_count : List ℕ → ℕ → ℕ → ℕ
 tidy_count ws n k = choose (eqb (suc k) n && eqb (get_or ws k 0) 0) (nonzero_len (take n ws)) n
+
+-- of the word of bit i the places of the mask stay, and it is tidied
+abbrev pub masked : ℕ → ℕ → Bits → Bits
+masked i mask b = record { members = λ j. b.members j && (not (eqb (j / 64) (i / 64)) || bit mask (j % 64)); count = b.count }
+
+unfoldable pub masking : ℕ → ℕ → Op
+unfolding tidied
+masking i mask c b = done (tidied (i / 64) (masked i mask b))

@@ -20,13 +20,14 @@ use Rattle.word.proofs.Lists.{Fit, FitTo, member-at}
 use Rattle.storage.specs.Stores.{Bits, refused, done, view, Changes}
 use Rattle.storage.specs.Guards.{Passed}
 use Rattle.storage.specs.declared.Bitmap.{Bitmap}
-use Rattle.storage.specs.declared.Change.TheVariants.{Done, Refused}
 use Rattle.storage.specs.declared.Refusal.TheVariants.{PastLength}
 use Rattle.storage.proofs.Views.{view-count, view_in, view-part}
 use Rattle.storage.proofs.Stores.{part-changes, changes_done, changes-refused, word_stored}
 use Rattle.bitwise.specs.Bitwise.{toggling_inside, inverting, reversing}
 use Rattle.word.proofs.Sweep.{Swept, swept_words}
 use Rattle.bitwise.proofs.Cases.{toggling-past}
+use Rattle.storage.specs.Refusals.{refusing}
+use Rattle.std.specs.Prelude.{Ok}
 
 pub inverted_is : (ws ws' : List ℕ) (e : ℕ) → FitTo ws e → Swept ws (λ k. (2 ^ 64 - 1) - get_or ws k 0) 0 e ws' → length ws ≤ e
     → ws' ≡ words_of (λ i. not (member ws i)) (length ws)
@@ -37,7 +38,7 @@ inverted_is ws ws' e f s h =
 
 -- the call, from what its kernel left of the words in use
 pub invert-changes : (ws part : List ℕ) (b : Bitmap) → Passed ws b
-    → part ≡ words_of (λ i. not (member (take b.count ws) i)) (length (take b.count ws)) → Changes inverting ws b (Done b) (part ++ drop b.count ws)
+    → part ≡ words_of (λ i. not (member (take b.count ws) i)) (length (take b.count ws)) → Changes inverting ws b (Ok b) (part ++ drop b.count ws)
 unfolding inverting
 invert-changes ws part b p e =
     part-changes inverting ws part b (λ i. not (member (take b.count ws) i)) _ p refl (view-count ws b.count) e
@@ -66,7 +67,7 @@ reversed_is ws ws' f s =
 
 pub reverse-changes : (ws part : List ℕ) (b : Bitmap) → Passed ws b
     → part ≡ words_of (λ i. member (take b.count ws) (64 * length (take b.count ws) - suc i)) (length (take b.count ws))
-    → Changes reversing ws b (Done b) (part ++ drop b.count ws)
+    → Changes reversing ws b (Ok b) (part ++ drop b.count ws)
 unfolding reversing
 reverse-changes ws part b p e =
     part-changes reversing ws part b (λ i. member (take n ws) (64 * length (take n ws) - suc i)) _ p refl (view-count ws n) e
@@ -81,7 +82,7 @@ reverse-changes ws part b p e =
 -- ---- one bit
 
 pub toggle-changes : (ws : List ℕ) (b : Bitmap) (i x : ℕ) → Fit ws → Passed ws b → i / 64 < b.count → x ≡ single 64 (i % 64)
-    → Changes (toggling_inside i) ws b (Done b) (set ws (i / 64) (bit_xor (get_or ws (i / 64) 0) x))
+    → Changes (toggling_inside i) ws b (Ok b) (set ws (i / 64) (bit_xor (get_or ws (i / 64) 0) x))
 unfolding toggling_inside
 toggle-changes ws b i x f p h e =
     changes_done (toggling_inside i) ws b (set ws k v) s n p
@@ -114,6 +115,6 @@ toggle-changes ws b i x f p h e =
     there : (m j : ℕ) → (m ≡ k → ⊥) → j < 64 → (view ws n).members (64 * m + j) ≡ xorb ((view ws n).members (64 * m + j)) (eqb (64 * m + j) i)
     there m j q l = keep ((view ws n).members (64 * m + j)) ∙ ap (xorb ((view ws n).members (64 * m + j))) (sym (ne_eqb (64 * m + j) i (omega arith)))
 
-pub toggle-past : (ws : List ℕ) (b : Bitmap) (i : ℕ) → Passed ws b → b.count ≤ i / 64 → Changes (toggling_inside i) ws b (Refused PastLength b) ws
+pub toggle-past : (ws : List ℕ) (b : Bitmap) (i : ℕ) → Passed ws b → b.count ≤ i / 64 → Changes (toggling_inside i) ws b (refusing b PastLength) ws
 toggle-past ws b i p h =
     changes-refused (toggling_inside i) ws b PastLength p (toggling-past i (length ws) (view ws b.count) (omega (arith, view-count ws b.count)))

@@ -1,96 +1,80 @@
 // Single-bit and whole-bitmap updates and counts within the length: toggle, complement, reverse, counts, rank and select.
-#![tactic(auto)]
+#![tactic(auto, using(storage::proofs::Checks::passed, storage::proofs::Checks::reading_raised, std::proofs::lemmas::Grind::moves))]
 
-ghost use Rattle.std.specs.Prelude.{◌≡◌, not, suc, ◌+◌, ◌-◌, ◌*◌, ◌≤◌, ◌<◌, length, get_or};
+ghost use Rattle.std.specs.Prelude.{◌≡◌, not, suc, ◌+◌, ◌-◌, ◌*◌, ◌≤◌, ◌<◌, length, MatchOption, Ok, Err};
 ghost use Rattle.word.specs.Sets.{count_below};
 ghost use Rattle.word.specs.Places.{bit, member, words_of};
 ghost use Rattle.storage.specs.Stores.{store_limit, reading, Changes};
 ghost use Rattle.bitwise.specs.Bitwise.{toggling_inside, inverting, reversing, clear_size, count_region, rank_of, selected};
-ghost use Rattle.bits.specs.Kernels.{Passing};
+ghost use Rattle.bits.specs.Kernels.{Passing, Meets};
 
-use storage::{Amount, Bitmap, Change, Found, Guard, Refusal};
+use storage::{Bitmap, Refusal, Refused};
 use word::Word;
 
 // Flips bit i; 5 past the length.
-pub fn toggle(words: &mut [u64], b: Bitmap, i: usize) -> Change
+pub fn toggle(words: &mut [u64], b: Bitmap, i: usize) -> Result<Bitmap, Refused>
     ensures { Changes (toggling_inside i) words.old b result words.new }
 {
     let n = b.count;
-    match storage::check(words, b) {
-        Guard::Stop(e) => return Change::Refused(e, b),
-        Guard::Pass => {}
-    }
+    storage::check(words, b)?;
     let k = i / 64;
     if k >= n {
-        return Change::Refused(Refusal::PastLength, b);
+        return Err(Refused(Refusal::PastLength, b));
     }
-    words[k] = words[k] ^ Word::bit(i);
-    Change::Done(b)
+    words[k] ^= Word::bit(i);
+    Ok(b)
 }
 
 // Every bit of the words flipped.
 pub fn invert_words(words: &mut [u64])
     ensures { words.new ≡ words_of (λ i. not (member words.old i)) (length words.old) }
 {
-    let mut k = 0;
-    while k < words.len() {
-        words[k] = !words[k];
-        k += 1;
+    for x in words.iter_mut() {
+        *x = !*x;
     }
 }
 
 // Flips every bit below the length.
-pub fn invert(words: &mut [u64], b: Bitmap) -> Change
+pub fn invert(words: &mut [u64], b: Bitmap) -> Result<Bitmap, Refused>
     ensures { Changes inverting words.old b result words.new }
 {
     let n = b.count;
-    match storage::check(words, b) {
-        Guard::Stop(e) => return Change::Refused(e, b),
-        Guard::Pass => {}
-    }
+    storage::check(words, b)?;
     invert_words(&mut words[..n]);
-    Change::Done(b)
+    Ok(b)
 }
 
 // The bits of the words in the other order: from both ends, two words trade places, each reversed.
 pub fn reverse_words(words: &mut [u64])
     ensures { words.new ≡ words_of (λ i. member words.old (64 * length words.old - suc i)) (length words.old) }
 {
-    let mut lo = 0;
-    let mut hi = words.len();
-    while lo < hi {
-        hi -= 1;
+    let n = words.len();
+    for lo in 0..n.div_ceil(2) {
+        let hi = n - 1 - lo;
         let low = Word::reverse_bits(words[lo]);
         let high = Word::reverse_bits(words[hi]);
         words[lo] = high;
         words[hi] = low;
-        lo += 1;
     }
 }
 
 // Bit i goes to the length less i less 1.
-pub fn reverse(words: &mut [u64], b: Bitmap) -> Change
+pub fn reverse(words: &mut [u64], b: Bitmap) -> Result<Bitmap, Refused>
     ensures { Changes reversing words.old b result words.new }
 {
     let n = b.count;
-    match storage::check(words, b) {
-        Guard::Stop(e) => return Change::Refused(e, b),
-        Guard::Pass => {}
-    }
+    storage::check(words, b)?;
     reverse_words(&mut words[..n]);
-    Change::Done(b)
+    Ok(b)
 }
 
 // The number of clear bits below the length.
-pub fn count_clear_bits(words: &[u64], b: Bitmap) -> Amount
-    ensures { result ≡ reading words.now b Amount.Refused (λ s. Amount.Is (clear_size s)) }
+pub fn count_clear_bits(words: &[u64], b: Bitmap) -> Result<usize, Refusal>
+    ensures { result ≡ reading words.now b Err (λ s. Ok (clear_size s)) }
 {
     let n = b.count;
-    match storage::check(words, b) {
-        Guard::Stop(e) => return Amount::Refused(e),
-        Guard::Pass => {}
-    }
-    Amount::Is(64 * n - arch::count_set_bits(&words[..n]))
+    storage::check(words, b)?;
+    Ok(64 * n - arch::count_set_bits(&words[..n]))
 }
 
 // The set bits of x from place `from` on, below `end`.
@@ -123,35 +107,29 @@ fn count_between(words: &[u64], i: usize, end: usize) -> usize
 }
 
 // The number of set bits among the k bits from i on; it stops at the length.
-pub fn count_region(words: &[u64], b: Bitmap, i: usize, k: usize) -> Amount
-    ensures { result ≡ reading words.now b Amount.Refused (λ s. Amount.Is (count_region i k s)) }
+pub fn count_region(words: &[u64], b: Bitmap, i: usize, k: usize) -> Result<usize, Refusal>
+    ensures { result ≡ reading words.now b Err (λ s. Ok (count_region i k s)) }
 {
     let n = b.count;
-    match storage::check(words, b) {
-        Guard::Stop(e) => return Amount::Refused(e),
-        Guard::Pass => {}
-    }
+    storage::check(words, b)?;
     if i >= 64 * n {
-        return Amount::Is(0);
+        return Ok(0);
     }
-    let end = i + word::min(k, 64 * n - i);
-    Amount::Is(count_between(&words[..n], i, end))
+    let end = i + k.min(64 * n - i);
+    Ok(count_between(&words[..n], i, end))
 }
 
 // The number of set bits below bit i.
-pub fn rank(words: &[u64], b: Bitmap, i: usize) -> Amount
-    ensures { result ≡ reading words.now b Amount.Refused (λ s. Amount.Is (rank_of i s)) }
+pub fn rank(words: &[u64], b: Bitmap, i: usize) -> Result<usize, Refusal>
+    ensures { result ≡ reading words.now b Err (λ s. Ok (rank_of i s)) }
 {
     let n = b.count;
-    match storage::check(words, b) {
-        Guard::Stop(e) => return Amount::Refused(e),
-        Guard::Pass => {}
-    }
-    Amount::Is(count_between(&words[..n], 0, word::min(i, 64 * n)))
+    storage::check(words, b)?;
+    Ok(count_between(&words[..n], 0, i.min(64 * n)))
 }
 
-// How far a rank is passed: the words before index `at` are counted, and `left` of the rank remains.
-#[derive(Clone, Copy)]
+// Where a rank is met: the words before index `at` are counted, and `left` of the rank remains.
+#[derive(Clone, Copy, Debug, PartialEq, Eq)]
 struct Skip {
     at: usize,
     left: usize,
@@ -162,54 +140,46 @@ fn skip_eights(words: &[u64], r: usize) -> Skip
     requires { length words.now ≤ store_limit }
     ensures { Passing words.now r result.at result.left }
 {
-    let n = words.len();
-    let mut at = 0;
+    let (eights, _) = words.as_chunks::<8>();
     let mut left = r;
-    while n - at >= 8 {
-        let next = at + 8;
-        let c = arch::count_set_bits(&words[at..next]);
+    for (k, eight) in eights.iter().enumerate() {
+        let c = arch::count_set_bits(eight);
         if left < c {
-            return Skip { at, left };
+            return Skip { at: 8 * k, left };
         }
         left -= c;
-        at = next;
     }
-    Skip { at, left }
+    Skip {
+        at: 8 * eights.len(),
+        left,
+    }
 }
 
-// Passes words until one has more set bits than are left of the rank.
-fn skip_words(words: &[u64], r: usize) -> Skip
+// Passes words until one has more set bits than are left of the rank, if there is one.
+fn skip_words(words: &[u64], r: usize) -> Option<Skip>
     requires { length words.now ≤ store_limit }
-    ensures { Passing words.now r result.at result.left ×
-        (result.at < length words.now → result.left < count_below (bit (get_or words.now result.at 0)) 64) }
+    ensures { MatchOption result (count_below (member words.now) (64 * length words.now) ≤ r) (λ s. Meets words.now r s.at s.left) }
 {
     let from = skip_eights(words, r);
-    let mut at = from.at;
     let mut left = from.left;
-    while at < words.len() {
+    for at in from.at..words.len() {
         let c = Word::count_ones(words[at]);
         if left < c {
-            return Skip { at, left };
+            return Some(Skip { at, left });
         }
         left -= c;
-        at += 1;
     }
-    Skip { at, left }
+    None
 }
 
 // The set bit with exactly r set bits below it.
-pub fn select(words: &[u64], b: Bitmap, r: usize) -> Found
-    ensures { result ≡ reading words.now b Found.Refused (selected r) }
+pub fn select(words: &[u64], b: Bitmap, r: usize) -> Result<Option<usize>, Refusal>
+    ensures { result ≡ reading words.now b Err (selected r) }
 {
     let n = b.count;
-    match storage::check(words, b) {
-        Guard::Stop(e) => return Found::Refused(e),
-        Guard::Pass => {}
-    }
-    let s = skip_words(&words[..n], r);
-    let at = s.at;
-    if at >= n {
-        return Found::Nothing;
-    }
-    Found::At(64 * at + select::select_u64(words[at], s.left))
+    storage::check(words, b)?;
+    let Some(Skip { at, left }) = skip_words(&words[..n], r) else {
+        return Ok(None);
+    };
+    Ok(Some(64 * at + select::select_u64(words[at], left)))
 }

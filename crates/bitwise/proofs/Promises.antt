@@ -13,19 +13,18 @@ use Rattle.word.specs.Sets.{choose, val, xorb, count_below, nth, Counted}
 use Rattle.word.proofs.Cases.{by_lt, xor-true, xor-false}
 use Rattle.word.proofs.Lists.{length_words, member_words}
 use Rattle.word.proofs.Sets.{Nth, count_add, count_none, counted, nth_has, nth_none}
-use Rattle.storage.specs.Refusals.{number_of, found_number, found_flag, found_value}
+use Rattle.storage.specs.Refusals.{number_of, answer_number, found_flag, found_value}
 use Rattle.storage.specs.Stores.{Bits, Bounded, refused, done, size, found_below}
 use Rattle.storage.specs.Promises.{Hands, AmountCall}
 use Rattle.storage.specs.declared.Refusal.TheVariants.{PastLength}
-use Rattle.storage.specs.declared.Found.{Found}
-use Rattle.storage.specs.declared.Found.TheVariants.{At, Nothing}
-use Rattle.storage.specs.declared.Amount.{Amount}
 use Rattle.storage.proofs.Outcomes.{same, never, which, contained_done}
 use Rattle.storage.proofs.Promises.{amount-call, found-call}
 use Rattle.bitwise.specs.Bitwise.{toggling_inside, inverting, reversing, clear_size, count_region, rank_of, selected}
 use Rattle.bitwise.specs.Promises.{Toggled, TogglesInside, Inverted, Inverts, Reversed, Reverses, InvertWordsMeans, ReverseWordsMeans}
 use Rattle.bitwise.specs.Promises.{CountClearBitsMeans, CountRegionMeans, RankMeans, Selected, SelectMeans}
 use Rattle.bitwise.proofs.Cases.{toggling-past}
+use Rattle.storage.specs.Refusals.{Found}
+use Rattle.std.specs.Prelude.{Ok, Some, None}
 
 -- ---- toggle
 
@@ -101,8 +100,8 @@ reverses = record {
 
 -- ---- counts
 
-count-call : (f : Bits → ℕ) (rule : Bits → ℕ → Type 0) → ((b : Bits) → Bounded b → rule b (f b)) → AmountCall (λ s. Amount.Is (f s)) (λ b. Hands (rule b))
-count-call f rule holds = amount-call (λ s. Amount.Is (f s)) (λ b. Hands (rule b)) (λ b bounded. (refl, holds b bounded))
+count-call : (f : Bits → ℕ) (rule : Bits → ℕ → Type 0) → ((b : Bits) → Bounded b → rule b (f b)) → AmountCall (λ s. Ok (f s)) (λ b. Hands (rule b))
+count-call f rule holds = amount-call (λ s. Ok (f s)) (λ b. Hands (rule b)) (λ b bounded. (refl, holds b bounded))
 
 counting : (s : ℕ → Bool) (k : ℕ) → Counted s k (count_below s k)
 counting s k = counted s k (count_below s k) refl
@@ -134,17 +133,17 @@ rank_means i = count-call (rank_of i) (λ b. Counted b.members i) (λ b bounded.
 
 -- ---- the member of a rank
 
-selects : (r : ℕ) (b : Bits) → Bounded b → Selected r b (found_number (selected r b)) (found_flag (selected r b)) (found_value (selected r b))
+selects : (r : ℕ) (b : Bits) → Bounded b → Selected r b (answer_number (selected r b)) (found_flag (selected r b)) (found_value (selected r b))
 unfolding selected found_below
 selects r b bounded =
     by_lt r (count_below s len)
     (λ h.
     let n : Nth s r len p = nth_has s r len len h in
-    subst is (sym (ap (λ (t : Bool). choose t (At p) Nothing) (lt-ltb p len n.within)))
+    subst is (sym (ap (λ (t : Bool). choose t (Ok (Some p)) (Ok None)) (lt-ltb p len n.within)))
     (refl, inl (refl, (n.here, counted s p r n.under))))
     (λ h.
     let e : p ≡ len = nth_none s r len len h in
-    subst is (sym (ap (λ (t : Bool). choose t (At p) Nothing) (le-ltb p len (omega arith))))
+    subst is (sym (ap (λ (t : Bool). choose t (Ok (Some p)) (Ok None)) (le-ltb p len (omega arith))))
     (refl, inr (refl, refl, λ e. (count_below s e, counting s e, omega (arith, most e, h)))))
   where
     s : ℕ → Bool
@@ -157,7 +156,7 @@ selects r b bounded =
     p = nth s r len len
 
     is : Found → Type 0
-    is a = Selected r b (found_number a) (found_flag a) (found_value a)
+    is a = Selected r b (answer_number a) (found_flag a) (found_value a)
 
     most : (e : ℕ) → count_below s e ≤ count_below s len
     most e =

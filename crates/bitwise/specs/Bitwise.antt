@@ -3,7 +3,7 @@ use Rattle.std.specs.Prelude.{ℕ, suc, ◌+◌, ◌-◌, ◌*◌, not, ◌&&◌
 use Rattle.word.specs.Sets.{choose, xorb, count_below, nth}
 use Rattle.storage.specs.Stores.{Bits, refused, done, Op, size, found_below}
 use Rattle.storage.specs.declared.Refusal.TheVariants.{PastLength}
-use Rattle.storage.specs.declared.Found.{Found}
+use Rattle.storage.specs.Refusals.{Found}
 
 -- i flips; 5 past the length
 unfoldable pub toggling_inside : ℕ → Op

@@ -1,10 +1,9 @@
 -- What the calls of bits.rs promise, for every number. Each is proved in proofs/Promises, `CallsExact` in proofs/Once.
-use Rattle.std.specs.Prelude.{ℕ, suc, ◌+◌, ◌-◌, ◌*◌, ◌≤◌, ◌<◌, ◌≡◌, true, false, not}
+use Rattle.std.specs.Prelude.{ℕ, suc, ◌+◌, ◌-◌, ◌*◌, ◌≤◌, ◌<◌, ◌≡◌, true, false, not, Ok}
 use Rattle.word.specs.Sets.{Counted}
 use Rattle.word.specs.Promises.{MovesWords}
 use Rattle.storage.specs.Stores.{Bits}
 use Rattle.storage.specs.Promises.{Hands, Finds, AmountCall, FoundCall, Meets, Never, MeetsExactly}
-use Rattle.storage.specs.declared.Amount.{Amount}
 use Rattle.bitwise.specs.Bitwise.{toggling_inside, inverting, reversing, clear_size, count_region, rank_of, selected}
 
 pub record Toggled (i : ℕ) (b s : Bits) : Type 0 where
@@ -50,15 +49,15 @@ pub record CallsExact : Type 0 where
 
 -- `count_clear_bits`: the numbers below the length that are no members
 abbrev pub CountClearBitsMeans : Type 0
-CountClearBitsMeans = AmountCall (λ s. Amount.Is (clear_size s)) (λ b. Hands (Counted (λ i. not (b.members i)) (64 * b.count)))
+CountClearBitsMeans = AmountCall (λ s. Ok (clear_size s)) (λ b. Hands (Counted (λ i. not (b.members i)) (64 * b.count)))
 
 -- `count_region`: the members among the k numbers from i on
 abbrev pub CountRegionMeans : Type 0
-CountRegionMeans = (i k : ℕ) → AmountCall (λ s. Amount.Is (count_region i k s)) (λ b. Hands (Counted (λ j. b.members (i + j)) k))
+CountRegionMeans = (i k : ℕ) → AmountCall (λ s. Ok (count_region i k s)) (λ b. Hands (Counted (λ j. b.members (i + j)) k))
 
 -- `rank`: the members below i
 abbrev pub RankMeans : Type 0
-RankMeans = (i : ℕ) → AmountCall (λ s. Amount.Is (rank_of i s)) (λ b. Hands (Counted b.members i))
+RankMeans = (i : ℕ) → AmountCall (λ s. Ok (rank_of i s)) (λ b. Hands (Counted b.members i))
 
 -- a member with exactly r members below it; none only where there are at most r members
 abbrev pub Selected : ℕ → Bits → ℕ → ℕ → ℕ → Type 0

@@ -3,23 +3,18 @@ use Prim.Native.Nat.{ℕ}
 use mathlib.Core.Path.{◌≡◌}
 use mathlib.Core.List.{List}
 use Rattle.storage.specs.Stores.{Op, Changes, bitmap_of}
-use Rattle.storage.specs.declared.Change.{Change}
-use Rattle.storage.specs.declared.Found.{Found}
-use Rattle.storage.specs.declared.Amount.{Amount}
-use Rattle.storage.specs.declared.Field.{Field}
-use Rattle.storage.specs.declared.Truth.{Truth}
 use Rattle.shapes.specs.Shapes.{Splits}
-use Rattle.shapes.specs.declared.Split.{Split}
 use Rattle.style.specs.declared.Style.{Style}
 use Rattle.print.specs.Texts.{Prints}
 use Rattle.register.specs.Register.{Registers}
 use Rattle.sheet.specs.Reads.{Reads}
 use Rattle.plain.specs.Writer.{Left, Writes}
-use Rattle.sheet.specs.declared.Reading.{Reading}
-use Rattle.sheet.specs.declared.Added.{Added}
-use Rattle.answers.specs.Answers.{ChangeOut, SplitOut, FoundOut, AmountOut, FieldOut, TruthOut, ReadingOut, AddedOut}
+use Rattle.answers.specs.Answers.{ChangeOut, SplitOut, FoundOut, AmountOut, TruthOut, ReadingOut, AddedOut}
 use Rattle.calls.specs.Calls.{Changed, Printed, Registered, Read, Written}
 use Rattle.calls.specs.Calls as calls
+use Rattle.storage.specs.Refusals.{Found, Amount, Truth, Change}
+use Rattle.sheet.specs.Reads.{Reading}
+use Rattle.shapes.specs.Shapes.{Split}
 
 pub changed : {op : Op} {ws ws' : List ℕ} {n r n' : ℕ} {a : Change} → Changes op ws (bitmap_of n) a ws' → ChangeOut a r n' → Changed op ws n r ws' n'
 changed h k = record { out = rw h.answers at k; leaves = h.leaves }
@@ -34,9 +29,6 @@ found h k = rw h at k
 pub amount : {a b : Amount} {r v : ℕ} → a ≡ b → AmountOut a r v → AmountOut b r v
 amount h k = rw h at k
 
-pub field : {a b : Field} {r v : ℕ} → a ≡ b → FieldOut a r v → FieldOut b r v
-field h k = rw h at k
-
 pub truth : {a b : Truth} {r v : ℕ} → a ≡ b → TruthOut a r v → TruthOut b r v
 truth h k = rw h at k
 
@@ -49,5 +41,5 @@ registered h k = record { out = rw h.answers at k; leaves = h.leaves }
 pub read : {e : ℕ} {sheet ws res res' : List ℕ} {n r i m : ℕ} {a : Reading} → Reads e sheet ws (bitmap_of n) res a res' → ReadingOut a r i m → Read e sheet ws n res r res' i m
 read h k = record { out = rw h.answers at k; leaves = h.leaves }
 
-pub written : {l : Left} {buf' : List ℕ} {n r n' : ℕ} {a : Added} → Writes l a buf' → AddedOut a n r n' → Written l n r buf' n'
+pub written : {l : Left} {buf' : List ℕ} {n r n' : ℕ} {a : Amount} → Writes l a buf' → AddedOut a n r n' → Written l n r buf' n'
 written h k = record { out = rw h.answers at k; leaves = h.leaves }

@@ -8,18 +8,10 @@ use native.Mathlib.Omega.{arith}
 use lib.ListN.{length}
 use borrow.Author.Tests.{ne_eqb}
 use Rattle.word.proofs.Cases.{by_test}
-use Rattle.storage.specs.Refusals.{found_number, found_flag, found_value, amount_number, amount_value, field_number, field_value, truth_number, truth_value}
+use Rattle.storage.specs.Refusals.{answer_number, found_flag, found_value, amount_value, truth_value}
 use Rattle.storage.specs.Stores.{Bits, Op, view, bitmap_of}
 use Rattle.storage.specs.Guards.{Stopped, Passed}
 use Rattle.storage.specs.Promises.{Guarded, GuardedBoth, HandsNone, FindsNone, Kept, EndsAs, CallEnds, BesideEnds}
-use Rattle.storage.specs.declared.Found.{Found}
-use Rattle.storage.specs.declared.Found.TheVariants.{Refused}
-use Rattle.storage.specs.declared.Amount.{Amount}
-use Rattle.storage.specs.declared.Amount.TheVariants.{Refused}
-use Rattle.storage.specs.declared.Field.{Field}
-use Rattle.storage.specs.declared.Field.TheVariants.{Refused}
-use Rattle.storage.specs.declared.Truth.{Truth}
-use Rattle.storage.specs.declared.Truth.TheVariants.{Refused}
 use Rattle.storage.proofs.Promises as storage
 use Rattle.storage.proofs.Checks.{which_way}
 use Rattle.combine.proofs.Promises as combine
@@ -36,13 +28,13 @@ use Rattle.register.proofs.Promises.{write_register_means}
 use Rattle.plain.specs.Writer.{started, added, requested}
 use Rattle.plain.specs.Promises.{LeavesRest}
 use Rattle.sheet.specs.declared.Fields.{Fields}
-use Rattle.sheet.specs.declared.Added.{Added}
-use Rattle.sheet.specs.declared.Added.TheVariants.{Done, Refused}
 use Rattle.sheet.proofs.Readings.{reading_means}
 use Rattle.plain.proofs.Writings.{starting_means, adding_means}
 use Rattle.answers.specs.Answers.{AddedOut}
 use Rattle.calls.specs.Calls.{Changed, SplitOff, Printed, Registered, Written}
 use Rattle.calls.specs.Promises.{ChangesMean, ReadingsOut, OthersMean, TruthIn, StyleIn, RefusedChangesNothing}
+use Rattle.storage.specs.Refusals.{Found, Amount, Truth}
+use Rattle.std.specs.Prelude.{Ok, Err}
 
 -- ---- what crosses is what the answer is
 
@@ -76,43 +68,37 @@ changes_mean = record {
 
 -- what a refusal hands out
 abbrev no_found : Found → ℕ → Type 0
-no_found a = FindsNone (found_number a) (found_flag a) (found_value a)
+no_found a = FindsNone (answer_number a) (found_flag a) (found_value a)
 
 abbrev no_number : Amount → ℕ → Type 0
-no_number a = HandsNone (amount_number a) (amount_value a)
-
-abbrev no_field : Field → ℕ → Type 0
-no_field a = HandsNone (field_number a) (field_value a)
+no_number a = HandsNone (answer_number a) (amount_value a)
 
 abbrev no_truth : Truth → ℕ → Type 0
-no_truth a = HandsNone (truth_number a) (truth_value a)
+no_truth a = HandsNone (answer_number a) (truth_value a)
 
 pub readings_out : ReadingsOut
 readings_out = record {
   found = λ rule g holds ws n r f v o.
       carry_three (λ x t y. Guarded ws (bitmap_of n) (FindsNone x t y) (rule (view ws n) x t y)) o.number o.found o.place
-      (storage.reading_means Found.Refused g no_found (λ b a. rule b (found_number a) (found_flag a) (found_value a)) (λ e. (refl, refl, refl)) holds
+      (storage.reading_means Err g no_found (λ b a. rule b (answer_number a) (found_flag a) (found_value a)) (λ e. (refl, refl, refl)) holds
       ws (bitmap_of n) _ refl);
   amount = λ rule g holds ws n r v o.
       carry (λ x y. Guarded ws (bitmap_of n) (HandsNone x y) (rule (view ws n) x y)) o.number o.value
-      (storage.reading_means Amount.Refused g no_number (λ b a. rule b (amount_number a) (amount_value a)) (λ e. (refl, refl)) holds ws (bitmap_of n) _ refl);
-  field = λ rule g holds ws n r v o.
-      carry (λ x y. Guarded ws (bitmap_of n) (HandsNone x y) (rule (view ws n) x y)) o.number o.value
-      (storage.reading_means Field.Refused g no_field (λ b a. rule b (field_number a) (field_value a)) (λ e. (refl, refl)) holds ws (bitmap_of n) _ refl);
+      (storage.reading_means Err g no_number (λ b a. rule b (answer_number a) (amount_value a)) (λ e. (refl, refl)) holds ws (bitmap_of n) _ refl);
   truth = λ rule g holds ws n r v o.
       carry (λ x y. Guarded ws (bitmap_of n) (HandsNone x y) (rule (view ws n) x y)) o.number o.value
-      (storage.reading_means Truth.Refused g no_truth (λ b a. rule b (truth_number a) (truth_value a)) (λ e. (refl, refl)) holds ws (bitmap_of n) _ refl);
+      (storage.reading_means Err g no_truth (λ b a. rule b (answer_number a) (truth_value a)) (λ e. (refl, refl)) holds ws (bitmap_of n) _ refl);
   found-both = λ rule g holds ws os n m r f v o.
       carry_three (λ x t y. GuardedBoth ws (bitmap_of n) os (bitmap_of m) (FindsNone x t y) (rule (view ws n) (view os m) x t y)) o.number o.found o.place
-      (storage.both_means Found.Refused g no_found (λ b c a. rule b c (found_number a) (found_flag a) (found_value a)) (λ e. (refl, refl, refl)) holds
+      (storage.both_means Err g no_found (λ b c a. rule b c (answer_number a) (found_flag a) (found_value a)) (λ e. (refl, refl, refl)) holds
       ws (bitmap_of n) os (bitmap_of m) _ refl);
   amount-both = λ rule g holds ws os n m r v o.
       carry (λ x y. GuardedBoth ws (bitmap_of n) os (bitmap_of m) (HandsNone x y) (rule (view ws n) (view os m) x y)) o.number o.value
-      (storage.both_means Amount.Refused g no_number (λ b c a. rule b c (amount_number a) (amount_value a)) (λ e. (refl, refl)) holds
+      (storage.both_means Err g no_number (λ b c a. rule b c (answer_number a) (amount_value a)) (λ e. (refl, refl)) holds
       ws (bitmap_of n) os (bitmap_of m) _ refl);
   truth-both = λ rule g holds ws os n m r v o.
       carry (λ x y. GuardedBoth ws (bitmap_of n) os (bitmap_of m) (HandsNone x y) (rule (view ws n) (view os m) x y)) o.number o.value
-      (storage.both_means Truth.Refused g no_truth (λ b c a. rule b c (truth_number a) (truth_value a)) (λ e. (refl, refl)) holds
+      (storage.both_means Err g no_truth (λ b c a. rule b c (answer_number a) (truth_value a)) (λ e. (refl, refl)) holds
       ws (bitmap_of n) os (bitmap_of m) _ refl);
 }
 
@@ -188,9 +174,9 @@ register ws bs bs' n r v h p =
     way (inl (x, s)) = (q.stop x s).bytes
     way (inr t) = not-put p (q.rest t).2
 
-kept : (a : Added) (bs bs' : List ℕ) (n r n' : ℕ) → AddedOut a n r n' → LeavesRest bs a bs' → 0 < r → (n' ≡ n) × (bs' ≡ bs)
-kept (Done m) bs bs' n r n' o k p = absurd (omega (arith, o.number))
-kept (Refused e) bs bs' n r n' o k p = (o.length, k.kept (omega (arith, o.number)))
+kept : (a : Amount) (bs bs' : List ℕ) (n r n' : ℕ) → AddedOut a n r n' → LeavesRest bs a bs' → 0 < r → (n' ≡ n) × (bs' ≡ bs)
+kept (Ok m) bs bs' n r n' o k p = absurd (omega (arith, o.number))
+kept (Err e) bs bs' n r n' o k p = (o.length, k.kept (omega (arith, o.number)))
 
 start : (bs bs' : List ℕ) (n r n' : ℕ) → Written (started bs) n r bs' n' → 0 < r → (n' ≡ n) × (bs' ≡ bs)
 start bs bs' n r n' h = kept _ bs bs' n r n' h.out (starting_means bs _ bs' (record { answers = refl; leaves = h.leaves })).leaves

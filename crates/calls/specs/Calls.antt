@@ -1,8 +1,7 @@
 -- What a call of each kind returns (r), hands out by its parameters and leaves in every lent word and byte.
 -- A call that only reads hands out its answer, and its contract is that answer's own record.
-use Rattle.std.specs.Prelude.{ℕ, ◌≡◌, Bool, not, List, eqb}
+use Rattle.std.specs.Prelude.{ℕ, ◌≡◌, Bool, not, List, eqb, Err}
 use Rattle.storage.specs.Stores.{Op, reading, answer, store, outcome, bitmap_of}
-use Rattle.storage.specs.declared.Amount.{Amount}
 use Rattle.shapes.specs.Shapes.{head_outcome, tail_outcome, split_answer}
 use Rattle.style.specs.declared.Style.{Style}
 use Rattle.print.specs.Texts.{list_answer, list_buffer}
@@ -32,12 +31,12 @@ pub record SplitOff (at : ℕ) (ws : List ℕ) (n : ℕ) (ts : List ℕ) (r : �
 
 -- `write_list` of the first n words of ws into the buffer bs in a style: the text's length goes out
 pub record Printed (y : Style) (ws : List ℕ) (n : ℕ) (bs : List ℕ) (r : ℕ) (bs' : List ℕ) (v : ℕ) : Type 0 where
-  pub out : AmountOut (reading ws (bitmap_of n) Amount.Refused (list_answer y bs)) r v
+  pub out : AmountOut (reading ws (bitmap_of n) Err (list_answer y bs)) r v
   pub leaves : bs' ≡ reading ws (bitmap_of n) (λ e. bs) (list_buffer y bs)
 
 -- `write_register` of the first n words of ws into the buffer bs: the text's length goes out
 pub record Registered (ws : List ℕ) (n : ℕ) (bs : List ℕ) (r : ℕ) (bs' : List ℕ) (v : ℕ) : Type 0 where
-  pub out : AmountOut (reading ws (bitmap_of n) Amount.Refused (register_answer bs)) r v
+  pub out : AmountOut (reading ws (bitmap_of n) Err (register_answer bs)) r v
   pub leaves : bs' ≡ reading ws (bitmap_of n) (λ e. bs) (register_buffer bs)
 
 -- a reading in edition e of a sheet, from the first n words of ws, into the store res: record and count go out

@@ -1,12 +1,8 @@
 -- What the header says of a call, from its contract in Calls: what it returns, hands out and leaves. Proved in proofs/Promises.
-use Rattle.std.specs.Prelude.{ℕ, ◌<◌, ◌≡◌, Bool, true, false, List}
-use Rattle.storage.specs.Refusals.{found_number, found_flag, found_value, amount_number, amount_value, field_number, field_value, truth_number, truth_value}
+use Rattle.std.specs.Prelude.{ℕ, ◌<◌, ◌≡◌, Bool, true, false, List, Err}
+use Rattle.storage.specs.Refusals.{answer_number, found_flag, found_value, amount_value, truth_value}
 use Rattle.storage.specs.Stores.{Bits, Bounded, Space, Op, view, beside, reading, reading_both, bitmap_of}
 use Rattle.storage.specs.Promises.{Guarded, GuardedBoth, HandsNone, FindsNone, Meets, Kept, EndsAs, CallEnds, BesideEnds}
-use Rattle.storage.specs.declared.Found.{Found}
-use Rattle.storage.specs.declared.Amount.{Amount}
-use Rattle.storage.specs.declared.Field.{Field}
-use Rattle.storage.specs.declared.Truth.{Truth}
 use Rattle.combine.specs.Combine.{beside_both}
 use Rattle.shapes.specs.Promises.{SplitMeans}
 use Rattle.style.specs.declared.Style.{Style}
@@ -16,10 +12,10 @@ use Rattle.plain.specs.Writer.{duty, remark, started, added, requested}
 use Rattle.sheet.specs.Promises.{ReadingMeans}
 use Rattle.plain.specs.Promises.{StartMeans, AddMeans}
 use Rattle.sheet.specs.declared.Fields.{Fields}
-use Rattle.sheet.specs.declared.Reading.{Reading}
-use Rattle.sheet.specs.declared.Added.{Added}
-use Rattle.answers.specs.Answers.{FoundOut, AmountOut, FieldOut, TruthOut, ReadingOut, AddedOut}
+use Rattle.answers.specs.Answers.{FoundOut, AmountOut, TruthOut, ReadingOut, AddedOut}
 use Rattle.calls.specs.Calls.{truth, style_of, Changed, SplitOff, Printed, Registered, Read, Written}
+use Rattle.storage.specs.Refusals.{Found, Amount, Truth}
+use Rattle.sheet.specs.Reads.{Reading}
 
 -- a changing call keeps what its operation promises: by itself, with a second bitmap, with two
 pub record ChangesMean : Type 1 where
@@ -39,25 +35,23 @@ pub record ChangesMean : Type 1 where
 -- a reading call hands out what is promised of its answer by number, flag and value, of one bitmap or of two
 pub record ReadingsOut : Type 1 where
   pub found : (rule : Bits → ℕ → ℕ → ℕ → Type 0) (g : Bits → Found)
-      → ((b : Bits) → Bounded b → rule b (found_number (g b)) (found_flag (g b)) (found_value (g b)))
-      → (ws : List ℕ) (n r f v : ℕ) → FoundOut (reading ws (bitmap_of n) Found.Refused g) r f v → Guarded ws (bitmap_of n) (FindsNone r f v) (rule (view ws n) r f v)
-  pub amount : (rule : Bits → ℕ → ℕ → Type 0) (g : Bits → Amount) → ((b : Bits) → Bounded b → rule b (amount_number (g b)) (amount_value (g b)))
-      → (ws : List ℕ) (n r v : ℕ) → AmountOut (reading ws (bitmap_of n) Amount.Refused g) r v → Guarded ws (bitmap_of n) (HandsNone r v) (rule (view ws n) r v)
-  pub field : (rule : Bits → ℕ → ℕ → Type 0) (g : Bits → Field) → ((b : Bits) → Bounded b → rule b (field_number (g b)) (field_value (g b)))
-      → (ws : List ℕ) (n r v : ℕ) → FieldOut (reading ws (bitmap_of n) Field.Refused g) r v → Guarded ws (bitmap_of n) (HandsNone r v) (rule (view ws n) r v)
-  pub truth : (rule : Bits → ℕ → ℕ → Type 0) (g : Bits → Truth) → ((b : Bits) → Bounded b → rule b (truth_number (g b)) (truth_value (g b)))
-      → (ws : List ℕ) (n r v : ℕ) → TruthOut (reading ws (bitmap_of n) Truth.Refused g) r v → Guarded ws (bitmap_of n) (HandsNone r v) (rule (view ws n) r v)
+      → ((b : Bits) → Bounded b → rule b (answer_number (g b)) (found_flag (g b)) (found_value (g b)))
+      → (ws : List ℕ) (n r f v : ℕ) → FoundOut (reading ws (bitmap_of n) Err g) r f v → Guarded ws (bitmap_of n) (FindsNone r f v) (rule (view ws n) r f v)
+  pub amount : (rule : Bits → ℕ → ℕ → Type 0) (g : Bits → Amount) → ((b : Bits) → Bounded b → rule b (answer_number (g b)) (amount_value (g b)))
+      → (ws : List ℕ) (n r v : ℕ) → AmountOut (reading ws (bitmap_of n) Err g) r v → Guarded ws (bitmap_of n) (HandsNone r v) (rule (view ws n) r v)
+  pub truth : (rule : Bits → ℕ → ℕ → Type 0) (g : Bits → Truth) → ((b : Bits) → Bounded b → rule b (answer_number (g b)) (truth_value (g b)))
+      → (ws : List ℕ) (n r v : ℕ) → TruthOut (reading ws (bitmap_of n) Err g) r v → Guarded ws (bitmap_of n) (HandsNone r v) (rule (view ws n) r v)
   pub found-both : (rule : Bits → Bits → ℕ → ℕ → ℕ → Type 0) (g : Bits → Bits → Found)
-      → ((b o : Bits) → Bounded b → Bounded o → rule b o (found_number (g b o)) (found_flag (g b o)) (found_value (g b o)))
-      → (ws os : List ℕ) (n m r f v : ℕ) → FoundOut (reading_both ws (bitmap_of n) os (bitmap_of m) Found.Refused g) r f v
+      → ((b o : Bits) → Bounded b → Bounded o → rule b o (answer_number (g b o)) (found_flag (g b o)) (found_value (g b o)))
+      → (ws os : List ℕ) (n m r f v : ℕ) → FoundOut (reading_both ws (bitmap_of n) os (bitmap_of m) Err g) r f v
       → GuardedBoth ws (bitmap_of n) os (bitmap_of m) (FindsNone r f v) (rule (view ws n) (view os m) r f v)
   pub amount-both : (rule : Bits → Bits → ℕ → ℕ → Type 0) (g : Bits → Bits → Amount)
-      → ((b o : Bits) → Bounded b → Bounded o → rule b o (amount_number (g b o)) (amount_value (g b o)))
-      → (ws os : List ℕ) (n m r v : ℕ) → AmountOut (reading_both ws (bitmap_of n) os (bitmap_of m) Amount.Refused g) r v
+      → ((b o : Bits) → Bounded b → Bounded o → rule b o (answer_number (g b o)) (amount_value (g b o)))
+      → (ws os : List ℕ) (n m r v : ℕ) → AmountOut (reading_both ws (bitmap_of n) os (bitmap_of m) Err g) r v
       → GuardedBoth ws (bitmap_of n) os (bitmap_of m) (HandsNone r v) (rule (view ws n) (view os m) r v)
   pub truth-both : (rule : Bits → Bits → ℕ → ℕ → Type 0) (g : Bits → Bits → Truth)
-      → ((b o : Bits) → Bounded b → Bounded o → rule b o (truth_number (g b o)) (truth_value (g b o)))
-      → (ws os : List ℕ) (n m r v : ℕ) → TruthOut (reading_both ws (bitmap_of n) os (bitmap_of m) Truth.Refused g) r v
+      → ((b o : Bits) → Bounded b → Bounded o → rule b o (answer_number (g b o)) (truth_value (g b o)))
+      → (ws os : List ℕ) (n m r v : ℕ) → TruthOut (reading_both ws (bitmap_of n) os (bitmap_of m) Err g) r v
       → GuardedBoth ws (bitmap_of n) os (bitmap_of m) (HandsNone r v) (rule (view ws n) (view os m) r v)
 
 -- the other calls: `split_off`, `write_list`, `write_register`, and those of the sheet
@@ -67,11 +61,11 @@ pub record OthersMean : Type 0 where
   pub register : (ws bs bs' : List ℕ) (n r v : ℕ) → Registered ws n bs r bs' v → PrintsRegister ws (bitmap_of n) bs r v bs'
   pub read : (e : ℕ) (sheet ws res res' : List ℕ) (n r k m : ℕ) → Read e sheet ws n res r res' k m
       → (a : Reading) × ReadingOut a r k m × ReadingMeans e sheet ws (bitmap_of n) res a res'
-  pub start : (bs bs' : List ℕ) (n r n' : ℕ) → Written (started bs) n r bs' n' → (a : Added) × AddedOut a n r n' × StartMeans bs a bs'
+  pub start : (bs bs' : List ℕ) (n r n' : ℕ) → Written (started bs) n r bs' n' → (a : Amount) × AddedOut a n r n' × StartMeans bs a bs'
   pub add_duty : (bs bs' payload : List ℕ) (f : Fields) (n kind r n' : ℕ) → Written (added bs n (requested true kind f payload)) n r bs' n'
-      → (a : Added) × AddedOut a n r n' × AddMeans bs n (duty kind f) a bs'
+      → (a : Amount) × AddedOut a n r n' × AddMeans bs n (duty kind f) a bs'
   pub add_remark : (bs bs' payload : List ℕ) (f : Fields) (n kind r n' : ℕ) → Written (added bs n (requested false kind f payload)) n r bs' n'
-      → (a : Added) × AddedOut a n r n' × AddMeans bs n (remark kind payload) a bs'
+      → (a : Amount) × AddedOut a n r n' × AddMeans bs n (remark kind payload) a bs'
 
 -- a truth value that comes in: 0 is false, any other is true
 pub record TruthIn : Type 0 where

@@ -1,14 +1,13 @@
 // Two bitmaps compared, counted and walked.
+ghost use Rattle.std.specs.Prelude.{Err};
 ghost use Rattle.storage.specs.Stores.{reading_both, bitmap_of};
-ghost use Rattle.storage.specs.declared.Truth.{Truth};
-ghost use Rattle.storage.specs.declared.Truth.TheVariants.{Is, Refused};
 ghost use Rattle.slice.specs.Slices.{equal};
 ghost use Rattle.pairs.specs.declared.SetOp.TheVariants.{And, AndNot, Or, Xor};
 ghost use Rattle.algebra.specs.Algebra.{empty_of, count_of};
 ghost use Rattle.walk.specs.Walks.{walk_of};
 ghost use Rattle.answers.specs.Answers.{FoundOut, AmountOut, TruthOut};
 
-use storage::{Bitmap, EMPTY};
+use storage::{Bitmap, EMPTY, Refused};
 
 // Whether both hold the same set.
 #[unsafe(no_mangle)]
@@ -19,8 +18,8 @@ pub extern "C" fn taxolbin_eq(
     ocount: usize,
     value: &mut usize,
 ) -> u32
-    ensures { TruthOut (reading_both words.now (bitmap_of count) other.now (bitmap_of ocount) Truth.Refused
-        (λ s t. Truth.Is (equal s t))) result value.new }
+    ensures { TruthOut (reading_both words.now (bitmap_of count) other.now (bitmap_of ocount) Err
+        (λ s t. Ok (equal s t))) result value.new }
 {
     let o = Bitmap {
         count: ocount,

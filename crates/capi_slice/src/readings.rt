@@ -1,24 +1,17 @@
 // What one bitmap holds: bits, fields, scans and counts.
+ghost use Rattle.std.specs.Prelude.{Ok, Err};
 ghost use Rattle.storage.specs.Stores.{reading, next_from, size, bitmap_of};
-ghost use Rattle.storage.specs.declared.Found.{Found};
-ghost use Rattle.storage.specs.declared.Found.TheVariants.{Refused};
-ghost use Rattle.storage.specs.declared.Amount.{Amount};
-ghost use Rattle.storage.specs.declared.Amount.TheVariants.{Is, Refused};
-ghost use Rattle.storage.specs.declared.Field.{Field};
-ghost use Rattle.storage.specs.declared.Field.TheVariants.{Refused};
-ghost use Rattle.storage.specs.declared.Truth.{Truth};
-ghost use Rattle.storage.specs.declared.Truth.TheVariants.{Is, Refused};
 ghost use Rattle.slice.specs.Slices.{field_at};
 ghost use Rattle.scans.specs.Searches.{last_set, next_clear};
 ghost use Rattle.bitwise.specs.Bitwise.{clear_size, count_region, rank_of, selected};
-ghost use Rattle.answers.specs.Answers.{FoundOut, AmountOut, FieldOut, TruthOut};
+ghost use Rattle.answers.specs.Answers.{FoundOut, AmountOut, TruthOut};
 
-use storage::{Bitmap, EMPTY};
+use storage::{Bitmap, EMPTY, Refused};
 
 // Whether bit i is set; it is not past the length.
 #[unsafe(no_mangle)]
 pub extern "C" fn taxolbin_get(words: &[u64], count: usize, i: usize, value: &mut usize) -> u32
-    ensures { TruthOut (reading words.now (bitmap_of count) Truth.Refused (λ s. Truth.Is (s.members i))) result value.new }
+    ensures { TruthOut (reading words.now (bitmap_of count) Err (λ s. Ok (s.members i))) result value.new }
 {
     let a = slice::get(words, Bitmap { count, ..EMPTY }, i);
     answers::truth(a, value)
@@ -33,7 +26,7 @@ pub extern "C" fn taxolbin_get_field(
     width: usize,
     value: &mut u64,
 ) -> u32
-    ensures { FieldOut (reading words.now (bitmap_of count) Field.Refused (field_at i width)) result value.new }
+    ensures { AmountOut (reading words.now (bitmap_of count) Err (field_at i width)) result value.new }
 {
     let a = slice::get_field(words, Bitmap { count, ..EMPTY }, i, width);
     answers::field(a, value)
@@ -47,7 +40,7 @@ pub extern "C" fn taxolbin_first_set(
     found: &mut usize,
     place: &mut usize,
 ) -> u32
-    ensures { FoundOut (reading words.now (bitmap_of count) Found.Refused (λ s. next_from s 0)) result found.new place.new }
+    ensures { FoundOut (reading words.now (bitmap_of count) Err (λ s. next_from s 0)) result found.new place.new }
 {
     let a = scans::first_set(words, Bitmap { count, ..EMPTY });
     answers::found(a, found, place)
@@ -61,7 +54,7 @@ pub extern "C" fn taxolbin_last_set(
     found: &mut usize,
     place: &mut usize,
 ) -> u32
-    ensures { FoundOut (reading words.now (bitmap_of count) Found.Refused last_set) result found.new place.new }
+    ensures { FoundOut (reading words.now (bitmap_of count) Err last_set) result found.new place.new }
 {
     let a = scans::last_set(words, Bitmap { count, ..EMPTY });
     answers::found(a, found, place)
@@ -76,7 +69,7 @@ pub extern "C" fn taxolbin_next_set(
     found: &mut usize,
     place: &mut usize,
 ) -> u32
-    ensures { FoundOut (reading words.now (bitmap_of count) Found.Refused (λ s. next_from s i)) result found.new place.new }
+    ensures { FoundOut (reading words.now (bitmap_of count) Err (λ s. next_from s i)) result found.new place.new }
 {
     let a = scans::next_set(words, Bitmap { count, ..EMPTY }, i);
     answers::found(a, found, place)
@@ -91,7 +84,7 @@ pub extern "C" fn taxolbin_select(
     found: &mut usize,
     place: &mut usize,
 ) -> u32
-    ensures { FoundOut (reading words.now (bitmap_of count) Found.Refused (selected rank)) result found.new place.new }
+    ensures { FoundOut (reading words.now (bitmap_of count) Err (selected rank)) result found.new place.new }
 {
     let a = bits::select(words, Bitmap { count, ..EMPTY }, rank);
     answers::found(a, found, place)
@@ -100,7 +93,7 @@ pub extern "C" fn taxolbin_select(
 // The least clear bit; the length where all are set.
 #[unsafe(no_mangle)]
 pub extern "C" fn taxolbin_first_clear(words: &[u64], count: usize, value: &mut usize) -> u32
-    ensures { AmountOut (reading words.now (bitmap_of count) Amount.Refused (λ s. Amount.Is (next_clear s 0))) result value.new }
+    ensures { AmountOut (reading words.now (bitmap_of count) Err (λ s. Ok (next_clear s 0))) result value.new }
 {
     let a = scans::first_clear(words, Bitmap { count, ..EMPTY });
     answers::amount(a, value)
@@ -114,7 +107,7 @@ pub extern "C" fn taxolbin_next_clear(
     i: usize,
     value: &mut usize,
 ) -> u32
-    ensures { AmountOut (reading words.now (bitmap_of count) Amount.Refused (λ s. Amount.Is (next_clear s i))) result value.new }
+    ensures { AmountOut (reading words.now (bitmap_of count) Err (λ s. Ok (next_clear s i))) result value.new }
 {
     let a = scans::next_clear(words, Bitmap { count, ..EMPTY }, i);
     answers::amount(a, value)
@@ -123,7 +116,7 @@ pub extern "C" fn taxolbin_next_clear(
 // How many bits are set.
 #[unsafe(no_mangle)]
 pub extern "C" fn taxolbin_count_set_bits(words: &[u64], count: usize, value: &mut usize) -> u32
-    ensures { AmountOut (reading words.now (bitmap_of count) Amount.Refused (λ s. Amount.Is (size s))) result value.new }
+    ensures { AmountOut (reading words.now (bitmap_of count) Err (λ s. Ok (size s))) result value.new }
 {
     let a = scans::count_set_bits(words, Bitmap { count, ..EMPTY });
     answers::amount(a, value)
@@ -132,7 +125,7 @@ pub extern "C" fn taxolbin_count_set_bits(words: &[u64], count: usize, value: &m
 // How many bits within the length are clear.
 #[unsafe(no_mangle)]
 pub extern "C" fn taxolbin_count_clear_bits(words: &[u64], count: usize, value: &mut usize) -> u32
-    ensures { AmountOut (reading words.now (bitmap_of count) Amount.Refused (λ s. Amount.Is (clear_size s))) result value.new }
+    ensures { AmountOut (reading words.now (bitmap_of count) Err (λ s. Ok (clear_size s))) result value.new }
 {
     let a = bits::count_clear_bits(words, Bitmap { count, ..EMPTY });
     answers::amount(a, value)
@@ -147,7 +140,7 @@ pub extern "C" fn taxolbin_count_region(
     k: usize,
     value: &mut usize,
 ) -> u32
-    ensures { AmountOut (reading words.now (bitmap_of count) Amount.Refused (λ s. Amount.Is (count_region i k s))) result value.new }
+    ensures { AmountOut (reading words.now (bitmap_of count) Err (λ s. Ok (count_region i k s))) result value.new }
 {
     let a = bits::count_region(words, Bitmap { count, ..EMPTY }, i, k);
     answers::amount(a, value)
@@ -156,7 +149,7 @@ pub extern "C" fn taxolbin_count_region(
 // How many bits below i are set.
 #[unsafe(no_mangle)]
 pub extern "C" fn taxolbin_rank(words: &[u64], count: usize, i: usize, value: &mut usize) -> u32
-    ensures { AmountOut (reading words.now (bitmap_of count) Amount.Refused (λ s. Amount.Is (rank_of i s))) result value.new }
+    ensures { AmountOut (reading words.now (bitmap_of count) Err (λ s. Ok (rank_of i s))) result value.new }
 {
     let a = bits::rank(words, Bitmap { count, ..EMPTY }, i);
     answers::amount(a, value)

@@ -24,26 +24,23 @@ use Rattle.sheet.specs.Kinds.{row_of, size_in, rule_of}
 use Rattle.editions.specs.Reader as sheets
 use Rattle.sheet.specs.Reads.{step, edition_of, course}
 use Rattle.storage.specs.declared.Bitmap.{Bitmap}
-use Rattle.storage.specs.declared.Amount.{Amount}
-use Rattle.storage.specs.declared.Field.{Field}
-use Rattle.storage.specs.declared.Found.{Found}
-use Rattle.storage.specs.declared.Truth.{Truth}
 use Rattle.print.specs.Texts.{list_answer, list_buffer}
 use Rattle.register.specs.Register.{column, ended, line, pages_for, foot_of, line_of, lines_of, register_answer, register_buffer}
 use Rattle.register.specs.Register as register
 use Rattle.style.specs.Styles.{plain_style}
 use Rattle.sheet.specs.Reads.{read_answer, read_store, reading_count}
-use Rattle.shapes.specs.declared.Split.{Split}
-use Rattle.sheet.specs.declared.Reading.{Reading}
 use Rattle.cases.specs.Cases.{from_list_in, write_list_in, write_register}
-use Rattle.cases.specs.Cases.{Question, from_list, next_clear, first_clear, get_field, select, eq, rotate_right, xori, split_off, read, zeros, whole, changed, found, counted, fielded}
+use Rattle.cases.specs.Cases.{Question, from_list, next_clear, first_clear, get_field, select, eq, rotate_right, xori, split_off, read, zeros, whole, changed, found, counted}
 use Rattle.cases.specs.Cases.{tested, parted, sheeted, listed, Comes, Sample, sample, Hold, starred, StarredHold, styled, StyledHold, faulted, FaultedHold, registered, RegisteredHold}
+use Rattle.std.specs.Prelude.{Ok, Err}
+use Rattle.sheet.specs.Reads.{Reading}
+use Rattle.shapes.specs.Shapes.{Split}
 
 -- a reading's answer, and its result printed
 printing : Reading → List ℕ → List ℕ
 printing r ws =
     let b = bitmap_of (reading_count r) in
-    sheeted r (reading ws b Amount.Refused (list_answer plain_style (zeros 16))) (reading ws b (λ e. zeros 16) (list_buffer plain_style (zeros 16)))
+    sheeted r (reading ws b Err (list_answer plain_style (zeros 16))) (reading ws b (λ e. zeros 16) (list_buffer plain_style (zeros 16)))
 
 -- a call that came to the outcome o on the bitmap b in ws
 changed_by : Outcome → Bitmap → List ℕ → List ℕ
@@ -53,13 +50,13 @@ changed_by o b ws = changed (answer o b) (store o ws b.count)
 out_of : Question → List ℕ
 out_of (from_list bytes c) = changed_by (outcome (read.reading_list plain_style bytes) (zeros c) no_words) no_words (zeros c)
 out_of (from_list_in y bytes c) = changed_by (outcome (read.reading_list y bytes) (zeros c) no_words) no_words (zeros c)
-out_of (write_list_in y ws n) = listed (reading ws (whole ws) Amount.Refused (list_answer y (zeros n))) (reading ws (whole ws) (λ e. zeros n) (list_buffer y (zeros n)))
-out_of (write_register ws n) = listed (reading ws (whole ws) Amount.Refused (register_answer (zeros n))) (reading ws (whole ws) (λ e. zeros n) (register_buffer (zeros n)))
-out_of (next_clear ws i) = counted (reading ws (whole ws) Amount.Refused (λ s. Amount.Is (clear_from s i)))
-out_of (first_clear ws) = counted (reading ws (whole ws) Amount.Refused (λ s. Amount.Is (clear_from s 0)))
-out_of (get_field ws i width) = fielded (reading ws (whole ws) Field.Refused (field_at i width))
-out_of (select ws k) = found (reading ws (whole ws) Found.Refused (selected k))
-out_of (eq ws os) = tested (reading_both ws (whole ws) os (whole os) Truth.Refused (λ s t. Truth.Is (equal s t)))
+out_of (write_list_in y ws n) = listed (reading ws (whole ws) Err (list_answer y (zeros n))) (reading ws (whole ws) (λ e. zeros n) (list_buffer y (zeros n)))
+out_of (write_register ws n) = listed (reading ws (whole ws) Err (register_answer (zeros n))) (reading ws (whole ws) (λ e. zeros n) (register_buffer (zeros n)))
+out_of (next_clear ws i) = counted (reading ws (whole ws) Err (λ s. Ok (clear_from s i)))
+out_of (first_clear ws) = counted (reading ws (whole ws) Err (λ s. Ok (clear_from s 0)))
+out_of (get_field ws i width) = counted (reading ws (whole ws) Err (field_at i width))
+out_of (select ws k) = found (reading ws (whole ws) Err (selected k))
+out_of (eq ws os) = tested (reading_both ws (whole ws) os (whole os) Err (λ s t. Ok (equal s t)))
 out_of (rotate_right ws k) = changed_by (outcome (rotating_right k) ws (whole ws)) (whole ws) ws
 out_of (xori ws n i) = changed_by (outcome (flipping_bit i) ws (bitmap_of n)) (bitmap_of n) ws
 out_of (split_off ws at c) =
@@ -76,7 +73,7 @@ comes (write_list_in y ws n) = λ r bytes h. ap₂ listed h.answers h.leaves
 comes (write_register ws n) = λ r bytes h. ap₂ listed h.answers h.leaves
 comes (next_clear ws i) = λ r h. ap counted h
 comes (first_clear ws) = λ r h. ap counted h
-comes (get_field ws i width) = λ r h. ap fielded h
+comes (get_field ws i width) = λ r h. ap counted h
 comes (select ws k) = λ r h. ap found h
 comes (eq ws os) = λ r h. ap tested h
 comes (rotate_right ws k) = λ r ws' h. ap₂ changed h.answers h.leaves

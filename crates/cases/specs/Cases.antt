@@ -1,28 +1,24 @@
 -- The starred cases of 01, "Small books to try", the sentences behind them, and cases of the requests of 02: tables of what is asked and what must come out.
 -- proofs/Starred: every row holds.
-use Rattle.std.specs.Prelude.{ℕ, zero, suc, ◌+◌, ◌/◌, ◌%◌, ◌≡◌, Bool, true, false, List, [], ◌∷◌, ◌++◌, length, take, replicate}
-use Rattle.storage.specs.Refusals.{change_number, change_record, found_number, found_flag, found_value, amount_number, amount_value, field_number, field_value, truth_number, truth_value}
+use Rattle.std.specs.Prelude.{ℕ, zero, suc, ◌+◌, ◌/◌, ◌%◌, ◌≡◌, Bool, true, false, List, [], ◌∷◌, ◌++◌, length, take, replicate, Ok, Err}
+use Rattle.storage.specs.Refusals.{change_number, change_record, answer_number, found_flag, found_value, amount_value, truth_value}
 use Rattle.storage.specs.Stores.{no_words, reading, reading_both, Changes, bitmap_of}
 use Rattle.storage.specs.declared.Bitmap.{Bitmap}
-use Rattle.storage.specs.declared.Change.{Change}
-use Rattle.storage.specs.declared.Found.{Found}
-use Rattle.storage.specs.declared.Amount.{Amount}
-use Rattle.storage.specs.declared.Field.{Field}
-use Rattle.storage.specs.declared.Truth.{Truth}
 use Rattle.slice.specs.Slices.{equal, field_at}
 use Rattle.scans.specs.Searches.{next_clear as clear_from}
 use Rattle.bitwise.specs.Bitwise.{selected}
 use Rattle.shifts.specs.Shifts.{rotating_right}
 use Rattle.bitmaps.specs.Bitmaps.{flipping_bit}
 use Rattle.shapes.specs.Shapes.{split_number, split_head, split_tail, Splits}
-use Rattle.shapes.specs.declared.Split.{Split}
 use Rattle.style.specs.Styles.{plain_style}
 use Rattle.style.specs.declared.Style.{Style}
 use Rattle.text.specs.Readings.{reading_list}
 use Rattle.print.specs.Texts.{Prints}
 use Rattle.register.specs.Register.{Registers}
 use Rattle.sheet.specs.Reads.{reading_number, reading_record, reading_count, Reads}
-use Rattle.sheet.specs.declared.Reading.{Reading}
+use Rattle.storage.specs.Refusals.{Found, Amount, Truth, Change}
+use Rattle.sheet.specs.Reads.{Reading}
+use Rattle.shapes.specs.Shapes.{Split}
 
 -- what is asked; a bitmap's words are all of its store, but in `xori`, where it is the first of them
 pub data Question : Type 0 where
@@ -57,16 +53,13 @@ changed r ws = change_number r ∷ (change_record r).count ∷ ws
 
 -- the number, 1 where something was found, and the place
 abbrev pub found : Found → List ℕ
-found r = found_number r ∷ found_flag r ∷ found_value r ∷ []
+found r = answer_number r ∷ found_flag r ∷ found_value r ∷ []
 
 abbrev pub counted : Amount → List ℕ
-counted r = amount_number r ∷ amount_value r ∷ []
-
-abbrev pub fielded : Field → List ℕ
-fielded r = field_number r ∷ field_value r ∷ []
+counted r = answer_number r ∷ amount_value r ∷ []
 
 abbrev pub tested : Truth → List ℕ
-tested r = truth_number r ∷ truth_value r ∷ []
+tested r = answer_number r ∷ truth_value r ∷ []
 
 -- the number, the head's count and every word of its store, the tail's count and every word of its store
 abbrev pub parted : Split → List ℕ → List ℕ → List ℕ
@@ -78,7 +71,7 @@ sheeted r p bytes = reading_number r ∷ reading_record r ∷ reading_count r �
 
 -- the number, the text's length, and every byte of the buffer
 abbrev pub listed : Amount → List ℕ → List ℕ
-listed r bytes = amount_number r ∷ amount_value r ∷ bytes
+listed r bytes = answer_number r ∷ amount_value r ∷ bytes
 
 -- whatever meets the call's contract comes out so; the result of a sheet is printed into sixteen bytes
 abbrev pub Comes : Question → List ℕ → Type 0
@@ -86,12 +79,12 @@ Comes (from_list text c) out = (r : Change) (ws : List ℕ) → Changes (reading
 Comes (from_list_in y text c) out = (r : Change) (ws : List ℕ) → Changes (reading_list y text) (zeros c) no_words r ws → changed r ws ≡ out
 Comes (write_list_in y ws n) out = (r : Amount) (bytes : List ℕ) → Prints y ws (whole ws) (zeros n) r bytes → listed r bytes ≡ out
 Comes (write_register ws n) out = (r : Amount) (bytes : List ℕ) → Registers ws (whole ws) (zeros n) r bytes → listed r bytes ≡ out
-Comes (next_clear ws i) out = (r : Amount) → r ≡ reading ws (whole ws) Amount.Refused (λ s. Amount.Is (clear_from s i)) → counted r ≡ out
-Comes (first_clear ws) out = (r : Amount) → r ≡ reading ws (whole ws) Amount.Refused (λ s. Amount.Is (clear_from s 0)) → counted r ≡ out
-Comes (get_field ws i width) out = (r : Field) → r ≡ reading ws (whole ws) Field.Refused (field_at i width) → fielded r ≡ out
-Comes (select ws k) out = (r : Found) → r ≡ reading ws (whole ws) Found.Refused (selected k) → found r ≡ out
+Comes (next_clear ws i) out = (r : Amount) → r ≡ reading ws (whole ws) Err (λ s. Ok (clear_from s i)) → counted r ≡ out
+Comes (first_clear ws) out = (r : Amount) → r ≡ reading ws (whole ws) Err (λ s. Ok (clear_from s 0)) → counted r ≡ out
+Comes (get_field ws i width) out = (r : Amount) → r ≡ reading ws (whole ws) Err (field_at i width) → counted r ≡ out
+Comes (select ws k) out = (r : Found) → r ≡ reading ws (whole ws) Err (selected k) → found r ≡ out
 Comes (eq ws os) out =
-    (r : Truth) → r ≡ reading_both ws (whole ws) os (whole os) Truth.Refused (λ s t. Truth.Is (equal s t)) → tested r ≡ out
+    (r : Truth) → r ≡ reading_both ws (whole ws) os (whole os) Err (λ s t. Ok (equal s t)) → tested r ≡ out
 Comes (rotate_right ws k) out =
     (r : Change) (ws' : List ℕ) → Changes (rotating_right k) ws (whole ws) r ws' → changed r ws' ≡ out
 Comes (xori ws n i) out = (r : Change) (ws' : List ℕ) → Changes (flipping_bit i) ws (bitmap_of n) r ws' → changed r ws' ≡ out

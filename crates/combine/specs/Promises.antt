@@ -5,8 +5,8 @@ use Rattle.storage.specs.Refusals.{change_number, change_record}
 use Rattle.storage.specs.Promises.{Guarded, GuardedBoth, Combines, Unites, Meets, Lacks, LacksResult, Kept, EndsAs, MeetsExactly}
 use Rattle.storage.specs.Stores.{Bits, Bounded, Space, Op, no_words, held, Changes, Makes}
 use Rattle.storage.specs.declared.Bitmap.{Bitmap}
-use Rattle.storage.specs.declared.Change.{Change}
 use Rattle.combine.specs.Combine.{combining_from, uniting_from, beside_both}
+use Rattle.storage.specs.Refusals.{Change}
 
 -- what the store held makes no difference
 abbrev pub Discards : Op → Type 0

@@ -6,27 +6,14 @@ ghost use Rattle.storage.specs.Kernels.{Put};
 
 use pairs::SetOp;
 
-// The words from index a on, below e, become those of `from`.
-fn copy_words(words: &mut [u64], from: &[u64], a: usize, e: usize)
-    requires { (e ≤ length words.old) × (e ≤ length from.now) }
-    ensures { Put (λ k. get_or from.now k 0) a e words.old words.new }
-{
-    let mut k = a;
-    while k < e {
-        words[k] = from[k];
-        k += 1;
-    }
-}
-
 // The operation on the words below e, which both slices have.
 pub(crate) fn zip_words(op: SetOp, words: &mut [u64], left: &[u64], right: &[u64], e: usize)
     requires { (e ≤ length words.old) × (e ≤ length left.now) × (e ≤ length right.now) }
     ensures { Put (λ k. get_or (words_by op left.now right.now) k 0) 0 e words.old words.new }
 {
-    let mut k = 0;
-    while k < e {
+    // A `zip` of `iter_mut` tells the proof nothing of the words that it leaves.
+    for k in 0..e {
         words[k] = op.word(left[k], right[k]);
-        k += 1;
     }
 }
 
@@ -36,7 +23,9 @@ pub(crate) fn copy_tail(words: &mut [u64], left: &[u64], right: &[u64], m: usize
     ensures { Put (λ k. get_or (words_by Or left.now right.now) k 0) (min (length left.now) (length right.now)) m
         words.old words.new }
 {
-    let both = word::min(left.len(), right.len());
-    copy_words(words, left, both, word::min(left.len(), m));
-    copy_words(words, right, both, word::min(right.len(), m));
+    let both = left.len().min(right.len());
+    if both < m {
+        let longer = if left.len() > both { left } else { right };
+        words[both..m].copy_from_slice(&longer[both..m]);
+    }
 }

@@ -5,23 +5,56 @@
 
 mod kernels;
 
-ghost use Rattle.std.specs.Prelude.{◌≤◌, max, length};
+ghost use Rattle.std.specs.Prelude.{◌≤◌, length};
+ghost use Rattle.arch.specs.Scans.{nonzero_len};
+ghost use Rattle.pairs.specs.Pairs.{words_by, end_by};
 ghost use Rattle.pairs.specs.declared.SetOp.TheVariants.{And, AndNot, Xor};
-ghost use Rattle.storage.specs.Stores.{Changes, Makes};
+ghost use Rattle.storage.specs.Stores.{view, within, Leaves, Changes, Makes};
 ghost use Rattle.combine.specs.Combine.{combining_from, uniting_from, beside_both};
-ghost use Rattle.combine.specs.Kernels.{Finished};
 
 use pairs::SetOp;
-use storage::{Bitmap, Change, Guard, Refusal};
+use storage::{Bitmap, Refusal, Refused};
 
-// After the words that both slices have: the longer one's own, as far as m, and zero in those that fall out of use.
-fn finish(words: &mut [u64], b: Bitmap, left: &[u64], right: &[u64], m: usize) -> Change
-    requires { (m ≤ length words.old) × (m ≤ max (length left.now) (length right.now)) }
-    ensures { Finished left.now right.now m b words.old result words.new }
+// The first m words that the operation makes of the words in use of two bitmaps; those that fall out of use become zero.
+#[inline(always)]
+fn put(
+    op: SetOp,
+    words: &mut [u64],
+    b: Bitmap,
+    left: &[u64],
+    right: &[u64],
+    m: usize,
+) -> Result<Bitmap, Refused>
+    requires holds { nonzero_len (words_by op left.now right.now) ≤ m }
+    requires within { m ≤ end_by op (length left.now) (length right.now) }
+    ensures { Leaves (within (length words.old) (view (words_by op left.now right.now) m)) words.old b result words.new }
 {
+    if m > words.len() {
+        return Err(Refused(Refusal::NoSpace, b));
+    }
+    kernels::zip_words(op, words, left, right, left.len().min(right.len()).min(m));
     kernels::copy_tail(words, left, right, m);
     storage::zero_words(words, m, b.count);
-    Change::Done(Bitmap { count: m, ..b })
+    Ok(Bitmap { count: m, ..b })
+}
+
+// What the operation makes of two bitmaps, in the fewest words. It is taken into each call, where the operation is known.
+#[inline(always)]
+fn fewest_from(
+    op: SetOp,
+    words: &mut [u64],
+    b: Bitmap,
+    left: &[u64],
+    l: Bitmap,
+    right: &[u64],
+    r: Bitmap,
+) -> Result<Bitmap, Refused>
+    ensures { Changes (beside_both left.now l right.now r (combining_from op)) words.old b result words.new }
+{
+    storage::check_three(words, b, left, l, right, r)?;
+    let x = &left[..l.count];
+    let y = &right[..r.count];
+    put(op, words, b, x, y, pairs::nonzero_len(op, x, y))
 }
 
 // The members of both bitmaps, in the fewest words.
@@ -32,23 +65,10 @@ pub fn and_from(
     l: Bitmap,
     right: &[u64],
     r: Bitmap,
-) -> Change
+) -> Result<Bitmap, Refused>
     ensures { Changes (beside_both left.now l right.now r (combining_from And)) words.old b result words.new }
 {
-    let i = l.count;
-    let j = r.count;
-    match storage::check_three(words, b, left, l, right, r) {
-        Guard::Stop(e) => return Change::Refused(e, b),
-        Guard::Pass => {}
-    }
-    let x = &left[..i];
-    let y = &right[..j];
-    let m = pairs::nonzero_len(SetOp::And, x, y);
-    if m > words.len() {
-        return Change::Refused(Refusal::NoSpace, b);
-    }
-    kernels::zip_words(SetOp::And, words, x, y, word::min(word::min(i, j), m));
-    finish(words, b, x, y, m)
+    fewest_from(SetOp::And, words, b, left, l, right, r)
 }
 
 // The members of the left bitmap that are not in the right one, in the fewest words.
@@ -59,26 +79,13 @@ pub fn andnot_from(
     l: Bitmap,
     right: &[u64],
     r: Bitmap,
-) -> Change
+) -> Result<Bitmap, Refused>
     ensures { Changes (beside_both left.now l right.now r (combining_from AndNot)) words.old b result words.new }
 {
-    let i = l.count;
-    let j = r.count;
-    match storage::check_three(words, b, left, l, right, r) {
-        Guard::Stop(e) => return Change::Refused(e, b),
-        Guard::Pass => {}
-    }
-    let x = &left[..i];
-    let y = &right[..j];
-    let m = pairs::nonzero_len(SetOp::AndNot, x, y);
-    if m > words.len() {
-        return Change::Refused(Refusal::NoSpace, b);
-    }
-    kernels::zip_words(SetOp::AndNot, words, x, y, word::min(word::min(i, j), m));
-    finish(words, b, x, y, m)
+    fewest_from(SetOp::AndNot, words, b, left, l, right, r)
 }
 
-// The members of either bitmap, in as many words as the longer.
+// The members of either bitmap, in as many words as the longer, which no zero at its end is dropped from: so it shares `put` alone with the others.
 pub fn or_from(
     words: &mut [u64],
     b: Bitmap,
@@ -86,23 +93,12 @@ pub fn or_from(
     l: Bitmap,
     right: &[u64],
     r: Bitmap,
-) -> Change
+) -> Result<Bitmap, Refused>
     ensures { Changes (beside_both left.now l right.now r uniting_from) words.old b result words.new }
 {
-    let i = l.count;
-    let j = r.count;
-    match storage::check_three(words, b, left, l, right, r) {
-        Guard::Stop(e) => return Change::Refused(e, b),
-        Guard::Pass => {}
-    }
-    let x = &left[..i];
-    let y = &right[..j];
-    let m = word::max(i, j);
-    if m > words.len() {
-        return Change::Refused(Refusal::NoSpace, b);
-    }
-    kernels::zip_words(SetOp::Or, words, x, y, word::min(i, j));
-    finish(words, b, x, y, m)
+    storage::check_three(words, b, left, l, right, r)?;
+    let m = l.count.max(r.count);
+    put(SetOp::Or, words, b, &left[..l.count], &right[..r.count], m)
 }
 
 // The members of one bitmap only, in the fewest words.
@@ -113,48 +109,59 @@ pub fn xor_from(
     l: Bitmap,
     right: &[u64],
     r: Bitmap,
-) -> Change
+) -> Result<Bitmap, Refused>
     ensures { Changes (beside_both left.now l right.now r (combining_from Xor)) words.old b result words.new }
 {
-    let i = l.count;
-    let j = r.count;
-    match storage::check_three(words, b, left, l, right, r) {
-        Guard::Stop(e) => return Change::Refused(e, b),
-        Guard::Pass => {}
-    }
-    let x = &left[..i];
-    let y = &right[..j];
-    let m = pairs::nonzero_len(SetOp::Xor, x, y);
-    if m > words.len() {
-        return Change::Refused(Refusal::NoSpace, b);
-    }
-    kernels::zip_words(SetOp::Xor, words, x, y, word::min(word::min(i, j), m));
-    finish(words, b, x, y, m)
+    fewest_from(SetOp::Xor, words, b, left, l, right, r)
 }
 
 // The members of both bitmaps, into a store with no earlier count.
-pub fn dup_and(words: &mut [u64], left: &[u64], l: Bitmap, right: &[u64], r: Bitmap) -> Change
+pub fn dup_and(
+    words: &mut [u64],
+    left: &[u64],
+    l: Bitmap,
+    right: &[u64],
+    r: Bitmap,
+) -> Result<Bitmap, Refused>
     ensures { Makes (beside_both left.now l right.now r (combining_from And)) words.old result words.new }
 {
     and_from(words, storage::EMPTY, left, l, right, r)
 }
 
 // The members of the left bitmap that are not in the right one, into a store with no earlier count.
-pub fn dup_andnot(words: &mut [u64], left: &[u64], l: Bitmap, right: &[u64], r: Bitmap) -> Change
+pub fn dup_andnot(
+    words: &mut [u64],
+    left: &[u64],
+    l: Bitmap,
+    right: &[u64],
+    r: Bitmap,
+) -> Result<Bitmap, Refused>
     ensures { Makes (beside_both left.now l right.now r (combining_from AndNot)) words.old result words.new }
 {
     andnot_from(words, storage::EMPTY, left, l, right, r)
 }
 
 // The members of either bitmap, into a store with no earlier count.
-pub fn dup_or(words: &mut [u64], left: &[u64], l: Bitmap, right: &[u64], r: Bitmap) -> Change
+pub fn dup_or(
+    words: &mut [u64],
+    left: &[u64],
+    l: Bitmap,
+    right: &[u64],
+    r: Bitmap,
+) -> Result<Bitmap, Refused>
     ensures { Makes (beside_both left.now l right.now r uniting_from) words.old result words.new }
 {
     or_from(words, storage::EMPTY, left, l, right, r)
 }
 
 // The members of one bitmap only, into a store with no earlier count.
-pub fn dup_xor(words: &mut [u64], left: &[u64], l: Bitmap, right: &[u64], r: Bitmap) -> Change
+pub fn dup_xor(
+    words: &mut [u64],
+    left: &[u64],
+    l: Bitmap,
+    right: &[u64],
+    r: Bitmap,
+) -> Result<Bitmap, Refused>
     ensures { Makes (beside_both left.now l right.now r (combining_from Xor)) words.old result words.new }
 {
     xor_from(words, storage::EMPTY, left, l, right, r)

@@ -13,12 +13,11 @@ use Rattle.word.proofs.Cases.{by_lt, zero_one}
 use Rattle.storage.specs.declared.Refusal.TheVariants.{BadPayload, NewerKind}
 use Rattle.sheet.specs.Kinds.{Row, table, row_of, bytes_in, size_by, size_in, bytes_by, rule_of, known}
 use Rattle.editions.specs.Reader.{asking_by}
-use Rattle.sheet.specs.declared.Known.TheVariants.{Bytes, Newer}
 use Rattle.sheet.proofs.Tables.{past_kinds}
-use Rattle.decode.specs.declared.Asked.{Asked}
-use Rattle.decode.specs.declared.Asked.TheVariants.{Refused}
 use Rattle.decode.specs.Asks.{asked_by, asked_for}
 use Rattle.decode.specs.Kernels.{payload_length, asks}
+use Rattle.decode.specs.Asks.{Asked}
+use Rattle.std.specs.Prelude.{Err, Some, None}
 
 -- a kind that is known by its number
 pub of_kind : (kind j n : ℕ) → payload_length j ≡ n → kind ≡ j → payload_length kind ≡ n
@@ -59,25 +58,25 @@ of_pair kind a b =
 
 -- ---- what the lookup tells
 
-never : {n : ℕ} → Bytes n ≡ Newer → ⊥
+never : {n : ℕ} → Some n ≡ None → ⊥
 never p = zero_one cc
 
-one : {m n : ℕ} → Bytes m ≡ Bytes n → m ≡ n
+one : {m n : ℕ} → Some m ≡ Some n → m ≡ n
 one p = cc
 
-pub known_none : (o : Option ℕ) → Newer ≡ known o → o ≡ none
+pub known_none : (o : Option ℕ) → None ≡ known o → o ≡ none
 known_none none p = refl
 known_none (some n) p = absurd (never (sym p))
 
-pub known_some : (o : Option ℕ) (n : ℕ) → Bytes n ≡ known o → o ≡ some n
+pub known_some : (o : Option ℕ) (n : ℕ) → Some n ≡ known o → o ≡ some n
 known_some none n p = absurd (never p)
 known_some (some m) n p = ap some (one (sym p))
 
-row-bytes : (e n : ℕ) (o : Option Row) → Bytes n ≡ known (size_by e o) → n ≡ bytes_by o
+row-bytes : (e n : ℕ) (o : Option Row) → Some n ≡ known (size_by e o) → n ≡ bytes_by o
 row-bytes e n none p = absurd (never p)
 row-bytes e n (some r) p = go (leb r.since e) p
   where
-    go : (t : Bool) → Bytes n ≡ known (choose t (some (bytes_in r)) none) → n ≡ bytes_in r
+    go : (t : Bool) → Some n ≡ known (choose t (some (bytes_in r)) none) → n ≡ bytes_in r
     go true q = one q
     go false q = absurd (never q)
 
@@ -86,7 +85,7 @@ pub record HeldBytes (kind n : ℕ) : Type 0 where
   pub low : 1 ≤ kind
   pub high : kind ≤ length table
 
-pub held : (e kind n : ℕ) → Bytes n ≡ known (size_in e kind) → HeldBytes kind n
+pub held : (e kind n : ℕ) → Some n ≡ known (size_in e kind) → HeldBytes kind n
 unfolding size_in payload_length
 held e zero n p = absurd (never p)
 held e (suc k) n p = record {
@@ -102,16 +101,16 @@ module _ (e kind : ℕ) (l : List ℕ) where
   abbrev by : Option ℕ → Asked
   by o = asked_by (asking_by rule_of kind l o)
 
-  pub asked_newer : Newer ≡ known (size_in e kind) → Refused NewerKind ≡ asked_for e kind l
+  pub asked_newer : None ≡ known (size_in e kind) → Err NewerKind ≡ asked_for e kind l
   unfolding asked_for
   asked_newer p = ap by (sym (known_none (size_in e kind) p))
 
-  module _ (n : ℕ) (p : Bytes n ≡ known (size_in e kind)) where
+  module _ (n : ℕ) (p : Some n ≡ known (size_in e kind)) where
     asked-with : (t : Bool) → eqb (length l) n ≡ t → asked_for e kind l ≡ asks (choose t (rule_of kind l) none)
     unfolding asked_for
     asked-with t q = ap by (known_some (size_in e kind) n p) ∙ ap (λ (t : Bool). asks (choose t (rule_of kind l) none)) q
 
-    pub asked_long : (length l ≡ n → ⊥) → Refused BadPayload ≡ asked_for e kind l
+    pub asked_long : (length l ≡ n → ⊥) → Err BadPayload ≡ asked_for e kind l
     asked_long h = sym (asked-with false (ne_eqb (length l) n h))
 
     pub asked_edit : (r : Asked) → length l ≡ n → r ≡ asks (rule_of kind l) → r ≡ asked_for e kind l

@@ -5,10 +5,8 @@ use mathlib.Core.List.{List, [], ◌∷◌, ◌++◌}
 use native.Mathlib.Omega.{arith}
 use lib.ListN.{length, get_or, take, drop, length-append, take-append-drop}
 use native.Mathlib.Numerals.{add-one}
-use lib.Seq.{take-suc, take_all}
+use lib.Seq.{take-suc}
 use lib.Pow.{pow-add}
-use lib.Dec.{leb, leb→le}
-use Rattle.word.proofs.Cases.{every_at}
 use Rattle.sheet.specs.Bytes.{number}
 
 pub number_append : (p q : List ℕ) → number (p ++ q) ≡ number p * 256 ^ length q + number q
@@ -29,9 +27,6 @@ number_more l j h =
 
 -- ---- one byte more to a number below 256 ^ i
 
-pub fits_word : (x b i : ℕ) → x < 256 ^ i → b < 256 → i < 8 → x * 256 + b < 2 ^ 64
-fits_word x b i h k l = omega (arith, leb→le (256 ^ i) (256 ^ 7) (every_at (λ i. leb (256 ^ i) (256 ^ 7)) 8 tt i l))
-
 pub fits_more : (x b i : ℕ) → x < 256 ^ i → b < 256 → x * 256 + b < 256 ^ (i + 1)
 fits_more x b i h k = subst (λ (y : ℕ). x * 256 + b < y) (sym (pow-add 256 i 1)) (omega arith)
 
@@ -51,7 +46,3 @@ read_more bytes i x b r h e k = record {
   is = ap₂ (λ (y z : ℕ). y * 256 + z) r.is e ∙ sym (number_more bytes i h);
   small = fits_more x b i r.small k;
 }
-
-pub read_all : (bytes : List ℕ) (i x : ℕ) → ReadUpTo bytes i x → length bytes ≤ i → (x ≡ number bytes) × (x < 256 ^ length bytes)
-read_all bytes i x r h =
-    (r.is ∙ ap number (take_all i bytes h), subst (λ (n : ℕ). x < 256 ^ n) (let e : i ≡ length bytes = omega (arith, r.inside) in e) r.small)

@@ -18,11 +18,12 @@ use Rattle.sheet.specs.Reads.{edition_of}
 use Rattle.sheet.specs.Promises.{HasKind, Laid}
 use Rattle.sheet.specs.declared.Edit.{Edit}
 use Rattle.sheet.proofs.Papers.{has_size, size_has, payloads_exact}
-use Rattle.decode.specs.Asks.{asked_number, asked_by, asked_for}
+use Rattle.decode.specs.Asks.{asked_by, asked_for}
 use Rattle.decode.specs.Kernels.{asks}
 use Rattle.decode.specs.Promises.{AskedExact, EditOfMeans}
-use Rattle.decode.specs.declared.Asked.{Asked}
-use Rattle.decode.specs.declared.Asked.TheVariants.{For, Refused}
+use Rattle.decode.specs.Asks.{Asked}
+use Rattle.std.specs.Prelude.{Ok, Err}
+use Rattle.storage.specs.Refusals.{answer_number}
 
 module _ (n kind : ℕ) (p : List ℕ) (bytes : (i : ℕ) → get_or p i 0 < 256) where
   abbrev item : Item
@@ -48,20 +49,20 @@ module _ (n kind : ℕ) (p : List ℕ) (bytes : (i : ℕ) → get_or p i 0 < 256
     unfolding edition_of
     asks-laid e l r = (payloads_exact n 0 m item e refl s bytes).0 (record { duty = refl; sized = s ∙ ap some l; ruled = r })
 
-    wrong : ((e : Edit) → ¬ Laid kind p e) → (a : Asked) → a ≡ Refused BadPayload → AskedExact n kind p a
+    wrong : ((e : Edit) → ¬ Laid kind p e) → (a : Asked) → a ≡ Err BadPayload → AskedExact n kind p a
     wrong none-laid a q = record {
-      newer = ((λ x. absurd (omega (arith, ap asked_number q))), (λ h. absurd (h has)));
-      bad = ((λ x. (has, none-laid)), (λ h. ap asked_number q));
-      done = ((λ x. absurd (omega (arith, ap asked_number q))), (λ h. absurd (none-laid h.1 h.2)));
-      for = λ e. ((λ x. absurd (omega (arith, ap asked_number (sym q ∙ x)))), (λ h. absurd (none-laid e h.1)));
+      newer = ((λ x. absurd (omega (arith, ap answer_number q))), (λ h. absurd (h has)));
+      bad = ((λ x. (has, none-laid)), (λ h. ap answer_number q));
+      done = ((λ x. absurd (omega (arith, ap answer_number q))), (λ h. absurd (none-laid h.1 h.2)));
+      for = λ e. ((λ x. absurd (omega (arith, ap answer_number (sym q ∙ x)))), (λ h. absurd (none-laid e h.1)));
     }
 
-    right : (d : Edit) → ((e : Edit) → Laid kind p e ↔ (d ≡ e)) → (a : Asked) → a ≡ For d → AskedExact n kind p a
+    right : (d : Edit) → ((e : Edit) → Laid kind p e ↔ (d ≡ e)) → (a : Asked) → a ≡ Ok d → AskedExact n kind p a
     right d its a q = record {
-      newer = ((λ x. absurd (omega (arith, ap asked_number q))), (λ h. absurd (h has)));
-      bad = ((λ x. absurd (omega (arith, ap asked_number q))), (λ h. absurd (h.1 d ((its d).1 refl))));
-      done = ((λ x. (has, d, (its d).1 refl)), (λ h. ap asked_number q));
-      for = λ e. ((λ x. let z : For d ≡ For e = sym q ∙ x in (has, (its e).1 (cc))), (λ h. q ∙ ap For ((its e).0 h.1)));
+      newer = ((λ x. absurd (omega (arith, ap answer_number q))), (λ h. absurd (h has)));
+      bad = ((λ x. absurd (omega (arith, ap answer_number q))), (λ h. absurd (h.1 d ((its d).1 refl))));
+      done = ((λ x. (has, d, (its d).1 refl)), (λ h. ap answer_number q));
+      for = λ e. ((λ x. let z : Ok d ≡ Ok e = sym q ∙ x in (has, (its e).1 (cc))), (λ h. q ∙ ap Ok ((its e).0 h.1)));
     }
 
     ruled : (o : Option Edit) → rule_of kind p ≡ o → length p ≡ m → AskedExact n kind p (asks o)
@@ -77,12 +78,12 @@ module _ (n kind : ℕ) (p : List ℕ) (bytes : (i : ℕ) → get_or p i 0 < 256
         (λ l. subst (AskedExact n kind p) (sym (ap (λ (t : Bool). asks (choose t (rule_of kind p) none)) (eq-eqb (length p) m l))) (ruled (rule_of kind p) refl l))
         (λ l. wrong (λ e g. l (sym (laid-asks e g).0)) _ (ap (λ (t : Bool). asks (choose t (rule_of kind p) none)) (ne_eqb (length p) m l)))
 
-  lacks : size_in n kind ≡ none → AskedExact n kind p (Refused NewerKind)
+  lacks : size_in n kind ≡ none → AskedExact n kind p (Err NewerKind)
   lacks s = record {
     newer = ((λ x. lacking s), (λ h. refl));
     bad = ((λ x. absurd (omega arith)), (λ h. absurd (lacking s h.0)));
     done = ((λ x. absurd (omega arith)), (λ h. absurd (lacking s h.0)));
-    for = λ e. ((λ x. absurd (omega (arith, ap asked_number x))), (λ h. absurd (lacking s h.0)));
+    for = λ e. ((λ x. absurd (omega (arith, ap answer_number x))), (λ h. absurd (lacking s h.0)));
   }
 
   exact : AskedExact n kind p (asked_for n kind p)

@@ -5,7 +5,7 @@ use Rattle.sheet.specs.Kinds.{row_of, bytes_in, bytes_by}
 use Rattle.editions.specs.Reader.{ruled}
 use Rattle.sheet.specs.declared.Edit.{Edit}
 use Rattle.decode.specs.Asks.{asked_by}
-use Rattle.decode.specs.declared.Asked.{Asked}
+use Rattle.decode.specs.Asks.{Asked}
 
 -- the payload's bytes of a kind
 unfoldable pub payload_length : ℕ → ℕ

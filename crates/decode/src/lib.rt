@@ -9,59 +9,50 @@ ghost use Rattle.sheet.specs.Kinds.{rule_of};
 ghost use Rattle.decode.specs.Asks.{asked_for};
 ghost use Rattle.decode.specs.Kernels.{payload_length, asks};
 
-use sheet::{AT_1, AT_7, AT_25, AT_32, AT_39, AT_63, Edit, Known};
-use storage::Refusal;
-
-// An edit, or the refusal 13 or 12.
-#[derive(Clone, Copy)]
-pub enum Asked {
-    For(Edit),
-    Refused(Refusal),
-}
+use sheet::{AT_1, AT_7, AT_25, AT_32, AT_39, AT_63, Edit};
+use storage::{Refusal, Refused};
 
 // The number whose bytes are given, the most significant first.
 fn number_of(bytes: &[u8]) -> usize
     requires { length bytes.now ≤ 8 }
     ensures { (result ≡ number bytes.now) × (result < 256 ^ length bytes.now) }
 {
-    let mut x: usize = 0;
-    let mut i: usize = 0;
-    while i < bytes.len() {
-        x = x * 256 + bytes[i] as usize;
-        i += 1;
+    let mut x = 0;
+    for &byte in bytes {
+        x = x * 256 + byte as usize;
     }
     x
 }
 
 // Kinds 1 and 2: p.
-fn place(kind: usize, payload: &[u8]) -> Asked
+fn place(kind: usize, payload: &[u8]) -> Result<Edit, Refusal>
     requires { (length payload.now ≡ 4) × (1 ≤ kind) × (kind ≤ 2) }
     ensures { result ≡ asks (rule_of kind payload.now) }
 {
     let p = number_of(payload);
     if kind == 1 {
-        return Asked::For(Edit::Set(p));
+        return Ok(Edit::Set(p));
     }
-    Asked::For(Edit::Unset(p))
+    Ok(Edit::Unset(p))
 }
 
 // Kind 3: the value, p and k, then 7 unused bits.
-fn region(payload: &[u8]) -> Asked
+fn region(payload: &[u8]) -> Result<Edit, Refusal>
     requires { length payload.now ≡ 9 }
     ensures { result ≡ asks (rule_of 3 payload.now) }
 {
     let b = number_of(&payload[..1]);
     let x = number_of(&payload[1..]);
     if x % AT_7 != 0 {
-        return Asked::Refused(Refusal::BadPayload);
+        return Err(Refusal::BadPayload);
     }
     let p = b % AT_7 * AT_25 + x / AT_39;
     let k = x / AT_7 % AT_32;
-    Asked::For(Edit::SetRegion(b >= AT_7, p, k))
+    Ok(Edit::SetRegion(b >= AT_7, p, k))
 }
 
 // Kind 4: p, the width and the value, then an unused bit.
-fn field(payload: &[u8]) -> Asked
+fn field(payload: &[u8]) -> Result<Edit, Refusal>
     requires { length payload.now ≡ 13 }
     ensures { result ≡ asks (rule_of 4 payload.now) }
 {
@@ -69,49 +60,49 @@ fn field(payload: &[u8]) -> Asked
     let b = number_of(&payload[4..5]);
     let x = number_of(&payload[5..]);
     if x % AT_1 != 0 {
-        return Asked::Refused(Refusal::BadPayload);
+        return Err(Refusal::BadPayload);
     }
     if b / AT_1 > 64 {
-        return Asked::Refused(Refusal::BadPayload);
+        return Err(Refusal::BadPayload);
     }
     let value = b % AT_1 * AT_63 + x / AT_1;
-    Asked::For(Edit::SetField(p, b / AT_1, value as u64))
+    Ok(Edit::SetField(p, b / AT_1, value as u64))
 }
 
 // Kinds 5 and 6: the direction and k, then 7 unused bits.
-fn turn(kind: usize, payload: &[u8]) -> Asked
+fn turn(kind: usize, payload: &[u8]) -> Result<Edit, Refusal>
     requires { (length payload.now ≡ 5) × (5 ≤ kind) × (kind ≤ 6) }
     ensures { result ≡ asks (rule_of kind payload.now) }
 {
     let x = number_of(payload);
     if x % AT_7 != 0 {
-        return Asked::Refused(Refusal::BadPayload);
+        return Err(Refusal::BadPayload);
     }
     let right = x >= AT_39;
     let k = x / AT_7 % AT_32;
     if kind == 5 {
-        return Asked::For(Edit::Shift(right, k));
+        return Ok(Edit::Shift(right, k));
     }
-    Asked::For(Edit::Rotate(right, k))
+    Ok(Edit::Rotate(right, k))
 }
 
 // Kind 7: 33 bits, then 7 unused bits.
-fn size(payload: &[u8]) -> Asked
+fn size(payload: &[u8]) -> Result<Edit, Refusal>
     requires { length payload.now ≡ 5 }
     ensures { result ≡ asks (rule_of 7 payload.now) }
 {
     let x = number_of(payload);
     if x % AT_7 != 0 {
-        return Asked::Refused(Refusal::BadPayload);
+        return Err(Refusal::BadPayload);
     }
     if x / AT_7 > sheet::MOST_BITS {
-        return Asked::Refused(Refusal::BadPayload);
+        return Err(Refusal::BadPayload);
     }
-    Asked::For(Edit::Resize(x / AT_7))
+    Ok(Edit::Resize(x / AT_7))
 }
 
 // Kinds 9, 10 and 11: p and k.
-fn pair(kind: usize, payload: &[u8]) -> Asked
+fn pair(kind: usize, payload: &[u8]) -> Result<Edit, Refusal>
     requires { (length payload.now ≡ 8) × (9 ≤ kind) × (kind ≤ 11) }
     ensures { result ≡ asks (rule_of kind payload.now) }
 {
@@ -119,16 +110,16 @@ fn pair(kind: usize, payload: &[u8]) -> Asked
     let p = x / AT_32;
     let k = x % AT_32;
     if kind == 9 {
-        return Asked::For(Edit::ToggleRegion(p, k));
+        return Ok(Edit::ToggleRegion(p, k));
     }
     if kind == 10 {
-        return Asked::For(Edit::Open(p, k));
+        return Ok(Edit::Open(p, k));
     }
-    Asked::For(Edit::Close(p, k))
+    Ok(Edit::Close(p, k))
 }
 
 // A payload of its kind's length.
-fn decode(kind: usize, payload: &[u8]) -> Asked
+fn decode(kind: usize, payload: &[u8]) -> Result<Edit, Refusal>
     requires { (length payload.now ≡ payload_length kind) × (1 ≤ kind) × (kind ≤ 11) }
     ensures { result ≡ asks (rule_of kind payload.now) }
 {
@@ -148,22 +139,20 @@ fn decode(kind: usize, payload: &[u8]) -> Asked
         return size(payload);
     }
     if kind == 8 {
-        return Asked::For(Edit::Reverse);
+        return Ok(Edit::Reverse);
     }
     pair(kind, payload)
 }
 
 // What a duty record of a kind asks for in an edition: 13 where the edition does not have the kind, 12 where the payload is bad.
-pub fn edit_of(edition: usize, kind: usize, payload: &[u8]) -> Asked
+pub fn edit_of(edition: usize, kind: usize, payload: &[u8]) -> Result<Edit, Refusal>
     ensures { result ≡ asked_for edition kind payload.now }
 {
-    match sheet::payload_bytes(edition, kind) {
-        Known::Newer => Asked::Refused(Refusal::NewerKind),
-        Known::Bytes(n) => {
-            if payload.len() != n {
-                return Asked::Refused(Refusal::BadPayload);
-            }
-            decode(kind, payload)
-        }
+    let Some(n) = sheet::payload_bytes(edition, kind) else {
+        return Err(Refusal::NewerKind);
+    };
+    if payload.len() != n {
+        return Err(Refusal::BadPayload);
     }
+    decode(kind, payload)
 }

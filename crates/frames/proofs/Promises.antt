@@ -5,14 +5,14 @@ use mathlib.Core.Bool.{true, false≢true}
 use mathlib.Core.List.{List}
 use mathlib.Core.Logic.{◌↔◌}
 use mathlib.Core.Option.{Option, none, some}
-use Rattle.storage.specs.Refusals.{guard_number}
+use Rattle.storage.specs.Refusals.{answer_number}
 use Rattle.storage.specs.declared.Refusal.{Refusal}
 use Rattle.editions.specs.Frames.{headed, sheet_fault}
 use Rattle.editions.specs.Meaning.{Header}
 use Rattle.editions.specs.Promises.{SheetGets}
 use Rattle.editions.proofs.Turns.{header?, headed_true, headed_false}
 use Rattle.editions.proofs.Faults.{fault_number, sheet_gets, fault_is}
-use Rattle.frames.specs.Frames.{end_in, guard_by}
+use Rattle.frames.specs.Frames.{end_in, fault_by}
 use Rattle.frames.specs.Promises.{HeadIn, EndsAt, FramesMean}
 use Rattle.frames.proofs.Walks.{torn, whole, told-cut}
 
@@ -30,11 +30,11 @@ module _ (sheet : List ℕ) where
   ends_at : (at : ℕ) → EndsAt sheet at (end_in sheet at)
   ends_at at = record { whole = λ l. sym (whole sheet at l); cut = (told-cut sheet at (end_in sheet at) refl, λ l. sym (torn sheet at l)) }
 
-  same_number : (o : Option Refusal) → guard_number (guard_by o) ≡ fault_number o
+  same_number : (o : Option Refusal) → answer_number (fault_by o) ≡ fault_number o
   same_number none = refl
   same_number (some e) = refl
 
-  fault_due : (x : ℕ) → (guard_number (guard_by (sheet_fault sheet)) ≡ x) ↔ SheetGets sheet x
+  fault_due : (x : ℕ) → (answer_number (fault_by (sheet_fault sheet)) ≡ x) ↔ SheetGets sheet x
   fault_due x =
       let n = same_number (sheet_fault sheet) in
       ((λ e. subst (SheetGets sheet) (sym n ∙ e) (sheet_gets sheet)), λ g. n ∙ fault_is sheet x g)

@@ -3,9 +3,9 @@
 
 ghost use Rattle.std.specs.Prelude.{◌≡◌, ◌≤◌, ◌<◌, length, get_or};
 ghost use Rattle.editions.specs.Frames.{headed, count_in, frames_fault, sheet_fault};
-ghost use Rattle.frames.specs.Frames.{end_in, guard_by};
+ghost use Rattle.frames.specs.Frames.{end_in, fault_by};
 
-use storage::{Guard, Refusal};
+use storage::Refusal;
 
 // The byte at a place, 0 past the end.
 fn byte_at(bytes: &[u8], at: usize) -> usize
@@ -38,51 +38,48 @@ pub fn record_count(sheet: &[u8]) -> usize
     byte_at(sheet, 2) * 256 + byte_at(sheet, 3)
 }
 
-// Where the record at a place ends, 0 where the sheet ends before.
-pub fn record_end(sheet: &[u8], at: usize) -> usize
+// Where the record at a place ends, if the sheet has it whole.
+pub fn record_end(sheet: &[u8], at: usize) -> Option<usize>
     ensures { result ≡ end_in sheet.now at }
 {
     if sheet.len() < 3 {
-        return 0;
+        return None;
     }
     let last = sheet.len() - 3;
     if at > last {
-        return 0;
+        return None;
     }
     let n = sheet[at + 1] as usize * 256 + sheet[at + 2] as usize;
     if last - at < n {
-        return 0;
+        return None;
     }
-    at + 3 + n
+    Some(at + 3 + n)
 }
 
 // 10 or 11 of the n records after the head.
-fn records_fault(sheet: &[u8], n: usize) -> Guard
+fn records_fault(sheet: &[u8], n: usize) -> Result<(), Refusal>
     requires { 4 ≤ length sheet.now }
-    ensures { result ≡ guard_by (frames_fault sheet.now n 4) }
+    ensures { result ≡ fault_by (frames_fault sheet.now n 4) }
 {
-    let mut at: usize = 4;
-    let mut i: usize = 0;
-    while i < n {
-        let end = record_end(sheet, at);
-        if end == 0 {
-            return Guard::Stop(Refusal::CutRecord);
-        }
+    let mut at = 4;
+    for _ in 0..n {
+        let Some(end) = record_end(sheet, at) else {
+            return Err(Refusal::CutRecord);
+        };
         at = end;
-        i += 1;
     }
     if at < sheet.len() {
-        return Guard::Stop(Refusal::BytesRemain);
+        return Err(Refusal::BytesRemain);
     }
-    Guard::Pass
+    Ok(())
 }
 
 // 9, 10 or 11 of a whole sheet.
-pub fn fault(sheet: &[u8]) -> Guard
-    ensures { result ≡ guard_by (sheet_fault sheet.now) }
+pub fn fault(sheet: &[u8]) -> Result<(), Refusal>
+    ensures { result ≡ fault_by (sheet_fault sheet.now) }
 {
     if !has_head(sheet) {
-        return Guard::Stop(Refusal::NotSheet);
+        return Err(Refusal::NotSheet);
     }
     records_fault(sheet, record_count(sheet))
 }

@@ -12,8 +12,6 @@ use Rattle.storage.specs.Stores.{Bits, with_count, view, held, within, words_for
 use Rattle.storage.specs.Guards.{Passed}
 use Rattle.storage.specs.declared.Bitmap.{Bitmap}
 use Rattle.storage.specs.declared.Refusal.TheVariants.{IndexOver, NoSpace}
-use Rattle.storage.specs.declared.Change.{Change}
-use Rattle.storage.specs.declared.Change.TheVariants.{Done, Refused}
 use Rattle.storage.proofs.Checks.{within_ok, within_no}
 use Rattle.storage.proofs.Views.{view-count, view-whole, bounded_view}
 use Rattle.storage.proofs.Stores.{changes_done, changes-refused, changes-same}
@@ -25,6 +23,8 @@ use Rattle.gap.specs.Gaps.{opening, closing}
 use Rattle.gap.specs.Kernels.{gap_opened, gap_closed}
 use Rattle.gap.proofs.Opens.{open_none, open_over, open_put, opened_ends}
 use Rattle.gap.proofs.Closes.{shut, close_done}
+use Rattle.storage.specs.Refusals.{Change, refusing}
+use Rattle.std.specs.Prelude.{Ok}
 
 module _ (ws : List ℕ) (b : Bitmap) (p k : ℕ) (q : Passed ws b) where
   -- ---- opened
@@ -42,7 +42,7 @@ module _ (ws : List ℕ) (b : Bitmap) (p k : ℕ) (q : Passed ws b) where
       v = held ws b
 
   module _ (top : ℕ) (e : top_of (held ws b) ≡ suc top) (l : p ≤ top) where
-    pub open_refused : 2 ^ 64 < suc (top + k) → Changes (opening p k) ws b (Refused IndexOver b) ws
+    pub open_refused : 2 ^ 64 < suc (top + k) → Changes (opening p k) ws b (refusing b IndexOver) ws
     open_refused h =
         changes-refused (opening p k) ws b IndexOver q (open_over p k (length ws) (held ws b) (bounded_view ws b.count) (omega arith) (omega arith))
 
@@ -58,13 +58,13 @@ module _ (ws : List ℕ) (b : Bitmap) (p k : ℕ) (q : Passed ws b) where
       unfolding words_for
       count = ap (λ (x : ℕ). (x + k + 63) / 64) e ∙ omega arith
 
-      pub open_no_space : length ws ≤ (top + k) / 64 → Changes (opening p k) ws b (Refused NoSpace b) ws
+      pub open_no_space : length ws ≤ (top + k) / 64 → Changes (opening p k) ws b (refusing b NoSpace) ws
       unfolding s
       open_no_space h = changes-refused (opening p k) ws b NoSpace q (put ∙ within_no (length ws) s (omega (arith, count)))
 
       pub open_changes : (z part : List ℕ) (m : ℕ) → (top + k) / 64 < length ws → z ≡ zeroed b.count ((top + k) / 64 + 1) ws
           → m ≡ max b.count ((top + k) / 64 + 1) → part ≡ words_of (gap_opened p k (member (take m z))) (length (take m z))
-          → Changes (opening p k) ws b (Done (with_count b ((top + k) / 64 + 1))) (part ++ drop m z)
+          → Changes (opening p k) ws b (Ok (with_count b ((top + k) / 64 + 1))) (part ++ drop m z)
       unfolding s
       open_changes z part m h ez em ep =
           changes_done (opening p k) ws b (part ++ drop m z) s ((top + k) / 64 + 1) q
@@ -78,7 +78,7 @@ module _ (ws : List ℕ) (b : Bitmap) (p k : ℕ) (q : Passed ws b) where
   -- ---- closed
 
   pub close_changes : (part : List ℕ) (r : ℕ) → Fit ws → part ≡ words_of (gap_closed p k (member (take b.count ws))) (length (take b.count ws))
-      → r ≡ nonzero_len (take b.count (part ++ drop b.count ws)) → Changes (closing p k) ws b (Done (with_count b r)) (part ++ drop b.count ws)
+      → r ≡ nonzero_len (take b.count (part ++ drop b.count ws)) → Changes (closing p k) ws b (Ok (with_count b r)) (part ++ drop b.count ws)
   close_changes part r f ep er =
       changes_done (closing p k) ws b (part ++ drop n ws) (trimmed (shut p k (view ws n))) r q
       (close_done p k (length ws) (view ws n) (bounded_view ws n) (omega (arith, view-count ws b.count, q.inside)) (omega (arith, view-count ws b.count, q.inside, q.short)))

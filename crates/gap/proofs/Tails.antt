@@ -169,11 +169,6 @@ member_tail ws a i =
     ∙ ap (λ (x : ℕ). get_or ws x 0) (omega arith))
     (omega arith)
 
--- the words that a kernel gives back for those from word a on, where word a was changed before, are as many
-pub after-set_long : (ws part : List ℕ) (a v : ℕ) (h : ℕ → Bool) → a < length ws → part ≡ words_of h (length (take (length (set ws a v) - a) (drop a (set ws a v))))
-    → length (take a (set ws a v) ++ (part ++ drop (length (set ws a v) - a) (drop a (set ws a v)))) ≡ length ws
-after-set_long ws part a v h l ep = joined_long (set ws a v) part a h (omega (arith, length-set ws a v)) ep ∙ length-set ws a v
-
 module _ (ws : List ℕ) (p k : ℕ) (f : Fit ws) where
   pub close_out : length ws ≤ p / 64 → ws ≡ words_of (gap_closed p k (member ws)) (length ws)
   close_out h = own_words ws (gap_closed p k (member ws)) f (λ i l. closed_below p k (member ws) i (omega arith))

@@ -1,7 +1,7 @@
 // A gap in a bitmap: places opened, so that the bits behind them move up, and places closed, so that those behind them move down.
 //
 // A change sheet composes both of `split_off`, shifts and `or`, with a second store for the tail. Here they are done in place, word by word.
-#![tactic(auto)]
+#![tactic(auto, using(shift::proofs::Guards::part_of_store))]
 
 ghost use Rattle.std.specs.Prelude.{◌≡◌, length};
 ghost use Rattle.word.specs.Places.{member, words_of};
@@ -9,7 +9,7 @@ ghost use Rattle.storage.specs.Stores.{Changes};
 ghost use Rattle.gap.specs.Gaps.{opening, closing};
 ghost use Rattle.gap.specs.Kernels.{gap_opened, gap_closed};
 
-use storage::{Bitmap, Change, Found, Guard, Refusal};
+use storage::{Bitmap, Refusal, Refused};
 use word::Word;
 
 // The bits from p on go k up; those that pass the end are lost.
@@ -27,7 +27,8 @@ fn open_words(words: &mut [u64], p: usize, k: usize)
     words[a] = (words[a] & !mask) | (low & mask);
 }
 
-// The bits from p + k on go k down; those from p on, below p + k, are lost.
+// The bits from p + k on go k down; those from p on, below p + k, are lost. `open_words` has to clear the low bits before they move up, so that one
+// function of both would clear them for nothing here.
 fn close_words(words: &mut [u64], p: usize, k: usize)
     ensures { words.new ≡ words_of (gap_closed p k (member words.old)) (length words.old) }
 {
@@ -42,42 +43,39 @@ fn close_words(words: &mut [u64], p: usize, k: usize)
 }
 
 // Opens k places at p: bits from p on go k up. Grows to the word of the highest and drops trailing zero words; 4 where the highest passes the last index.
-pub fn open_gap(words: &mut [u64], b: Bitmap, p: usize, k: usize) -> Change
+pub fn open_gap(words: &mut [u64], b: Bitmap, p: usize, k: usize) -> Result<Bitmap, Refused>
     ensures { Changes (opening p k) words.old b result words.new }
 {
     let n = b.count;
-    let top = match scans::last_set(words, b) {
-        Found::Refused(e) => return Change::Refused(e, b),
-        Found::Nothing => return bitmap::trim(words, b),
-        Found::At(i) => i,
+    let last = match scans::last_set(words, b) {
+        Err(why) => return Err(Refused(why, b)),
+        Ok(last) => last,
     };
-    if top < p {
-        return bitmap::trim(words, b);
-    }
-    if k > usize::MAX - top {
-        return Change::Refused(Refusal::IndexOver, b);
-    }
-    let w = (top + k) / 64;
+    let top = match last {
+        Some(i) if i >= p => i,
+        _ => return bitmap::trim(words, b),
+    };
+    let Some(end) = top.checked_add(k) else {
+        return Err(Refused(Refusal::IndexOver, b));
+    };
+    let w = end / 64;
     if w >= words.len() {
-        return Change::Refused(Refusal::NoSpace, b);
+        return Err(Refused(Refusal::NoSpace, b));
     }
     storage::zero_words(words, n, w + 1);
-    let m = word::max(n, w + 1);
+    let m = n.max(w + 1);
     open_words(&mut words[..m], p, k);
-    Change::Done(Bitmap { count: w + 1, ..b })
+    Ok(Bitmap { count: w + 1, ..b })
 }
 
 // Closes k places at p: bits from p on, below p + k, go, and those behind them go k down. Drops trailing zero words.
-pub fn close_gap(words: &mut [u64], b: Bitmap, p: usize, k: usize) -> Change
+pub fn close_gap(words: &mut [u64], b: Bitmap, p: usize, k: usize) -> Result<Bitmap, Refused>
     ensures { Changes (closing p k) words.old b result words.new }
 {
     let n = b.count;
-    match storage::check(words, b) {
-        Guard::Stop(e) => return Change::Refused(e, b),
-        Guard::Pass => {}
-    }
+    storage::check(words, b)?;
     close_words(&mut words[..n], p, k);
-    Change::Done(Bitmap {
+    Ok(Bitmap {
         count: arch::nonzero_len(&words[..n]),
         ..b
     })

@@ -33,6 +33,10 @@ joined-more {ws} {i} {k} {some} {x} j h e = record {
   all = λ s. ap₂ bit_or (j.all (record { at = λ q a l. s.at q a (omega arith) })) (e ∙ s.at k h (omega arith));
 }
 
+-- the end, by an equation
+pub joined_to : {ws : List ℕ} {i k some k' : ℕ} → Joined ws i k some → k ≡ k' → Joined ws i k' some
+joined_to j e = rw (← e) j
+
 -- ---- every word from an end on is 0
 
 module _ (op : SetOp) (xs ys : List ℕ) where

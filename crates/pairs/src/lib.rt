@@ -9,7 +9,7 @@ ghost use Rattle.arch.specs.Scans.{Alike, nonzero_len, is_zero};
 ghost use Rattle.pairs.specs.Pairs.{word_by, words_by, end_by, zero_eights};
 
 // A set operation, by what it makes of two memberships.
-#[derive(Clone, Copy)]
+#[derive(Clone, Copy, Debug, PartialEq, Eq, Hash)]
 pub enum SetOp {
     And,
     AndNot,
@@ -43,10 +43,9 @@ pub fn end_of(op: SetOp, n: usize, m: usize) -> usize
     ensures { result ≡ end_by op n m }
 {
     match op {
-        SetOp::And => word::min(n, m),
+        SetOp::And => n.min(m),
         SetOp::AndNot => n,
-        SetOp::Or => word::max(n, m),
-        SetOp::Xor => word::max(n, m),
+        SetOp::Or | SetOp::Xor => n.max(m),
     }
 }
 
@@ -57,10 +56,8 @@ fn some_in_eight(op: SetOp, a: &[u64], b: &[u64], i: usize) -> u64
     ensures { (result ≡ 0) ↔ Alike (words_by op a.now b.now) 0 i (i + 8) }
 {
     let mut some = 0;
-    let mut k = i;
-    while k < i + 8 {
-        some = some | op.word(a[k], b[k]);
-        k += 1;
+    for k in 0..8 {
+        some |= op.word(a[i + k], b[i + k]);
     }
     some
 }
@@ -69,15 +66,14 @@ fn some_in_eight(op: SetOp, a: &[u64], b: &[u64], i: usize) -> u64
 pub fn zero_eights(op: SetOp, a: &[u64], b: &[u64], from: usize) -> usize
     ensures { result ≡ zero_eights (words_by op a.now b.now) (min (length a.now) (length b.now)) from }
 {
-    let stop = word::saturating_sub(word::min(a.len(), b.len()), 7);
-    let mut k = from;
-    while k < stop {
+    let whole = a.len().min(b.len()).saturating_sub(from) / 8;
+    for i in 0..whole {
+        let k = from + 8 * i;
         if some_in_eight(op, a, b, k) != 0 {
             return k;
         }
-        k += 8;
     }
-    k
+    from + 8 * whole
 }
 
 // Is every word zero?
@@ -85,12 +81,10 @@ pub fn is_zero(op: SetOp, a: &[u64], b: &[u64]) -> bool
     ensures { result ≡ is_zero (words_by op a.now b.now) }
 {
     let end = end_of(op, a.len(), b.len());
-    let mut k = zero_eights(op, a, b, 0);
-    while k < end {
+    for k in zero_eights(op, a, b, 0)..end {
         if word_at(op, a, b, k) != 0 {
             return false;
         }
-        k += 1;
     }
     true
 }
@@ -99,29 +93,27 @@ pub fn is_zero(op: SetOp, a: &[u64], b: &[u64]) -> bool
 fn zero_eights_down(op: SetOp, a: &[u64], b: &[u64], from: usize) -> usize
     ensures { (result ≤ from) × Alike (words_by op a.now b.now) 0 result from }
 {
-    let mut end = from;
-    if end > word::min(a.len(), b.len()) {
-        return end;
+    if from > a.len().min(b.len()) {
+        return from;
     }
-    while end >= 8 {
+    for i in 0..from / 8 {
+        let end = from - 8 * i;
         if some_in_eight(op, a, b, end - 8) != 0 {
             return end;
         }
-        end -= 8;
     }
-    end
+    from % 8
 }
 
 // The length without trailing zero words.
 pub fn nonzero_len(op: SetOp, a: &[u64], b: &[u64]) -> usize
     ensures { result ≡ nonzero_len (words_by op a.now b.now) }
 {
-    let mut end = zero_eights_down(op, a, b, end_of(op, a.len(), b.len()));
-    while end > 0 {
-        if word_at(op, a, b, end - 1) != 0 {
-            return end;
+    let end = zero_eights_down(op, a, b, end_of(op, a.len(), b.len()));
+    for k in (0..end).rev() {
+        if word_at(op, a, b, k) != 0 {
+            return k + 1;
         }
-        end -= 1;
     }
     0
 }

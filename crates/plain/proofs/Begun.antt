@@ -9,10 +9,11 @@ use native.Mathlib.Omega.{arith}
 use lib.ListN.{length}
 use lib.Dec.{ltb}
 use Rattle.word.specs.Sets.{choose}
-use Rattle.plain.specs.Writer.{Entry, added_number}
+use Rattle.plain.specs.Writer.{Entry}
 use Rattle.plain.specs.Plain.{asked, Plain, no_room, refusal_of, entry_of, Answered, refusing, accepting, holding, Ask, start, addition, answered, Call, answers, plain_answers, last_plain}
 use Rattle.plain.specs.Promises.{Begun, here, later}
 use Rattle.editions.proofs.Turns.{none_some}
+use Rattle.storage.specs.Refusals.{answer_number}
 
 abbrev Held : Plain → Type 0
 Held p = (es : List Entry) × (p ≡ some es)
@@ -73,7 +74,7 @@ module _ (p : Plain) (c : Call) (cs : List Call) (e : Same p (c ∷ cs)) where
   abbrev after : Answered
   after = answered (length c.buffer) c.ask p
 
-  first_same : added_number c.answer ≡ after.number
+  first_same : answer_number c.answer ≡ after.number
   unfolding answers plain_answers
   first_same = ap (λ (l : List (ℕ × ℕ)). first l) e
     where

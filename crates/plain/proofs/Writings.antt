@@ -13,7 +13,7 @@ use borrow.Author.Tests.{ltb-true, ltb-false, lt-ltb, le-ltb, le-leb, lt-leb}
 use Rattle.word.specs.Sets.{choose}
 use Rattle.word.proofs.Cases.{by_lt, or-true}
 use Rattle.storage.specs.Stores.{Bits, held}
-use Rattle.storage.specs.Refusals.{number_of}
+use Rattle.storage.specs.Refusals.{number_of, Amount, amount_value, answer_number}
 use Rattle.storage.proofs.Promises.{each_number_once}
 use Rattle.storage.specs.declared.Refusal.{Refusal}
 use Rattle.storage.specs.declared.Refusal.TheVariants.{CountOverStore, NoSpace}
@@ -21,14 +21,12 @@ use Rattle.editions.specs.Frames.{count_in, sheet_fault}
 use Rattle.editions.specs.Reader.{Turn, done, read}
 use Rattle.editions.specs.Meaning.{total}
 use Rattle.sheet.specs.Reads.{edition_of, latest, fitting, Course, went, course, read_answer, read_store, reading_number, reading_record, reading_count}
-use Rattle.plain.specs.Writer.{most, Request, duty, remark, Entry, edit, note, Checked, bad, good, checked_of, bytes_of, added_number, added_length}
+use Rattle.plain.specs.Writer.{most, Request, duty, remark, Entry, edit, note, Checked, bad, good, checked_of, bytes_of}
 use Rattle.plain.specs.Writer.{Left, refuse, started, count_raised, placed, placed_by, judged, added, Writes}
 use Rattle.plain.specs.Plain.{sheet_of, refusal_of, edit_for, entry_of, answers, last_length, last_buffer, plain_answers, last_plain}
 use Rattle.editions.specs.Promises.{SheetGets}
 use Rattle.plain.specs.Promises.{RequestGets, bytes_asked, AddGets, over, fault, wrong, full, fine, LeavesRest, Grows, AddMeans, AddsMean}
 use Rattle.plain.specs.Promises.{Holding, StartGets, short, fresh, StartMeans, StartsMean, WholeLists}
-use Rattle.sheet.specs.declared.Added.{Added}
-use Rattle.sheet.specs.declared.Added.TheVariants.{Done, Refused}
 use Rattle.editions.proofs.Turns.{take-true, take-false}
 use Rattle.editions.proofs.Faults.{fault_number, sheet_gets, fault_is, fault_none, good_sheet}
 use Rattle.plain.proofs.Laid.{read-sheet, in_latest}
@@ -39,6 +37,7 @@ use Rattle.plain.proofs.Grown.{put_last, drop_sets, length_raised, past_raised, 
 use Rattle.plain.proofs.Written.{begun, Fronts, along}
 use Rattle.plain.proofs.Begun.{begun-held}
 use Rattle.plain.proofs.Sheets.{sheet_is}
+use Rattle.std.specs.Prelude.{Ok, Err}
 
 -- ---- one addition
 
@@ -55,7 +54,7 @@ module _ (buf : List ℕ) (len : ℕ) (q : Request) where
   new = bytes_of (entry_of q)
 
   abbrev put_in : Left
-  put_in = record { answer = Done (len + length new); buffer = sets (count_raised buf) len new }
+  put_in = record { answer = Ok (len + length new); buffer = sets (count_raised buf) len new }
 
   end_is : len + length new ≡ len + 3 + bytes_asked q
   end_is = omega (arith, bytes_asked_lem q)
@@ -141,28 +140,28 @@ module _ (buf : List ℕ) (len : ℕ) (q : Request) where
           subst Came (sym a) (refusing e (fault l (subst (SheetGets sheet) (sym z) (sheet_gets sheet)) (omega arith) refl)))
           (λ p. let z : fault_number (sheet_fault sheet) ≡ 0 = omega arith in asked l (subst (SheetGets sheet) z (sheet_gets sheet)))
 
-  gets : (a : Left) → Came a → AddGets buf len q (added_number a.answer) (added_length a.answer)
+  gets : (a : Left) → Came a → AddGets buf len q (answer_number a.answer) (amount_value a.answer)
   gets a (refusing e g) = g
   gets a (putting l g w u v) = fine l g w u v refl end_is
 
   -- and no other number and length
-  gives : (x n : ℕ) → AddGets buf len q x n → (added_number (added buf len q).answer ≡ x) × (added_length (added buf len q).answer ≡ n)
+  gives : (x n : ℕ) → AddGets buf len q x n → (answer_number (added buf len q).answer ≡ x) × (amount_value (added buf len q).answer ≡ n)
   gives x n h = go h
     where
-      refused : Refuses x → n ≡ 0 → (added_number (added buf len q).answer ≡ x) × (added_length (added buf len q).answer ≡ n)
-      refused (e, z, a) m = (ap (λ (l : Left). added_number l.answer) a ∙ z, ap (λ (l : Left). added_length l.answer) a ∙ sym m)
+      refused : Refuses x → n ≡ 0 → (answer_number (added buf len q).answer ≡ x) × (amount_value (added buf len q).answer ≡ n)
+      refused (e, z, a) m = (ap (λ (l : Left). answer_number l.answer) a ∙ z, ap (λ (l : Left). amount_value l.answer) a ∙ sym m)
 
-      go : AddGets buf len q x n → (added_number (added buf len q).answer ≡ x) × (added_length (added buf len q).answer ≡ n)
+      go : AddGets buf len q x n → (answer_number (added buf len q).answer ≡ x) × (amount_value (added buf len q).answer ≡ n)
       go (over l e m) = refused (CountOverStore, sym e, by_over l) m
       go (fault l g p m) = refused (at-fault l x g p) m
       go (wrong l g w p m) = refused (at_wrong l g x w p) m
       go (full l g w u e m) = refused (NoSpace, sym e, no_room l g w u) m
       go (fine l g w u v e m) =
-          (ap (λ (a : Left). added_number a.answer) (room l g w u v) ∙ sym e, ap (λ (a : Left). added_length a.answer) (room l g w u v) ∙ end_is ∙ sym m)
+          (ap (λ (a : Left). answer_number a.answer) (room l g w u v) ∙ sym e, ap (λ (a : Left). amount_value a.answer) (room l g w u v) ∙ end_is ∙ sym m)
 
 -- ---- what is left in the buffer
 
-refuse_leaves : (e : Refusal) (buf : List ℕ) → LeavesRest buf (Refused e) buf
+refuse_leaves : (e : Refusal) (buf : List ℕ) → LeavesRest buf (Err e) buf
 refuse_leaves e buf = record { kept = λ p. refl; long = refl; past = λ z. refl }
 
 module _ (buf : List ℕ) (len : ℕ) (q : Request) where
@@ -178,7 +177,7 @@ module _ (buf : List ℕ) (len : ℕ) (q : Request) where
             ∙ past_raised buf (len + length (new buf len q)) (omega (arith, head.0, length-take len buf));
       }
 
-  grows : (a : Left) → Came buf len q a → added_number a.answer ≡ 0 → Grows (take len buf) q (take (added_length a.answer) a.buffer)
+  grows : (a : Left) → Came buf len q a → answer_number a.answer ≡ 0 → Grows (take len buf) q (take (amount_value a.answer) a.buffer)
   grows a (refusing e g) z = absurd (omega (arith, (each_number_once.range e).0))
   grows a (putting l g w u v) z =
       let its = good_sheet (sheet buf len q) g in
@@ -188,13 +187,13 @@ module _ (buf : List ℕ) (len : ℕ) (q : Request) where
       (grown buf len (entry_of q) l its.headed its.whole its.ends u (framed_entry q good) q (wanted q good))
 
 -- what holds of what a call came to holds of its answer and of the buffer that it left
-by_writes : (P : Added → List ℕ → Type 0) (l : Left) (r : Added) (buf' : List ℕ) → Writes l r buf' → P l.answer l.buffer → P r buf'
-by_writes P l r buf' w h = subst (λ (a : Added). P a buf') (sym w.answers) (subst (P l.answer) (sym w.leaves) h)
+by_writes : (P : Amount → List ℕ → Type 0) (l : Left) (r : Amount) (buf' : List ℕ) → Writes l r buf' → P l.answer l.buffer → P r buf'
+by_writes P l r buf' w h = subst (λ (a : Amount). P a buf') (sym w.answers) (subst (P l.answer) (sym w.leaves) h)
 
 exactly : (G : ℕ → ℕ → Type 0) (a b x n : ℕ) → G a b → (a ≡ x) × (b ≡ n) → G x n
 exactly G a b x n g h = subst (λ (y : ℕ). G y n) h.0 (subst (G a) h.1 g)
 
-add_means : (buf : List ℕ) (len : ℕ) (q : Request) (r : Added) (buf' : List ℕ) → Writes (added buf len q) r buf' → AddMeans buf len q r buf'
+add_means : (buf : List ℕ) (len : ℕ) (q : Request) (r : Amount) (buf' : List ℕ) → Writes (added buf len q) r buf' → AddMeans buf len q r buf'
 add_means buf len q r buf' w = by_writes (AddMeans buf len q) (added buf len q) r buf' w means
   where
     means : AddMeans buf len q (added buf len q).answer (added buf len q).buffer
@@ -202,7 +201,7 @@ add_means buf len q r buf' w = by_writes (AddMeans buf len q) (added buf len q) 
         let a = added buf len q in
         let c = came buf len q in
         record {
-          exact = λ x n. (exactly (AddGets buf len q) (added_number a.answer) (added_length a.answer) x n (gets buf len q a c), gives buf len q x n);
+          exact = λ x n. (exactly (AddGets buf len q) (answer_number a.answer) (amount_value a.answer) x n (gets buf len q a c), gives buf len q x n);
           leaves = leaves buf len q a c;
           grows = grows buf len q a c;
         }
@@ -218,11 +217,11 @@ adding_means = record {
 
 module _ (buf : List ℕ) where
   -- what is promised of what a start came to
-  start_of : (a : Left) → StartGets buf (added_number a.answer) (added_length a.answer) → LeavesRest buf a.answer a.buffer
-      → (added_number a.answer ≡ 0 → Holding (take 4 a.buffer) [])
-      → ((x n : ℕ) → StartGets buf x n → (added_number a.answer ≡ x) × (added_length a.answer ≡ n)) → StartMeans buf a.answer a.buffer
+  start_of : (a : Left) → StartGets buf (answer_number a.answer) (amount_value a.answer) → LeavesRest buf a.answer a.buffer
+      → (answer_number a.answer ≡ 0 → Holding (take 4 a.buffer) [])
+      → ((x n : ℕ) → StartGets buf x n → (answer_number a.answer ≡ x) × (amount_value a.answer ≡ n)) → StartMeans buf a.answer a.buffer
   start_of a g l h b = record {
-    exact = λ x n. (exactly (StartGets buf) (added_number a.answer) (added_length a.answer) x n g, b x n);
+    exact = λ x n. (exactly (StartGets buf) (answer_number a.answer) (amount_value a.answer) x n g, b x n);
     leaves = l;
     empty = h;
   }
@@ -235,9 +234,9 @@ module _ (buf : List ℕ) where
       sheet' = 78 ∷ 83 ∷ 0 ∷ 0 ∷ []
 
       made : Left
-      made = record { answer = Done 4; buffer = sets buf 0 sheet' }
+      made = record { answer = Ok 4; buffer = sets buf 0 sheet' }
 
-      made_leaves : LeavesRest buf (Done 4) (sets buf 0 sheet')
+      made_leaves : LeavesRest buf (Ok 4) (sets buf 0 sheet')
       made_leaves = record { kept = λ p. absurd (omega arith); long = length-sets buf 0 sheet'; past = λ z. drop_sets sheet' buf 0 4 (omega arith) }
 
       only_short : length buf < 4 → (x n : ℕ) → StartGets buf x n → (6 ≡ x) × (0 ≡ n)

@@ -10,22 +10,21 @@ use lib.Seq.{sets, take-set-lt, get_or-take}
 use lib.Dec.{leb, ltb}
 use borrow.Author.Tests.{ltb-false, leb-false, le-ltb, ne_eqb}
 use Rattle.word.specs.Sets.{choose}
-use Rattle.storage.specs.Refusals.{number_of}
+use Rattle.storage.specs.Refusals.{number_of, Amount, amount_value, answer_number}
 use Rattle.storage.proofs.Promises.{each_number_once}
 use Rattle.storage.specs.declared.Refusal.{Refusal}
 use Rattle.storage.specs.declared.Refusal.TheVariants.{NoSpace, NotSheet}
 use Rattle.editions.specs.Frames.{count_in, sheet_fault}
-use Rattle.plain.specs.Writer.{most, Request, requested, Entry, Checked, bad, good, checked_of, bytes_of, added_number, added_length}
+use Rattle.plain.specs.Writer.{most, Request, requested, Entry, Checked, bad, good, checked_of, bytes_of}
 use Rattle.plain.specs.Writer.{Left, refuse, started, count_raised, placed, placed_by, judged, added, Writes}
 use Rattle.plain.specs.Plain.{asked, Plain, body, sheet_of, no_room, refusal_of, entry_of, Answered, refusing, accepting, holding, Ask, start, addition, answered, Typed}
 use Rattle.plain.specs.Plain.{Call, Went, length_after, InRow, answers, last_length, last_buffer, plain_answers, last_plain}
 use Rattle.sheet.specs.declared.Fields.{Fields}
-use Rattle.sheet.specs.declared.Added.{Added}
-use Rattle.sheet.specs.declared.Added.TheVariants.{Done}
 use Rattle.editions.proofs.Turns.{take-false}
 use Rattle.plain.proofs.Laid.{Proper, AllProper, two_bytes, no_fault}
 use Rattle.plain.proofs.Grown.{put_last, length_raised}
 use Rattle.plain.proofs.Requests.{Says, PassesCheck, checks_say, TypedQ, checks_pass, neither}
+use Rattle.std.specs.Prelude.{Ok}
 
 -- the buffer's front is the plain sheet
 abbrev pub Fronts : List ℕ → ℕ → Plain → Type 0
@@ -34,8 +33,8 @@ Fronts buf len (some es) = (len ≡ length (sheet_of es)) × (take len buf ≡ s
 
 -- a call's number, length and buffer agree with the plain sheet
 record Agrees (len : ℕ) (l : Left) (a : Answered) : Type 0 where
-  number : added_number l.answer ≡ a.number
-  long : added_length l.answer ≡ a.long
+  number : answer_number l.answer ≡ a.number
+  long : amount_value l.answer ≡ a.long
   fronts : Fronts l.buffer (length_after len l.answer) a.plain
 
 agree_refused : (buf : List ℕ) (len : ℕ) (p : Plain) (e : Refusal) → Fronts buf len p → Agrees len (refuse e buf) (refusing (number_of e) p)
@@ -59,7 +58,7 @@ unfolding started answered sheet_of
 agree_start buf len p h = go (ltb (length buf) 4) refl
   where
     fresh : Left
-    fresh = record { answer = Done 4; buffer = sets buf 0 (78 ∷ 83 ∷ 0 ∷ 0 ∷ []) }
+    fresh = record { answer = Ok 4; buffer = sets buf 0 (78 ∷ 83 ∷ 0 ∷ 0 ∷ []) }
 
     go : (t : Bool) → ltb (length buf) 4 ≡ t → Agrees len (choose t (refuse NoSpace buf) fresh) (choose t (refusing 6 p) (accepting []))
     go true e = agree_refused buf len p NoSpace h
@@ -131,7 +130,7 @@ module _ (buf : List ℕ) (len : ℕ) (es : List Entry) (h : Fronts buf len (som
       full = leb most (count_in buf) || ltb (length buf) end
 
       put_in : Left
-      put_in = record { answer = Done end; buffer = sets (count_raised buf) len (bytes_of e) }
+      put_in = record { answer = Ok end; buffer = sets (count_raised buf) len (bytes_of e) }
 
       same : full ≡ no_room (length buf) es e
       same = ap₂ (λ (a b : ℕ). leb most a || ltb (length buf) b) counted (sym (longer e))
@@ -186,7 +185,7 @@ no_start : (buf : List ℕ) (q : Request) → added buf 0 q ≡ refuse NotSheet 
 unfolding added
 no_start buf q = take-false _ _ (le-ltb (length buf) 0 (omega arith))
 
-agree : (buf : List ℕ) (len : ℕ) (p : Plain) (a : Ask) (r : Added) (buf' : List ℕ) → Went len buf a r buf' → Fronts buf len p → Agrees len (left_by len buf a) (answered (length buf) a p)
+agree : (buf : List ℕ) (len : ℕ) (p : Plain) (a : Ask) (r : Amount) (buf' : List ℕ) → Went len buf a r buf' → Fronts buf len p → Agrees len (left_by len buf a) (answered (length buf) a p)
 unfolding answered
 agree buf len p start r buf' w h = agree_start buf len p h
 agree buf len none (addition d kind f payload) r buf' w h =
@@ -197,7 +196,7 @@ agree buf len (some es) (addition d kind f payload) r buf' w h =
     subst (λ (x : Request). Agrees len (added buf len x) (holding (length buf) es (entry_of q) (refusal_of q))) (sym (same_request d kind f payload))
     (agree_addition buf len es h q (typed d kind f payload w.1))
 
-went_by : (len : ℕ) (buf : List ℕ) (a : Ask) (r : Added) (buf' : List ℕ) → Went len buf a r buf' → Writes (left_by len buf a) r buf'
+went_by : (len : ℕ) (buf : List ℕ) (a : Ask) (r : Amount) (buf' : List ℕ) → Went len buf a r buf' → Writes (left_by len buf a) r buf'
 went_by len buf start r buf' w = w
 went_by len buf (addition d kind f payload) r buf' w = w.0
 
@@ -215,8 +214,8 @@ along (c ∷ cs) buf len p a h =
     let g = agree c.buffer len p c.ask c.answer c.after a.1 (moved buf c.buffer len p a.0 h) in
     let next : Fronts c.after (length_after len c.answer) (answered (length c.buffer) c.ask p).plain =
     subst (λ (b : List ℕ). Fronts b (length_after len c.answer) (answered (length c.buffer) c.ask p).plain) (sym w.leaves)
-    (subst (λ (r : Added). Fronts (left_by len c.buffer c.ask).buffer (length_after len r) (answered (length c.buffer) c.ask p).plain) (sym w.answers) g.fronts) in
+    (subst (λ (r : Amount). Fronts (left_by len c.buffer c.ask).buffer (length_after len r) (answered (length c.buffer) c.ask p).plain) (sym w.answers) g.fronts) in
     let r = along cs c.after (length_after len c.answer) (answered (length c.buffer) c.ask p).plain a.2 next in
-    let x = ap added_number w.answers ∙ g.number in
-    let n = ap added_length w.answers ∙ g.long in
+    let x = ap answer_number w.answers ∙ g.number in
+    let n = ap amount_value w.answers ∙ g.long in
     (ap₂ (λ (a : ℕ × ℕ) (l : List (ℕ × ℕ)). a ∷ l) (λ i. (x i, n i)) r.0, r.1)

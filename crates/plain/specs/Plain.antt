@@ -3,11 +3,11 @@ use Rattle.std.specs.Prelude.{ℕ, zero, suc, ◌<◌, ◌^◌, ◌≡◌, Bool,
 use Rattle.std.proofs.Math.Option.{Option, none, some}
 use Rattle.word.specs.Sets.{choose}
 use Rattle.sheet.specs.Bytes.{bytes}
-use Rattle.plain.specs.Writer.{Request, duty, remark, Entry, edit, note, bytes_of, Starts, Adds, added_number, added_length}
+use Rattle.plain.specs.Writer.{Request, duty, remark, Entry, edit, note, bytes_of, Starts, Adds}
 use Rattle.sheet.specs.declared.Edit.{Edit}
 use Rattle.sheet.specs.declared.Edit.TheVariants.{Set, Unset, SetRegion, SetField, Shift, Rotate, Resize, Reverse, ToggleRegion, Open, Close}
 use Rattle.sheet.specs.declared.Fields.{Fields}
-use Rattle.sheet.specs.declared.Added.{Added}
+use Rattle.storage.specs.Refusals.{Amount, amount_value, answer_number}
 
 -- an addition as the plain sheet reads it: duty or a remark; fields that a record does not have are ignored
 abbrev pub asked : Bool → ℕ → Fields → List ℕ → Request
@@ -119,7 +119,7 @@ answered size (addition d kind f payload) (some es) =
 pub record Call : Type 0 where
   pub buffer : List ℕ
   pub ask : Ask
-  pub answer : Added
+  pub answer : Amount
   pub after : List ℕ
 
 -- the fields are in the ranges of their types
@@ -127,13 +127,13 @@ abbrev pub Typed : Fields → Type 0
 Typed f = (f.p < 2 ^ 32) × (f.k < 2 ^ 32) × (f.value < 2 ^ 64)
 
 -- it met the contract of `start` or of `add`, which gets the last accepted length
-abbrev pub Went : ℕ → List ℕ → Ask → Added → List ℕ → Type 0
+abbrev pub Went : ℕ → List ℕ → Ask → Amount → List ℕ → Type 0
 Went len buf start r buf' = Starts buf r buf'
 Went len buf (addition d kind f payload) r buf' = Adds buf len d kind f payload r buf' × Typed f
 
 -- the last accepted length after an answer
-abbrev pub length_after : ℕ → Added → ℕ
-length_after len r = choose (eqb (added_number r) 0) (added_length r) len
+abbrev pub length_after : ℕ → Amount → ℕ
+length_after len r = choose (eqb (answer_number r) 0) (amount_value r) len
 
 -- each call got the buffer as the last one left it, or another with the same bytes up to the last accepted length
 unfoldable pub InRow : List ℕ → ℕ → List Call → Type 0
@@ -144,7 +144,7 @@ InRow buf len (c ∷ cs) =
 -- the numbers and lengths that the calls answered, the last accepted length, and the buffer as the last call left it
 unfoldable pub answers : List Call → List (ℕ × ℕ)
 answers [] = []
-answers (c ∷ cs) = (added_number c.answer, added_length c.answer) ∷ answers cs
+answers (c ∷ cs) = (answer_number c.answer, amount_value c.answer) ∷ answers cs
 
 unfoldable pub last_length : ℕ → List Call → ℕ
 last_length len [] = len

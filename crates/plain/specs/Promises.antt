@@ -11,11 +11,11 @@ use Rattle.editions.specs.Meaning.{Header, total, start, Is, effect}
 use Rattle.editions.specs.Promises.{SheetGets}
 use Rattle.sheet.specs.Promises.{Laid, Passes}
 use Rattle.sheet.specs.Reads.{edition_of, latest, Reads, reading_number, reading_record, reading_count}
-use Rattle.plain.specs.Writer.{Request, duty, remark, Entry, edit, note, Starts, Adds, added_number, added_length}
+use Rattle.plain.specs.Writer.{Request, duty, remark, Entry, edit, note, Starts, Adds}
 use Rattle.plain.specs.Plain.{sheet_of, edits_in, edit_for, Ask, Typed, Call, InRow, answers, last_length, last_buffer, plain_answers, last_plain}
 use Rattle.sheet.specs.declared.Fields.{Fields}
-use Rattle.sheet.specs.declared.Reading.{Reading}
-use Rattle.sheet.specs.declared.Added.{Added}
+use Rattle.sheet.specs.Reads.{Reading}
+use Rattle.storage.specs.Refusals.{Amount, amount_value, answer_number}
 
 -- the plain sheet's edit of a kind has its fields where 01's table has them
 abbrev pub FieldsAgree : Type 0
@@ -54,10 +54,10 @@ pub data AddGets (buf : List ℕ) (len : ℕ) (q : Request) (x n : ℕ) : Type 0
       → total (take len buf) < 65_535 → len + 3 + bytes_asked q ≤ length buf → x ≡ 0 → n ≡ len + 3 + bytes_asked q → AddGets buf len q x n
 
 -- a refused call changes nothing, and the bytes past the new sheet are untouched
-pub record LeavesRest (buf : List ℕ) (r : Added) (buf' : List ℕ) : Type 0 where
-  pub kept : 0 < added_number r → buf' ≡ buf
+pub record LeavesRest (buf : List ℕ) (r : Amount) (buf' : List ℕ) : Type 0 where
+  pub kept : 0 < answer_number r → buf' ≡ buf
   pub long : length buf' ≡ length buf
-  pub past : added_number r ≡ 0 → drop (added_length r) buf' ≡ drop (added_length r) buf
+  pub past : answer_number r ≡ 0 → drop (amount_value r) buf' ≡ drop (amount_value r) buf
 
 -- the record is the one asked for: duty, kind, and a remark's payload or, of a duty record, the layout of its edit, where the fields are in their types' ranges
 abbrev pub Wanted : Request → Item → Type 0
@@ -74,16 +74,16 @@ pub record Grows (sheet : List ℕ) (q : Request) (sheet' : List ℕ) : Type 0 w
   pub ends : start sheet' (total sheet + 1) ≡ length sheet'
 
 -- what an addition answers and leaves, whatever it is given
-pub record AddMeans (buf : List ℕ) (len : ℕ) (q : Request) (r : Added) (buf' : List ℕ) : Type 0 where
-  pub exact : (x n : ℕ) → ((added_number r ≡ x) × (added_length r ≡ n)) ↔ AddGets buf len q x n
+pub record AddMeans (buf : List ℕ) (len : ℕ) (q : Request) (r : Amount) (buf' : List ℕ) : Type 0 where
+  pub exact : (x n : ℕ) → ((answer_number r ≡ x) × (amount_value r ≡ n)) ↔ AddGets buf len q x n
   pub leaves : LeavesRest buf r buf'
-  pub grows : added_number r ≡ 0 → Grows (take len buf) q (take (added_length r) buf')
+  pub grows : answer_number r ≡ 0 → Grows (take len buf) q (take (amount_value r) buf')
 
 -- `add` asks for a duty record by its kind and fields, or for a remark by its kind and payload; what is not its own is ignored
 pub record AddsMean : Type 0 where
-  pub duties : (buf : List ℕ) (len kind : ℕ) (f : Fields) (payload : List ℕ) (r : Added) (buf' : List ℕ)
+  pub duties : (buf : List ℕ) (len kind : ℕ) (f : Fields) (payload : List ℕ) (r : Amount) (buf' : List ℕ)
       → Adds buf len true kind f payload r buf' → AddMeans buf len (duty kind f) r buf'
-  pub remarks : (buf : List ℕ) (len kind : ℕ) (f : Fields) (payload : List ℕ) (r : Added) (buf' : List ℕ)
+  pub remarks : (buf : List ℕ) (len kind : ℕ) (f : Fields) (payload : List ℕ) (r : Amount) (buf' : List ℕ)
       → Adds buf len false kind f payload r buf' → AddMeans buf len (remark kind payload) r buf'
 
 -- the record is the one held: a remark's kind and payload, or the layout of an edit
@@ -104,17 +104,17 @@ pub data StartGets (buf : List ℕ) (x n : ℕ) : Type 0 where
   fresh : 4 ≤ length buf → x ≡ 0 → n ≡ 4 → StartGets buf x n
 
 -- it leaves a sheet of no records
-pub record StartMeans (buf : List ℕ) (r : Added) (buf' : List ℕ) : Type 0 where
-  pub exact : (x n : ℕ) → ((added_number r ≡ x) × (added_length r ≡ n)) ↔ StartGets buf x n
+pub record StartMeans (buf : List ℕ) (r : Amount) (buf' : List ℕ) : Type 0 where
+  pub exact : (x n : ℕ) → ((answer_number r ≡ x) × (amount_value r ≡ n)) ↔ StartGets buf x n
   pub leaves : LeavesRest buf r buf'
-  pub empty : added_number r ≡ 0 → Holding (take 4 buf') []
+  pub empty : answer_number r ≡ 0 → Holding (take 4 buf') []
 
 abbrev pub StartsMean : Type 0
-StartsMean = (buf : List ℕ) (r : Added) (buf' : List ℕ) → Starts buf r buf' → StartMeans buf r buf'
+StartsMean = (buf : List ℕ) (r : Amount) (buf' : List ℕ) → Starts buf r buf' → StartMeans buf r buf'
 
 -- a start among the calls was accepted
 pub data Begun : List Call → Type 0 where
-  here : {c : Call} {cs : List Call} → c.ask ≡ Ask.start → added_number c.answer ≡ 0 → Begun (c ∷ cs)
+  here : {c : Call} {cs : List Call} → c.ask ≡ Ask.start → answer_number c.answer ≡ 0 → Begun (c ∷ cs)
   later : {c : Call} {cs : List Call} → Begun cs → Begun (c ∷ cs)
 
 -- (e): after a list of calls from a buffer of any bytes at length 0 on

@@ -1,10 +1,10 @@
 -- The writer of a change sheet: what is asked, how a record is laid out, what is answered and what each call leaves in the buffer.
-use Rattle.std.specs.Prelude.{ℕ, zero, suc, ◌+◌, ◌≡◌, Bool, true, false, ◌||◌, List, [], ◌∷◌, ◌++◌, length, take, leb, ltb}
+use Rattle.std.specs.Prelude.{ℕ, zero, suc, ◌+◌, ◌≡◌, Bool, true, false, ◌||◌, List, [], ◌∷◌, ◌++◌, length, take, leb, ltb, Ok, Err}
 use Rattle.std.proofs.Math.Option.{Option, none, some}
 use Rattle.std.proofs.Math.ListN.{get_elem?}
 use Rattle.std.proofs.lemmas.List.Edits.{sets}
 use Rattle.word.specs.Sets.{choose}
-use Rattle.storage.specs.Refusals.{number_of}
+use Rattle.storage.specs.Refusals.{Amount}
 use Rattle.storage.specs.declared.Refusal.{Refusal}
 use Rattle.storage.specs.declared.Refusal.TheVariants.{CountOverStore, WidthOver, IndexOver, NoSpace, BadPayload, NewerKind}
 use Rattle.sheet.specs.Bytes.{bytes}
@@ -13,8 +13,6 @@ use Rattle.editions.specs.Frames.{count_in, sheet_fault}
 use Rattle.sheet.specs.declared.Fields.{Fields}
 use Rattle.sheet.specs.declared.Edit.{Edit}
 use Rattle.sheet.specs.declared.Edit.TheVariants.{Set, Unset, SetRegion, SetField, Shift, Rotate, Resize, Reverse, ToggleRegion, Open, Close}
-use Rattle.sheet.specs.declared.Added.{Added}
-use Rattle.sheet.specs.declared.Added.TheVariants.{Done, Refused}
 
 -- the most records of a sheet, and the most bytes of a payload
 abbrev pub most : ℕ
@@ -81,15 +79,15 @@ bytes_of (note kind payload) = laid kind payload
 
 -- an answer, and what the buffer becomes
 pub record Left : Type 0 where
-  pub answer : Added
+  pub answer : Amount
   pub buffer : List ℕ
 
 abbrev pub refuse : Refusal → List ℕ → Left
-refuse e buf = record { answer = Refused e; buffer = buf }
+refuse e buf = record { answer = Err e; buffer = buf }
 
 -- a sheet of no records at the front of the buffer
 unfoldable pub started : List ℕ → Left
-started buf = choose (ltb (length buf) 4) (refuse NoSpace buf) (record { answer = Done 4; buffer = sets buf 0 (78 ∷ 83 ∷ 0 ∷ 0 ∷ []) })
+started buf = choose (ltb (length buf) 4) (refuse NoSpace buf) (record { answer = Ok 4; buffer = sets buf 0 (78 ∷ 83 ∷ 0 ∷ 0 ∷ []) })
 
 -- the buffer with R raised
 abbrev pub count_raised : List ℕ → List ℕ
@@ -100,7 +98,7 @@ unfoldable pub placed : List ℕ → ℕ → Entry → Left
 unfolding bytes_of
 placed buf len e =
     let end = len + length (bytes_of e) in
-    let put : Left = record { answer = Done end; buffer = sets (count_raised buf) len (bytes_of e) } in
+    let put : Left = record { answer = Ok end; buffer = sets (count_raised buf) len (bytes_of e) } in
     choose (leb most (count_in buf) || ltb (length buf) end) (refuse NoSpace buf) put
 
 abbrev pub placed_by : List ℕ → ℕ → Checked → Left
@@ -117,22 +115,13 @@ unfolding sheet_fault checked_of placed
 added buf len q = choose (ltb (length buf) len) (refuse CountOverStore buf) (judged buf len q (sheet_fault (take len buf)))
 
 -- a call that came to l answers r and leaves buf'
-pub record Writes (l : Left) (r : Added) (buf' : List ℕ) : Type 0 where
+pub record Writes (l : Left) (r : Amount) (buf' : List ℕ) : Type 0 where
   pub answers : r ≡ l.answer
   pub leaves : buf' ≡ l.buffer
 
 -- the contracts of `start` and `add`
-abbrev pub Starts : List ℕ → Added → List ℕ → Type 0
+abbrev pub Starts : List ℕ → Amount → List ℕ → Type 0
 Starts buf r buf' = Writes (started buf) r buf'
 
-abbrev pub Adds : List ℕ → ℕ → Bool → ℕ → Fields → List ℕ → Added → List ℕ → Type 0
+abbrev pub Adds : List ℕ → ℕ → Bool → ℕ → Fields → List ℕ → Amount → List ℕ → Type 0
 Adds buf len d kind f payload r buf' = Writes (added buf len (requested d kind f payload)) r buf'
-
--- of an answer its number, 0 for done, and the sheet's length, 0 where it is refused
-abbrev pub added_number : Added → ℕ
-added_number (Done n) = 0
-added_number (Refused e) = number_of e
-
-abbrev pub added_length : Added → ℕ
-added_length (Done n) = n
-added_length (Refused e) = 0

@@ -52,7 +52,7 @@ put_one : (at c : ℕ) (out : List ℕ) → at < length out → set out at c ≡
 put_one at c out h = ap (λ (y : List ℕ). set y at c) (sym (put_none (suc at) out)) ∙ put-before at c [] out h
 
 -- what stands before them, they, and what stands behind
-put_is : (at : ℕ) (t out : List ℕ) → at ≤ length out → put_at at t out ≡ take at out ++ (t ++ drop (at + length t) out)
+pub put_is : (at : ℕ) (t out : List ℕ) → at ≤ length out → put_at at t out ≡ take at out ++ (t ++ drop (at + length t) out)
 unfolding put_at
 put_is zero t out h = let e : length t ≡ 0 + length t = omega arith in ap (λ (k : ℕ). t ++ drop k out) e
 put_is (suc at) t [] h = absurd (omega arith)

@@ -9,11 +9,8 @@ use Rattle.word.specs.Sets.{choose}
 use Rattle.storage.specs.Stores.{Bits, Bounded, checked, held, reading}
 use Rattle.storage.specs.Guards.{Passed}
 use Rattle.storage.specs.declared.Bitmap.{Bitmap}
-use Rattle.storage.specs.declared.Refusal.{Refusal}
 use Rattle.storage.specs.declared.Refusal.TheVariants.{NoSpace, BadStyle}
-use Rattle.storage.specs.declared.Guard.TheVariants.{Pass, Stop}
-use Rattle.storage.specs.declared.Amount.{Amount}
-use Rattle.storage.proofs.Checks.{reading_ok, reading_stopped}
+use Rattle.storage.proofs.Checks.{reading_ok, reading_stopped, reading_raised}
 use Rattle.style.specs.Styles.{allowed}
 use Rattle.style.specs.Promises.{Allowed}
 use Rattle.style.specs.declared.Style.{Style}
@@ -26,6 +23,9 @@ use Rattle.print.proofs.Buffer.{length-put, put_then, puts_none}
 use Rattle.print.proofs.Fitting.{lacks, fitting}
 use Rattle.print.proofs.Runs.{runs_are, next_none, next_some}
 use Rattle.print.proofs.Pieces.{pieces_none, pieces-append, run-most}
+use Rattle.storage.specs.Refusals.{Amount, passing, refusing}
+use Rattle.storage.specs.declared.Refused.{Refused}
+use Rattle.std.specs.Prelude.{Ok, Err, IsErr, IsErrAnd}
 
 -- ---- the text's front is printed, and the run is the first of those left
 
@@ -157,17 +157,17 @@ module _ (y : Style) (ok : Allowed y) (b : Bits) (e : ℕ) (past : (j : ℕ) →
 -- ---- the call
 
 module _ (y : Style) (ws : List ℕ) (b : Bitmap) (out : List ℕ) where
-  pub prints_stopped : (e : Refusal) → Stop e ≡ checked ws b Stop Pass → Prints y ws b out (Amount.Refused e) out
-  prints_stopped e q = record {
-    answers = sym (reading_stopped ws b e Amount.Refused (list_answer y out) q);
+  pub prints_raised : {r : Amount} {e : Refused} → IsErr r × IsErrAnd r (λ x. x ≡ e.0) → Err e ≡ checked ws b (refusing b) passing → Prints y ws b out r out
+  prints_raised {r} {e} h q = record {
+    answers = reading_raised ws b (list_answer y out) h q;
     leaves = sym (reading_stopped ws b e (λ d. out) (list_buffer y out) q);
   }
 
   module _ (p : Passed ws b) where
-    pub prints_no_style : allowed y ≡ false → Prints y ws b out (Amount.Refused BadStyle) out
+    pub prints_no_style : allowed y ≡ false → Prints y ws b out (Err BadStyle) out
     prints_no_style a = record {
       answers =
-          sym (reading_ok ws b Amount.Refused (list_answer y out) p ∙ ap (λ (x : Bool). choose x (fitted (text_of y (held ws b)) out) (Amount.Refused BadStyle)) a);
+          sym (reading_ok ws b Err (list_answer y out) p ∙ ap (λ (x : Bool). choose x (fitted (text_of y (held ws b)) out) (Err BadStyle)) a);
       leaves = sym (reading_ok ws b (λ d. out) (list_buffer y out) p ∙ ap (λ (x : Bool). choose x (replaced (text_of y (held ws b)) out) out) a);
     }
 
@@ -176,16 +176,16 @@ module _ (y : Style) (ws : List ℕ) (b : Bitmap) (out : List ℕ) where
       t = text_of y (held ws b)
 
       -- where the style is allowed, whether the text fits is all there is to ask
-      asked : (reading ws b Amount.Refused (list_answer y out) ≡ fitted t out) × (reading ws b (λ d. out) (list_buffer y out) ≡ replaced t out)
+      asked : (reading ws b Err (list_answer y out) ≡ fitted t out) × (reading ws b (λ d. out) (list_buffer y out) ≡ replaced t out)
       asked = (
-        reading_ok ws b Amount.Refused (list_answer y out) p ∙ ap (λ (x : Bool). choose x (fitted t out) (Amount.Refused BadStyle)) a,
+        reading_ok ws b Err (list_answer y out) p ∙ ap (λ (x : Bool). choose x (fitted t out) (Err BadStyle)) a,
         reading_ok ws b (λ d. out) (list_buffer y out) p ∙ ap (λ (x : Bool). choose x (replaced t out) out) a,
       )
 
-      pub prints_short : length out < len → Prints y ws b out (Amount.Refused NoSpace) out
+      pub prints_short : length out < len → Prints y ws b out (Err NoSpace) out
       prints_short h = let e = lacks t out (omega arith) in record { answers = sym (asked.0 ∙ e.0); leaves = sym (asked.1 ∙ e.1) }
 
-      pub prints_done : (out' : List ℕ) → len ≤ length out → out' ≡ put_at 0 t out → Prints y ws b out (Amount.Is len) out'
+      pub prints_done : (out' : List ℕ) → len ≤ length out → out' ≡ put_at 0 t out → Prints y ws b out (Ok len) out'
       prints_done out' h x =
           let e = fitting t out (omega arith) in
-          record { answers = ap Amount.Is el ∙ sym (asked.0 ∙ e.0); leaves = x ∙ sym (asked.1 ∙ e.1) }
+          record { answers = ap Ok el ∙ sym (asked.0 ∙ e.0); leaves = x ∙ sym (asked.1 ∙ e.1) }

@@ -12,15 +12,12 @@ use lib.Seq.{take_at, drop_at, length-take-le}
 use borrow.Author.Tests.{le-leb, lt-leb}
 use Rattle.word.specs.Sets.{choose}
 use Rattle.word.proofs.Cases.{by_lt, by_test}
-use Rattle.storage.specs.Refusals.{amount_number, amount_value, change_number, change_record}
+use Rattle.storage.specs.Refusals.{answer_number, amount_value, change_number, change_record}
 use Rattle.storage.specs.Stores.{Bits, Bounded, Outcome, done, with_count, space_of, view, held, trimmed_count, trimmed, outcome, answer, store}
 use Rattle.storage.specs.Guards.{Passed}
 use Rattle.storage.specs.Promises.{LeastCount}
 use Rattle.storage.specs.declared.Bitmap.{Bitmap}
 use Rattle.storage.specs.declared.Refusal.TheVariants.{NotList, BadStyle}
-use Rattle.storage.specs.declared.Amount.{Amount}
-use Rattle.storage.specs.declared.Change.{Change}
-use Rattle.storage.specs.declared.Change.TheVariants.{Done}
 use Rattle.storage.proofs.Checks.{reading_ok}
 use Rattle.storage.proofs.Views.{view-count, bounded_view}
 use Rattle.storage.proofs.Stores.{view-written, outcome_ok}
@@ -44,6 +41,8 @@ use Rattle.print.proofs.Runs.{runs_are, runs_cover, run-next, run_past}
 use Rattle.print.proofs.ReadBack.{prints_nothing, text_is_list, lists_members, reads_back}
 use Rattle.text.proofs.Taken.{list-empty}
 use Rattle.text.proofs.Promises.{covers-within, within-covers}
+use Rattle.storage.specs.Refusals.{Amount, Change}
+use Rattle.std.specs.Prelude.{Ok, Err}
 
 -- ---- numbers
 
@@ -174,15 +173,15 @@ module _ (y : Style) (ws : List ℕ) (b : Bitmap) (out : List ℕ) (r : Amount) 
 
   module _ (q : Passed ws b) where
     -- where the store passes: a style that is not allowed
-    no_style : (Allowed y → ⊥) → NotPrinted out (amount_number r) (amount_value r) out' 15
+    no_style : (Allowed y → ⊥) → NotPrinted out (answer_number r) (amount_value r) out' 15
     no_style f = by_test (allowed y) (λ a. absurd (f ((styles_mean y).1 a))) said
       where
-        said : allowed y ≡ false → NotPrinted out (amount_number r) (amount_value r) out' 15
+        said : allowed y ≡ false → NotPrinted out (answer_number r) (amount_value r) out' 15
         said a =
-            let e : r ≡ Amount.Refused BadStyle = p.answers ∙ reading_ok ws b Amount.Refused (list_answer y out) q
-            ∙ ap (λ (x : Bool). choose x (fitted t out) (Amount.Refused BadStyle)) a in
+            let e : r ≡ Err BadStyle = p.answers ∙ reading_ok ws b Err (list_answer y out) q
+            ∙ ap (λ (x : Bool). choose x (fitted t out) (Err BadStyle)) a in
             record {
-              hands = (ap amount_number e, ap amount_value e);
+              hands = (ap answer_number e, ap amount_value e);
               bytes = p.leaves ∙ reading_ok ws b (λ e. out) (list_buffer y out) q ∙ ap (λ (x : Bool). choose x (replaced t out) out) a;
             }
 
@@ -190,34 +189,34 @@ module _ (y : Style) (ws : List ℕ) (b : Bitmap) (out : List ℕ) (r : Amount) 
     module _ (ok : Allowed y) where
       answer_is : r ≡ fitted t out
       answer_is =
-          p.answers ∙ reading_ok ws b Amount.Refused (list_answer y out) q ∙ ap (λ (x : Bool). choose x (fitted t out) (Amount.Refused BadStyle)) ((styles_mean y).0 ok)
+          p.answers ∙ reading_ok ws b Err (list_answer y out) q ∙ ap (λ (x : Bool). choose x (fitted t out) (Err BadStyle)) ((styles_mean y).0 ok)
 
       buffer_is : out' ≡ replaced t out
       buffer_is = p.leaves ∙ reading_ok ws b (λ e. out) (list_buffer y out) q ∙ ap (λ (x : Bool). choose x (replaced t out) out) ((styles_mean y).0 ok)
 
-      printed : PutOrShort (IsText y (held ws b).members) out (amount_number r) (amount_value r) out'
+      printed : PutOrShort (IsText y (held ws b).members) out (answer_number r) (amount_value r) out'
       printed = put-or_short t out r out' answer_is buffer_is (IsText y (held ws b).members) ((prints_one y ok (held ws b) (bounded_view ws b.count) t).1 refl)
 
-      lacking : length out < length t → NotPrinted out (amount_number r) (amount_value r) out' 6
+      lacking : length out < length t → NotPrinted out (answer_number r) (amount_value r) out' 6
       lacking = not-put t out r out' answer_is buffer_is
 
-      list_put : length t ≤ length out → TextPut t out (amount_number r) (amount_value r) out'
+      list_put : length t ≤ length out → TextPut t out (answer_number r) (amount_value r) out'
       list_put = text-put t out r out' answer_is buffer_is
 
-      text-fits : amount_number r ≡ 0 → length t ≤ length out
+      text-fits : answer_number r ≡ 0 → length t ≤ length out
       text-fits z = by_lt (length out) (length t) (λ l. absurd (omega (arith, (lacking l).hands.0))) (λ l. l)
 
-      not_15 : amount_number r ≡ 15 → ⊥
+      not_15 : answer_number r ≡ 15 → ⊥
       not_15 z = by_lt (length out) (length t) (λ l. omega (arith, z, (lacking l).hands.0)) (λ l. omega (arith, z, (list_put l).number))
 
     -- a text that was printed has an allowed style
-    was_allowed : amount_number r ≡ 0 → Allowed y
+    was_allowed : answer_number r ≡ 0 → Allowed y
     was_allowed z = by_test (allowed y) (λ a. (styles_mean y).1 a) (λ a. absurd (omega (arith, z, (no_style (λ ok. false≢true (sym a ∙ (styles_mean y).0 ok))).hands.0)))
 
-    only_15 : (Allowed y → ⊥) ↔ (amount_number r ≡ 15)
+    only_15 : (Allowed y → ⊥) ↔ (answer_number r ≡ 15)
     only_15 = (λ f. (no_style f).hands.0, λ z ok. not_15 ok z)
 
-  call_means : PrintsText y ws b out (amount_number r) (amount_value r) out'
+  call_means : PrintsText y ws b out (answer_number r) (amount_value r) out'
   call_means = guarded_print ws b out (list_answer y out) (list_buffer y out) r out' p.answers p.leaves (λ q a l. record { stop = no_style q; rest = printed q })
 
 pub prints_text : WriteListMeans
@@ -238,7 +237,7 @@ there_and_back y ws b i out out' a q e p z us us' o r m u fewest space c =
     outcome_ok (reading_list y (take (amount_value a) out')) us o u
     ∙ ap (λ (t : List ℕ). reading_list y t (space_of us) (held us o)) put.front
     ∙ reads_back y ok (held ws b) (bounded_view ws n) (omega (arith, q, view-count ws n)) i e (space_of us) (held us o) (omega (arith, count)) in
-    let answered : r ≡ Done (with_count o (trimmed (held ws b)).count) = c.answers ∙ ap (λ (x : Outcome). answer x o) made in (
+    let answered : r ≡ Ok (with_count o (trimmed (held ws b)).count) = c.answers ∙ ap (λ (x : Outcome). answer x o) made in (
       ap change_number answered,
       ap (λ (x : Change). (change_record x).count) answered ∙ count,
       λ j.

@@ -17,14 +17,11 @@ use Rattle.print.specs.declared.Run.{Run}
 use Rattle.text.proofs.Marks.{between_marks, between_in}
 use lib.Bits.{bit_and}
 use lib.ListN.{get_or}
-use Rattle.storage.specs.Refusals.{found_number, found_flag, found_value}
+use Rattle.storage.specs.Refusals.{answer_number, found_flag, found_value}
 use Rattle.storage.specs.Guards.{Passed}
 use Rattle.storage.specs.Promises.{NextMember}
 use Rattle.storage.specs.declared.Bitmap.{Bitmap}
 use Rattle.storage.specs.declared.Refusal.{Refusal}
-use Rattle.storage.specs.declared.Found.{Found}
-use Rattle.storage.specs.declared.Found.TheVariants.{At, Nothing}
-use Rattle.storage.specs.declared.Amount.{Amount}
 use Rattle.storage.proofs.Checks.{reading_ok}
 use Rattle.storage.proofs.Views.{view-count, bounded_view}
 use Rattle.storage.proofs.Promises.{each_number_once, next-member, finds_at, finds_nothing}
@@ -32,6 +29,8 @@ use Rattle.scans.specs.Searches.{next_clear}
 use Rattle.scans.specs.Promises.{NextOther}
 use Rattle.scans.proofs.Promises.{next_other}
 use Rattle.slice.proofs.Fields.{bit_of_lem}
+use Rattle.storage.specs.Refusals.{Found, Amount}
+use Rattle.std.specs.Prelude.{Ok, Err, Some, None}
 
 -- ---- they are found
 
@@ -244,12 +243,12 @@ module _ (ws : List ℕ) (b : Bitmap) (i : ℕ) (p : Passed ws b) where
   below : (j : ℕ) → s.members j ≡ true → j < 64 * n
   below j e = by_lt j (64 * n) (λ h. h) (λ h. absurd (false≢true (sym (bound.past j (omega (arith, view-count ws n))) ∙ e)))
 
-  module _ (f : Found) (ef : f ≡ reading ws b Found.Refused (λ s. next_from s i)) where
+  module _ (f : Found) (ef : f ≡ reading ws b Err (λ s. next_from s i)) where
     abbrev is : Found → Type 0
-    is a = NextMember s.members i (found_number a) (found_flag a) (found_value a)
+    is a = NextMember s.members i (answer_number a) (found_flag a) (found_value a)
 
     member : is f
-    member = subst is (sym (ef ∙ reading_ok ws b Found.Refused (λ s. next_from s i) p)) (next-member s bound i)
+    member = subst is (sym (ef ∙ reading_ok ws b Err (λ s. next_from s i) p)) (next-member s bound i)
 
     abbrev first : ℕ → Type 0
     first x = (i ≤ x) × (s.members x ≡ true) × ((q : ℕ) → i ≤ q → q < x → s.members q ≡ false)
@@ -257,13 +256,13 @@ module _ (ws : List ℕ) (b : Bitmap) (i : ℕ) (p : Passed ws b) where
     abbrev nowhere : Type 0
     nowhere = (q : ℕ) → i ≤ q → s.members q ≡ false
 
-    at : (x : ℕ) → f ≡ At x → first x
+    at : (x : ℕ) → f ≡ Ok (Some x) → first x
     at x e = finds_at first nowhere x (subst is e member)
 
-    pub start_below : (x : ℕ) → f ≡ At x → x < 64 * n
+    pub start_below : (x : ℕ) → f ≡ Ok (Some x) → x < 64 * n
     start_below x e = below x (at x e).1
 
-    pub run_none : i ≤ 64 * n → f ≡ Nothing → NextRun s.members (64 * n) i (record { low = 64 * n; end = 64 * n })
+    pub run_none : i ≤ 64 * n → f ≡ (Ok None) → NextRun s.members (64 * n) i (record { low = 64 * n; end = 64 * n })
     run_none h e =
         let q : nowhere = finds_nothing first nowhere (subst is e member) in
         record {
@@ -276,11 +275,11 @@ module _ (ws : List ℕ) (b : Bitmap) (i : ℕ) (p : Passed ws b) where
           none = λ e. refl;
         }
 
-    pub found_never : (e : Refusal) → f ≡ Found.Refused e → ⊥
+    pub found_never : (e : Refusal) → f ≡ Err e → ⊥
     found_never e q = omega (arith, (each_number_once.range e).0, (subst is q member).0)
 
     -- a run of one number
-    pub run-single : (x : ℕ) → f ≡ At x → s.members (x + 1) ≡ false → NextRun s.members (64 * n) i (record { low = x; end = x + 1 })
+    pub run-single : (x : ℕ) → f ≡ Ok (Some x) → s.members (x + 1) ≡ false → NextRun s.members (64 * n) i (record { low = x; end = x + 1 })
     run-single x ex z = record {
       from = (at x ex).0;
       order = omega arith;
@@ -291,14 +290,14 @@ module _ (ws : List ℕ) (b : Bitmap) (i : ℕ) (p : Passed ws b) where
       none = λ e. absurd (omega arith);
     }
 
-    module _ (x : ℕ) (ex : f ≡ At x) (m : Amount) (em : m ≡ reading ws b Amount.Refused (λ s. Amount.Is (next_clear s (x + 1)))) where
-      clear : m ≡ Amount.Is (next_clear s (x + 1))
-      clear = em ∙ reading_ok ws b Amount.Refused (λ s. Amount.Is (next_clear s (x + 1))) p
+    module _ (x : ℕ) (ex : f ≡ Ok (Some x)) (m : Amount) (em : m ≡ reading ws b Err (λ s. Ok (next_clear s (x + 1)))) where
+      clear : m ≡ Ok (next_clear s (x + 1))
+      clear = em ∙ reading_ok ws b Err (λ s. Ok (next_clear s (x + 1))) p
 
-      pub clear_never : (e : Refusal) → m ≡ Amount.Refused e → ⊥
-      clear_never e q = let z : Amount.Refused e ≡ Amount.Is (next_clear s (x + 1)) = sym q ∙ clear in zero_one cc
+      pub clear_never : (e : Refusal) → m ≡ Err e → ⊥
+      clear_never e q = let z : Err e ≡ Ok (next_clear s (x + 1)) = sym q ∙ clear in zero_one cc
 
-      pub run-found : (end : ℕ) → m ≡ Amount.Is end → NextRun s.members (64 * n) i (record { low = x; end = end })
+      pub run-found : (end : ℕ) → m ≡ Ok end → NextRun s.members (64 * n) i (record { low = x; end = end })
       run-found end q = record {
         from = (at x ex).0;
         order = omega (arith, o.from);
@@ -310,7 +309,7 @@ module _ (ws : List ℕ) (b : Bitmap) (i : ℕ) (p : Passed ws b) where
       }
         where
           same : next_clear s (x + 1) ≡ end
-          same = let z : Amount.Is (next_clear s (x + 1)) ≡ Amount.Is end = sym clear ∙ q in cc
+          same = let z : Ok (next_clear s (x + 1)) ≡ Ok end = sym clear ∙ q in cc
 
           o : NextOther s (x + 1) end
           o = subst (NextOther s (x + 1)) same (next_other s bound (x + 1))

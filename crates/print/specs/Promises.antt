@@ -1,13 +1,11 @@
 -- What printed list text promises, in words of its own. Each is proved in proofs/Promises, `PlainAsBefore` in proofs/Plain.
 use Rattle.std.specs.Prelude.{ℕ, ◌+◌, ◌*◌, ◌≤◌, ◌<◌, ◌≡◌, true, false, List, [], ◌↔◌, ◌⊎◌, length, take, drop}
-use Rattle.storage.specs.Refusals.{number_of, amount_number, amount_value, change_number, change_record}
+use Rattle.storage.specs.Refusals.{number_of, answer_number, amount_value, change_number, change_record}
 use Rattle.storage.specs.Stores.{Bits, Bounded, refused, Space, view, held, Changes}
 use Rattle.storage.specs.Guards.{most_words, Passed}
 use Rattle.storage.specs.Promises.{Guarded, LeastCount, HandsNone}
 use Rattle.storage.specs.declared.Bitmap.{Bitmap}
 use Rattle.storage.specs.declared.Refusal.{Refusal}
-use Rattle.storage.specs.declared.Change.{Change}
-use Rattle.storage.specs.declared.Amount.{Amount}
 use Rattle.style.specs.Styles.{plain_style}
 use Rattle.style.specs.Promises.{Allowed, GuardedStyle}
 use Rattle.style.specs.declared.Style.{Style}
@@ -20,6 +18,7 @@ use Rattle.print.specs.Forms.{Runs, Figures, IsText}
 use Rattle.print.specs.Plain as base
 use Rattle.print.specs.Texts.{runs, AnswersRun, decimal, decimal_len, PutsDecimal, text_of, Prints}
 use Rattle.print.specs.declared.Run.{Run}
+use Rattle.storage.specs.Refusals.{Amount, Change}
 
 -- t means the number n, with the fewest digits
 pub record Shortest (n : ℕ) (t : List ℕ) : Type 0 where
@@ -105,13 +104,13 @@ PrintsText y ws b out x v out' =
 abbrev pub WriteListMeans : Type 0
 WriteListMeans =
     (y : Style) (ws : List ℕ) (b : Bitmap) (out : List ℕ) (r : Amount) (out' : List ℕ) → Prints y ws b out r out'
-    → PrintsText y ws b out (amount_number r) (amount_value r) out'
+    → PrintsText y ws b out (answer_number r) (amount_value r) out'
 
 -- where neither 1 nor 2 applies: 15 exactly where the style is not allowed, whatever the set and the buffer are
 abbrev pub RefusesStyle : Type 0
 RefusesStyle =
     (y : Style) (ws : List ℕ) (b : Bitmap) (out : List ℕ) (r : Amount) (out' : List ℕ) → Passed ws b → Prints y ws b out r out'
-    → (Allowed y → ⊥) ↔ (amount_number r ≡ 15)
+    → (Allowed y → ⊥) ↔ (answer_number r ≡ 15)
 
 -- a set with no member prints no byte, which is refused with 7; the text of any other is a list of the grammar, and lists its members
 pub record TextOf (y : Style) (b : Bits) : Type 0 where
@@ -128,7 +127,7 @@ TextMeans = (y : Style) → Allowed y → (b : Bits) → Bounded b → b.count �
 abbrev pub ReadsBack : Type 0
 ReadsBack =
     (y : Style) (ws : List ℕ) (b : Bitmap) (i : ℕ) (out out' : List ℕ) (a : Amount) → Passed ws b → (held ws b).members i ≡ true
-    → Prints y ws b out a out' → amount_number a ≡ 0
+    → Prints y ws b out a out' → answer_number a ≡ 0
     → (us us' : List ℕ) (o : Bitmap) (r : Change) (m : ℕ) → Passed us o → LeastCount (held ws b).members b.count m → m ≤ length us
     → Changes (reading_list y (take (amount_value a) out')) us o r us'
     → (change_number r ≡ 0) × ((change_record r).count ≡ m) × ((j : ℕ) → (view us' m).members j ≡ (held ws b).members j)
@@ -139,5 +138,5 @@ pub record PlainAsBefore : Type 0 where
   pub text : (b : Bits) → Bounded b → (t : List ℕ) → base.IsText b.members t ↔ (t ≡ text_of plain_style b)
   pub lists : (b : Bits) → Bounded b → b.count ≤ most_words → (i : ℕ) → b.members i ≡ true → base-text.Listed (text_of plain_style b) (runs b)
   pub prints : (ws : List ℕ) (b : Bitmap) (out : List ℕ) (r : Amount) (out' : List ℕ) → Prints plain_style ws b out r out'
-      → Guarded ws b (NotPrinted out (amount_number r) (amount_value r) out')
-      (PutOrShort (base.IsText (held ws b).members) out (amount_number r) (amount_value r) out')
+      → Guarded ws b (NotPrinted out (answer_number r) (amount_value r) out')
+      (PutOrShort (base.IsText (held ws b).members) out (answer_number r) (amount_value r) out')

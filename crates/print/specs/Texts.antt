@@ -1,15 +1,14 @@
 -- `write_list`: the text of a set in a style, from its maximal runs upward; and what other prints share with it, the next run and a number's digits.
-use Rattle.std.specs.Prelude.{ℕ, zero, suc, ◌+◌, ◌-◌, ◌*◌, ◌/◌, ◌%◌, ◌≡◌, Bool, true, false, List, [], ◌∷◌, ◌++◌, ltb, leb, eqb, length, take, drop}
+use Rattle.std.specs.Prelude.{ℕ, zero, suc, ◌+◌, ◌-◌, ◌*◌, ◌/◌, ◌%◌, ◌≡◌, Bool, true, false, List, [], ◌∷◌, ◌++◌, ltb, leb, eqb, length, take, drop, Ok, Err}
 use Rattle.word.specs.Sets.{choose}
 use Rattle.storage.specs.Stores.{Bits, reading}
 use Rattle.storage.specs.declared.Bitmap.{Bitmap}
 use Rattle.storage.specs.declared.Refusal.TheVariants.{NoSpace, BadStyle}
-use Rattle.storage.specs.declared.Amount.{Amount}
-use Rattle.storage.specs.declared.Amount.TheVariants.{Is, Refused}
 use Rattle.style.specs.Styles.{allowed}
 use Rattle.style.specs.declared.Style.{Style}
 use Rattle.text.specs.Lists.{comma, space, zero_digit, Range, range}
 use Rattle.print.specs.declared.Run.{Run}
+use Rattle.storage.specs.Refusals.{Amount}
 
 -- where the run began that is open, if one is
 pub data Opened : Type 0 where
@@ -119,7 +118,7 @@ text_of y b = text y (pieces y.shortest (runs b))
 
 -- the text's length, or 6 where the buffer has fewer bytes
 abbrev pub fitted : List ℕ → List ℕ → Amount
-fitted t out = choose (leb (length t) (length out)) (Is (length t)) (Refused NoSpace)
+fitted t out = choose (leb (length t) (length out)) (Ok (length t)) (Err NoSpace)
 
 -- the text at the buffer's front, the bytes past it as they were; the whole buffer as it was where the text does not fit
 abbrev pub replaced : List ℕ → List ℕ → List ℕ
@@ -127,12 +126,12 @@ replaced t out = choose (leb (length t) (length out)) (t ++ drop (length t) out)
 
 -- 15 and the buffer as it was where the style is not allowed, before all else
 abbrev pub list_answer : Style → List ℕ → Bits → Amount
-list_answer y out s = choose (allowed y) (fitted (text_of y s) out) (Refused BadStyle)
+list_answer y out s = choose (allowed y) (fitted (text_of y s) out) (Err BadStyle)
 
 abbrev pub list_buffer : Style → List ℕ → Bits → List ℕ
 list_buffer y out s = choose (allowed y) (replaced (text_of y s) out) out
 
 -- a call on the bitmap b in ws answers r, and makes out' of the buffer out
 pub record Prints (y : Style) (ws : List ℕ) (b : Bitmap) (out : List ℕ) (r : Amount) (out' : List ℕ) : Type 0 where
-  pub answers : r ≡ reading ws b Amount.Refused (list_answer y out)
+  pub answers : r ≡ reading ws b Err (list_answer y out)
   pub leaves : out' ≡ reading ws b (λ e. out) (list_buffer y out)

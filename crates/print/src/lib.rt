@@ -10,14 +10,14 @@ ghost use Rattle.style.specs.Promises.{Allowed};
 ghost use Rattle.print.specs.Texts.{AnswersRun, decimal, decimal_len, PutsDecimal, cut, printed, text_of, Prints};
 ghost use Rattle.print.specs.Kernels.{NextRun, Printable, range_of, separator, pieces_at, put_at, Puts};
 
-use storage::{Amount, Bitmap, Found, Guard, Refusal};
+use storage::{Bitmap, Refusal};
 use style::Style;
 use text::{COMMA, ZERO};
 
 const SPACE: u8 = 32;
 
 // A run: its first bit, and the clear bit after its last.
-#[derive(Clone, Copy)]
+#[derive(Clone, Copy, Debug, PartialEq, Eq)]
 pub struct Run {
     pub low: usize,
     pub end: usize,
@@ -30,25 +30,22 @@ fn next_run(words: &[u64], b: Bitmap, i: usize) -> Run
 {
     let end = 64 * b.count;
     let none = Run { low: end, end: end };
-    let f = scans::next_set(words, b, i);
-    match f {
-        Found::At(a) => {
-            let next = a + 1;
-            // A run of one bit needs no second scan.
-            if next / 64 < b.count {
-                if (words[next / 64] >> (next % 64)) & 1 == 0 {
-                    return Run { low: a, end: next };
-                }
-            }
-            let c = scans::next_clear(words, b, next);
-            match c {
-                Amount::Is(e) => Run { low: a, end: e },
-                Amount::Refused(_) => none,
-            }
+    let low = match scans::next_set(words, b, i) {
+        Ok(Some(low)) => low,
+        Ok(None) => return none,
+        Err(_) => return none,
+    };
+    let next = low + 1;
+    // A run of one bit needs no second scan.
+    if next / 64 < b.count {
+        if (words[next / 64] >> (next % 64)) & 1 == 0 {
+            return Run { low, end: next };
         }
-        Found::Nothing => none,
-        Found::Refused(_) => none,
     }
+    let Ok(end) = scans::next_clear(words, b, next) else {
+        return none;
+    };
+    Run { low, end }
 }
 
 // The next run from i on; one that began before i is taken from i on. Where there is none, an empty one at the length; where 1 or 2 applies, at 0.
@@ -56,10 +53,9 @@ fn next_run(words: &[u64], b: Bitmap, i: usize) -> Run
 pub fn run_from(words: &[u64], b: Bitmap, i: usize) -> Run
     ensures { AnswersRun words.now b i result }
 {
-    match storage::check(words, b) {
-        Guard::Stop(_) => return Run { low: 0, end: 0 },
-        Guard::Pass => {}
-    }
+    let Ok(()) = storage::check(words, b) else {
+        return Run { low: 0, end: 0 };
+    };
     let end = 64 * b.count;
     if i > end {
         return Run { low: end, end: end };
@@ -135,15 +131,14 @@ fn run_end(at: usize, run: Run, style: Style) -> usize
         return at + gap_len(at, style.blank) + pair_len(run.low, run.end - 1, style);
     }
     let mut p = at;
-    let mut x = run.low;
-    while x < run.end {
+    for x in run.low..run.end {
         p = p + gap_len(p, style.blank) + digits(x + style.first);
-        x += 1;
     }
     p
 }
 
-// The length of a bitmap's text.
+// The length of a bitmap's text. Here and in `print` a loop goes from run to run, and no index is counted: `run_from_means` says that after the last run comes
+// an empty one at the length, so its answer is no `Option`.
 fn text_len(words: &[u64], b: Bitmap, style: Style) -> usize
     requires { Allowed style × Passed words.now b }
     ensures { result ≡ length (text_of style (held words.now b)) }
@@ -157,7 +152,8 @@ fn text_len(words: &[u64], b: Bitmap, style: Style) -> usize
     at
 }
 
-// Puts the digits of x up to a place, the last two first.
+// Puts the digits of x up to a place, the last two first. By hand, since std's `Display` writes to a `fmt::Write`, which a part of a lent buffer is not; two
+// digits a turn, so that a `for` would count the turns and work the place out again.
 fn put_digits(out: &mut [u8], at: usize, end: usize, x: usize)
     requires { (end ≡ at + length (decimal x)) × (end ≤ length out.old) }
     ensures { out.new ≡ put_at at (decimal x) out.old }
@@ -246,10 +242,8 @@ fn put_run(out: &mut [u8], at: usize, run: Run, style: Style) -> usize
         return put_pair(out, at, run.low, run.end - 1, style);
     }
     let mut p = at;
-    let mut x = run.low;
-    while x < run.end {
+    for x in run.low..run.end {
         p = put_single(out, p, x, style);
-        x += 1;
     }
     p
 }
@@ -269,20 +263,17 @@ fn print(words: &[u64], b: Bitmap, out: &mut [u8], style: Style)
 
 // Prints the bitmap as a list in a style; the text's length. 15 if the style is not allowed, then 6 if the buffer is shorter, before a byte is written;
 // bytes past the text are untouched. From 1, with `:` and shortest run 3, {0, 1, 2, 4, 5} is `1:3, 5, 6`.
-pub fn write_list(words: &[u64], b: Bitmap, out: &mut [u8], style: Style) -> Amount
+pub fn write_list(words: &[u64], b: Bitmap, out: &mut [u8], style: Style) -> Result<usize, Refusal>
     ensures { Prints style words.now b out.old result out.new }
 {
-    match storage::check(words, b) {
-        Guard::Stop(e) => return Amount::Refused(e),
-        Guard::Pass => {}
-    }
+    storage::check(words, b)?;
     if !style::is_allowed(style) {
-        return Amount::Refused(Refusal::BadStyle);
+        return Err(Refusal::BadStyle);
     }
     let len = text_len(words, b, style);
     if len > out.len() {
-        return Amount::Refused(Refusal::NoSpace);
+        return Err(Refusal::NoSpace);
     }
     print(words, b, out, style);
-    Amount::Is(len)
+    Ok(len)
 }

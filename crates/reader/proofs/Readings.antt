@@ -1,16 +1,19 @@
 -- A reading from its head on, and what it leaves in the result store.
-use Prim.Native.Nat.{ℕ, ◌^◌, ◌≤◌, ◌<◌}
-use mathlib.Core.Path.{◌≡◌, refl, sym, ap, ap₂, ◌∙◌, subst}
+use Prim.Native.Nat.{ℕ, ◌+◌, ◌-◌, ◌^◌, ◌≤◌, ◌<◌}
+use mathlib.Core.Path.{◌≡◌, sym, ap, ap₂, ◌∙◌, subst}
 use mathlib.Core.Bool.{Bool, true, false}
 use mathlib.Core.List.{List}
 use mathlib.Core.Logic.{inl}
 use native.Mathlib.Omega.{arith}
-use lib.ListN.{length, get_or}
+use lib.ListN.{length, get_or, take, drop, length-append, length-drop, get_or-append}
+use mathlib.Core.List.{◌++◌}
+use lib.Seq.{length-take-le, get_or-take, get_or-drop}
+use Rattle.std.proofs.lemmas.List.{get_or-append_right}
 use borrow.Author.Tests.{le-leb, lt-leb}
 use Rattle.word.specs.Sets.{choose}
 use Rattle.word.specs.Places.{bit}
 use Rattle.word.proofs.Lists.{Fit, past}
-use Rattle.word.proofs.Sweep.{Swept, sweep_to}
+use Rattle.word.proofs.Sweep.{Swept}
 use Rattle.storage.specs.Stores.{Bits, no_words, view, written, zeroed, bitmap_of}
 use Rattle.storage.specs.Guards.{Passed}
 use Rattle.storage.specs.declared.Refusal.TheVariants.{NoSpace, NotSheet}
@@ -20,10 +23,10 @@ use Rattle.editions.specs.Frames.{headed, count_in}
 use Rattle.editions.specs.Reader.{Edition, stop, next, Answer, refused, records, copied, read}
 use Rattle.sheet.specs.Reads.{edition_of, fitting, went, read_answer}
 use Rattle.sheet.specs.declared.Edit.{Edit}
-use Rattle.sheet.specs.declared.Reading.{Reading}
 use Rattle.sheet.proofs.Readings.{same-written}
 use Rattle.reader.specs.Kernels.{Padded, Came}
 use Rattle.reader.proofs.Padding.{written_padded}
+use Rattle.sheet.specs.Reads.{Reading}
 
 -- ---- the old words copied, and zeros past them
 
@@ -42,10 +45,22 @@ cleared res old ws n w f h =
     front : (k : ℕ) → k < n → get_or (zeroed n (length res) ws) k 0 ≡ get_or old k 0
     front k l = zeroed_out n (length res) ws k (inl l) ∙ w.fresh k (omega arith) l
 
-pub loaded : (res old ws ws' : List ℕ) (n k : ℕ) → Swept res (λ k. get_or old k 0) 0 k ws → k ≡ n → Fit old → n ≤ length res → ws' ≡ zeroed n (length ws) ws
+-- the first n words of the old store before the others of the result's
+swept : (res old : List ℕ) (n : ℕ) → n ≤ length res → n ≤ length old → Swept res (λ k. get_or old k 0) 0 n (take n old ++ drop n res)
+swept res old n h l =
+    let t : length (take n old) ≡ n = length-take-le n old l in
+    record {
+      long = length-append (take n old) (drop n res) ∙ omega (arith, t, length-drop n res);
+      fresh = λ k p q. get_or-append (take n old) (drop n res) 0 k (omega (arith, t)) ∙ get_or-take n old k 0 q;
+      below = λ k p. absurd (omega arith);
+      above = λ k p.
+          get_or-append_right (take n old) (drop n res) n k 0 t p ∙ get_or-drop n res (k - n) 0
+          ∙ ap (λ (i : ℕ). get_or res i 0) (let e : n + (k - n) ≡ k = omega arith in e);
+    }
+
+pub loaded : (res old ws ws' : List ℕ) (n : ℕ) → Fit old → n ≤ length res → n ≤ length old → ws ≡ take n old ++ drop n res → ws' ≡ zeroed n (length ws) ws
     → ws' ≡ written res (length res) (view old n)
-loaded res old ws ws' n k w e f h q =
-    q ∙ ap (λ (c : ℕ). zeroed n c ws) w.long ∙ cleared res old ws n (sweep_to res (λ k. get_or old k 0) 0 k 0 n ws w refl e) f h
+loaded res old ws ws' n f h l e q = let w = subst (Swept res (λ k. get_or old k 0) 0 n) (sym e) (swept res old n h l) in q ∙ ap (λ (c : ℕ). zeroed n c ws) w.long ∙ cleared res old ws n w f h
 
 -- ---- the head, the copy and the records
 

@@ -15,7 +15,6 @@ use Rattle.storage.specs.Stores.{Bits, refused, with_count, view, written, answe
 use Rattle.storage.specs.declared.Bitmap.{Bitmap}
 use Rattle.storage.specs.declared.Refusal.{Refusal}
 use Rattle.storage.specs.declared.Refusal.TheVariants.{CutRecord, BytesRemain}
-use Rattle.storage.specs.declared.Change.{Change}
 use Rattle.storage.proofs.Checks.{passed_as}
 use Rattle.storage.proofs.Views.{view-count, bounded_view}
 use Rattle.storage.proofs.Stores.{view-written, length-written}
@@ -24,11 +23,13 @@ use Rattle.editions.specs.Frames.{Item, end_at, item_at}
 use Rattle.editions.specs.Reader.{Edition, Turn, stop, next, Answer, refused, asking, taken, act, then, records}
 use Rattle.sheet.specs.Reads.{edition_of, went, read_answer}
 use Rattle.sheet.specs.declared.Edit.{Edit}
-use Rattle.sheet.specs.declared.Reading.TheVariants as reading
+use Rattle.storage.specs.declared.Refused.{Refused}
 use Rattle.reader.specs.Kernels.{Padded, outcome_of, turned, Came}
 use Rattle.editions.proofs.Turns.{stop_next, next_inj}
 use Rattle.sheet.proofs.Effects.{KeptIn, step_kept}
 use Rattle.reader.proofs.Padding.{padded_written, written_fit, written_padded}
+use Rattle.storage.specs.Refusals.{Change, refusing}
+use Rattle.std.specs.Prelude.{Ok, Err}
 
 -- ---- what a record makes has space, and no member past its words
 
@@ -57,21 +58,21 @@ any_number edition c k r b = go r.duty (asking (size_in edition) rule_of r.kind 
 
 -- ---- what a turn's answer tells
 
-told_stop : (t : Turn Bits) (ws ws' : List ℕ) (b b' : Bitmap) (e : Refusal) → Leaves (outcome_of t) ws b (Change.Refused e b') ws' → t ≡ stop e
+told_stop : (t : Turn Bits) (ws ws' : List ℕ) (b : Bitmap) (e : Refused) → Leaves (outcome_of t) ws b (Err e) ws' → t ≡ stop e.0
 unfolding answer
-told_stop (stop x) ws ws' b b' e l = let p : Change.Refused e b' ≡ Change.Refused x b = l.answers in ap stop (cc)
-told_stop (next s) ws ws' b b' e l = let p : Change.Refused e b' ≡ Change.Done (with_count b s.count) = l.answers in zero_one cc
+told_stop (stop x) ws ws' b e l = let p : Err e ≡ refusing b x = l.answers in let q : e ≡ (x, b) = cc in ap (λ (r : Refused). stop r.0) (sym q)
+told_stop (next s) ws ws' b e l = let p : Err e ≡ Ok (with_count b s.count) = l.answers in zero_one cc
 
 record Made (t : Turn Bits) (ws ws' : List ℕ) (b after : Bitmap) (s : Bits) : Type 0 where
   is : t ≡ next s
   count : after.count ≡ s.count
   leaves : ws' ≡ written ws b.count s
 
-told-next : (t : Turn Bits) (ws ws' : List ℕ) (b after : Bitmap) → Leaves (outcome_of t) ws b (Change.Done after) ws' → (s : Bits) × Made t ws ws' b after s
+told-next : (t : Turn Bits) (ws ws' : List ℕ) (b after : Bitmap) → Leaves (outcome_of t) ws b (Ok after) ws' → (s : Bits) × Made t ws ws' b after s
 unfolding answer store
-told-next (stop x) ws ws' b after l = let p : Change.Done after ≡ Change.Refused x b = l.answers in zero_one cc
+told-next (stop x) ws ws' b after l = let p : Ok after ≡ refusing b x = l.answers in zero_one cc
 told-next (next s) ws ws' b after l =
-    let p : Change.Done after ≡ Change.Done (with_count b s.count) = l.answers in
+    let p : Ok after ≡ Ok (with_count b s.count) = l.answers in
     let q : after ≡ with_count b s.count = cc in
     (s, record { is = refl; count = ap (λ (x : Bitmap). x.count) q; leaves = l.leaves })
 
@@ -126,16 +127,16 @@ module _ (edition : ℕ) (sheet : List ℕ) (n : ℕ) (ws₀ : List ℕ) (n₀ :
           subst (λ (t : Turn Bits). Leaves (outcome_of t) ws b r ws') (sym (any_number edition (length ws₀) (suc i) (item_at sheet at) (view ws m)))
           (subst (λ (c : ℕ). Leaves (turned edition (item_at sheet at) c (view ws m)) ws b r ws') g.long h)
 
-      pub stops : (r : Change) (ws' : List ℕ) (e : Refusal) (b' : Bitmap) → r ≡ Change.Refused e b'
-          → Leaves (turned edition (item_at sheet at) (length ws) (view ws m)) ws (bitmap_of m) r ws' → whole ≡ refused e (i + 1)
-      stops r ws' e b' p h =
+      pub stops : (r : Change) (ws' : List ℕ) (e : Refused) → r ≡ Err e
+          → Leaves (turned edition (item_at sheet at) (length ws) (view ws m)) ws (bitmap_of m) r ws' → whole ≡ refused e.0 (i + 1)
+      stops r ws' e p h =
           turns
           ∙ ap (then E (records E sheet (n - (i + 1)) (suc i) end) (suc i))
-          (told_stop (act E (suc i) (item_at sheet at) (view ws m)) ws ws' (bitmap_of m) b' e
-          (in_store (bitmap_of m) (Change.Refused e b') ws' (subst (λ (x : Change). Leaves (turned edition (item_at sheet at) (length ws) (view ws m)) ws (bitmap_of m) x ws') p h)))
-          ∙ ap (refused e) (sym (add-one i))
+          (told_stop (act E (suc i) (item_at sheet at) (view ws m)) ws ws' (bitmap_of m) e
+          (in_store (bitmap_of m) (Err e) ws' (subst (λ (x : Change). Leaves (turned edition (item_at sheet at) (length ws) (view ws m)) ws (bitmap_of m) x ws') p h)))
+          ∙ ap (refused e.0) (sym (add-one i))
 
-      pub goes_on : (r : Change) (ws' : List ℕ) (after : Bitmap) → r ≡ Change.Done after
+      pub goes_on : (r : Change) (ws' : List ℕ) (after : Bitmap) → r ≡ Ok after
           → Leaves (turned edition (item_at sheet at) (length ws) (view ws m)) ws (bitmap_of m) r ws' → ReadingTo ws' after.count (i + 1) end
       goes_on r ws' after p h = record {
         bound = omega arith;
@@ -155,7 +156,7 @@ module _ (edition : ℕ) (sheet : List ℕ) (n : ℕ) (ws₀ : List ℕ) (n₀ :
           found : (s : Bits) × Made (act E (suc i) (item_at sheet at) (view ws m)) ws ws' (bitmap_of m) after s
           found =
               told-next (act E (suc i) (item_at sheet at) (view ws m)) ws ws' (bitmap_of m) after
-              (in_store (bitmap_of m) (Change.Done after) ws' (subst (λ (x : Change). Leaves (turned edition (item_at sheet at) (length ws) (view ws m)) ws (bitmap_of m) x ws') p h))
+              (in_store (bitmap_of m) (Ok after) ws' (subst (λ (x : Change). Leaves (turned edition (item_at sheet at) (length ws) (view ws m)) ws (bitmap_of m) x ws') p h))
 
           s : Bits
           s = found.0
@@ -178,19 +179,24 @@ module _ (edition : ℕ) (sheet : List ℕ) (n : ℕ) (ws₀ : List ℕ) (n₀ :
           seen = ap (view ws') y.count ∙ ap (λ (x : List ℕ). view x s.count) y.leaves ∙ view-written ws m s room g.padded.passes.inside kept.bounded
 
   module _ (ws : List ℕ) (m i at : ℕ) (g : ReadingTo ws m i at) (over : n ≤ i) where
-    last : whole ≡ choose (ltb at (length sheet)) (refused BytesRemain i) (Answer.done i (view ws m))
+    end : i ≡ n
+    end = omega (arith, g.bound)
+
+    last : whole ≡ choose (ltb at (length sheet)) (refused BytesRemain n) (Answer.done n (view ws m))
     unfolding records
-    last = g.decides ∙ ap (λ (x : ℕ). records E sheet x i at (view ws m)) (let e : n - i ≡ 0 = omega arith in e)
+    last =
+        g.decides ∙ ap (λ (x : ℕ). records E sheet x i at (view ws m)) (let e : n - i ≡ 0 = omega arith in e)
+        ∙ ap (λ (x : ℕ). choose (ltb at (length sheet)) (refused BytesRemain x) (Answer.done x (view ws m))) end
 
-    pub remain : at < length sheet → whole ≡ refused BytesRemain i
-    remain h = last ∙ ap (λ (t : Bool). choose t (refused BytesRemain i) (Answer.done i (view ws m))) (lt-ltb at (length sheet) h)
+    pub remain : at < length sheet → whole ≡ refused BytesRemain n
+    remain h = last ∙ ap (λ (t : Bool). choose t (refused BytesRemain n) (Answer.done n (view ws m))) (lt-ltb at (length sheet) h)
 
-    pub finished : length sheet ≤ at → whole ≡ Answer.done i (view ws m)
-    finished h = last ∙ ap (λ (t : Bool). choose t (refused BytesRemain i) (Answer.done i (view ws m))) (le-ltb at (length sheet) h)
+    pub finished : length sheet ≤ at → whole ≡ Answer.done n (view ws m)
+    finished h = last ∙ ap (λ (t : Bool). choose t (refused BytesRemain n) (Answer.done n (view ws m))) (le-ltb at (length sheet) h)
 
 -- ---- what a reading comes to
 
-pub came_refused : (a : Answer Bits) (res res' : List ℕ) (e : Refusal) (k : ℕ) → length res' ≡ length res → a ≡ refused e k → Came a res (reading.Refused e k) res'
+pub came_refused : (a : Answer Bits) (res res' : List ℕ) (e : Refusal) (k : ℕ) → length res' ≡ length res → a ≡ refused e k → Came a res (Err (e, k)) res'
 came_refused a res res' e k l q = record {
   long = l;
   answers = ap (λ (x : Answer Bits). read_answer (went x)) (sym q);
@@ -198,7 +204,7 @@ came_refused a res res' e k l q = record {
 }
 
 pub came_done : (a : Answer Bits) (res ws : List ℕ) (k m : ℕ) → length ws ≡ length res → Fit ws → Padded ws (bitmap_of m) → a ≡ Answer.done k (view ws m)
-    → Came a res (reading.Done k (bitmap_of m)) ws
+    → Came a res (Ok (k, bitmap_of m)) ws
 unfolding view
 came_done a res ws k m l f p q = record {
   long = l;

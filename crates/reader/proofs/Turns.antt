@@ -11,18 +11,17 @@ use Rattle.word.proofs.Lists.{Fit}
 use Rattle.storage.specs.Stores.{Bits, Outcome, refused, done, space_of, view, held, answer, store, Leaves, outcome, Changes}
 use Rattle.storage.specs.declared.Bitmap.{Bitmap}
 use Rattle.storage.specs.declared.Refusal.{Refusal}
-use Rattle.storage.specs.declared.Change.{Change}
-use Rattle.storage.specs.declared.Change.TheVariants.{Done}
 use Rattle.storage.proofs.Stores.{leaves_refused, outcome_ok, written-view}
 use Rattle.sheet.specs.Kinds.{size_in, rule_of}
 use Rattle.editions.specs.Frames.{Item, size_at, end_at, item_at}
 use Rattle.editions.specs.Reader.{Turn, stop, next, asking, taken}
 use Rattle.sheet.specs.Reads.{step, turn_of, edition_of}
 use Rattle.sheet.specs.declared.Edit.{Edit}
-use Rattle.decode.specs.declared.Asked.{Asked}
-use Rattle.decode.specs.declared.Asked.TheVariants.{For}
 use Rattle.decode.specs.Asks.{asked_by, asked_for}
 use Rattle.reader.specs.Kernels.{Padded, outcome_of, duty_item, turned}
+use Rattle.storage.specs.Refusals.{Change, refusing}
+use Rattle.std.specs.Prelude.{Ok, Err}
+use Rattle.decode.specs.Asks.{Asked}
 
 -- the step of an edit that is known
 pub step_of : {e f : Edit} {ws ws' : List ℕ} {b : Bitmap} {r : Change} → e ≡ f → Changes (step f) ws b r ws' → Changes (step e) ws b r ws'
@@ -30,8 +29,8 @@ step_of {e} {f} {ws} {ws'} {b} {r} q h = subst (λ (x : Edit). Changes (step x) 
 
 -- what is asked for comes to
 abbrev comes : ℕ → Bits → Asked → Outcome
-comes c b (Asked.Refused e) = refused e
-comes c b (For e) = step e c b
+comes c b (Err e) = refused e
+comes c b (Ok e) = step e c b
 
 module _ (edition kind : ℕ) (payload : List ℕ) (c : ℕ) (b : Bits) where
   step_comes : (o : Outcome) → outcome_of (turn_of o) ≡ o
@@ -50,12 +49,12 @@ module _ (edition kind : ℕ) (payload : List ℕ) (c : ℕ) (b : Bits) where
 -- ---- a duty record
 
 module _ (edition kind : ℕ) (payload ws : List ℕ) (b : Bitmap) where
-  pub duty_refused : (e : Refusal) → Asked.Refused e ≡ asked_for edition kind payload
-      → Leaves (turned edition (duty_item kind payload) (space_of ws) (held ws b)) ws b (Change.Refused e b) ws
+  pub duty_refused : (e : Refusal) → Err e ≡ asked_for edition kind payload
+      → Leaves (turned edition (duty_item kind payload) (space_of ws) (held ws b)) ws b (refusing b e) ws
   duty_refused e q = leaves_refused (duty_comes edition kind payload (space_of ws) (held ws b) ∙ ap (comes (space_of ws) (held ws b)) (sym q))
 
   -- what its step does
-  pub duty_does : (e : Edit) → For e ≡ asked_for edition kind payload → Padded ws b → (r : Change) (ws' : List ℕ) → Changes (step e) ws b r ws'
+  pub duty_does : (e : Edit) → Ok e ≡ asked_for edition kind payload → Padded ws b → (r : Change) (ws' : List ℕ) → Changes (step e) ws b r ws'
       → Leaves (turned edition (duty_item kind payload) (space_of ws) (held ws b)) ws b r ws'
   duty_does e q p r ws' h = subst (λ (o : Outcome). Leaves o ws b r ws') (sym asked-step) h
     where
@@ -68,9 +67,9 @@ module _ (edition kind : ℕ) (payload ws : List ℕ) (b : Bitmap) where
 
 module _ (edition : ℕ) (sheet : List ℕ) (at first : ℕ) (e : first ≡ get_or sheet at 0) where
   pub remark : (ws : List ℕ) (b : Bitmap) → Fit ws → first < 128
-      → Leaves (turned edition (item_at sheet at) (space_of ws) (held ws b)) ws b (Done b) ws
+      → Leaves (turned edition (item_at sheet at) (space_of ws) (held ws b)) ws b (Ok b) ws
   unfolding turned answer store view
-  remark ws b f l = subst (λ (o : Outcome). Leaves o ws b (Done b) ws) (sym same) (record { answers = refl; leaves = written-view ws b.count f })
+  remark ws b f l = subst (λ (o : Outcome). Leaves o ws b (Ok b) ws) (sym same) (record { answers = refl; leaves = written-view ws b.count f })
     where
       asks : Turn Edit
       asks = asking (size_in edition) rule_of (item_at sheet at).kind (item_at sheet at).payload

@@ -6,7 +6,7 @@ use Rattle.storage.specs.declared.Bitmap.{Bitmap}
 use Rattle.editions.specs.Frames.{Item}
 use Rattle.editions.specs.Reader.{Turn, stop, next, Answer, act}
 use Rattle.sheet.specs.Reads.{edition_of, went, read_answer}
-use Rattle.sheet.specs.declared.Reading.{Reading}
+use Rattle.sheet.specs.Reads.{Reading}
 
 -- a store and its record that pass 1 and 2, every word past the count zero
 pub record Padded (ws : List ℕ) (b : Bitmap) : Type 0 where

@@ -9,12 +9,11 @@ ghost use Rattle.editions.specs.Reader.{records, read};
 ghost use Rattle.sheet.specs.Reads.{step, edition_of, fitting, Reads};
 ghost use Rattle.reader.specs.Kernels.{Padded, duty_item, turned, Came};
 
-use decode::Asked;
-use sheet::{Edit, LATEST, Reading};
-use storage::{Bitmap, Change, EMPTY, Guard, Refusal};
+use sheet::{Edit, LATEST, ReadError};
+use storage::{Bitmap, EMPTY, Refusal, Refused};
 
 // What an edit does to a bitmap.
-fn apply(words: &mut [u64], b: Bitmap, e: Edit) -> Change
+fn apply(words: &mut [u64], b: Bitmap, e: Edit) -> Result<Bitmap, Refused>
     ensures { Changes (step e) words.old b result words.new }
 {
     match e {
@@ -43,57 +42,71 @@ fn apply(words: &mut [u64], b: Bitmap, e: Edit) -> Change
 }
 
 // A duty record: 13, 12, or what its step is refused with.
-fn perform(edition: usize, kind: usize, payload: &[u8], words: &mut [u64], b: Bitmap) -> Change
+fn perform(
+    edition: usize,
+    kind: usize,
+    payload: &[u8],
+    words: &mut [u64],
+    b: Bitmap,
+) -> Result<Bitmap, Refused>
     requires { Padded words.old b }
     ensures { Leaves (turned edition (duty_item kind payload.now) (space_of words.old)
         (held words.old b)) words.old b result words.new }
 {
     match decode::edit_of(edition, kind, payload) {
-        Asked::Refused(why) => Change::Refused(why, b),
-        Asked::For(e) => apply(words, b, e),
+        Err(why) => Err(Refused(why, b)),
+        Ok(e) => apply(words, b, e),
     }
 }
 
 // The record at a place, its frame whole: a remark does nothing.
-fn turn(edition: usize, sheet: &[u8], at: usize, end: usize, words: &mut [u64], b: Bitmap) -> Change
+fn turn(
+    edition: usize,
+    sheet: &[u8],
+    at: usize,
+    end: usize,
+    words: &mut [u64],
+    b: Bitmap,
+) -> Result<Bitmap, Refused>
     requires { (end ≡ end_at sheet.now at) × (end ≤ length sheet.now) × Padded words.old b }
     ensures { Leaves (turned edition (item_at sheet.now at) (space_of words.old)
         (held words.old b)) words.old b result words.new }
 {
     let first = sheet[at] as usize;
     if first < 128 {
-        return Change::Done(b);
+        return Ok(b);
     }
     perform(edition, first % 128, &sheet[at + 3..end], words, b)
 }
 
 // The n records from the fifth byte on. Where one is refused the store is left as it is then.
-fn each_record(edition: usize, sheet: &[u8], n: usize, words: &mut [u64], old: usize) -> Reading
+fn each_record(
+    edition: usize,
+    sheet: &[u8],
+    n: usize,
+    words: &mut [u64],
+    old: usize,
+) -> Result<(usize, Bitmap), ReadError>
     requires { (4 ≤ length sheet.now) × Padded words.old (bitmap_of old) }
     ensures { Came (records (edition_of (space_of words.old) edition) sheet.now n 0 4
         (view words.old old)) words.old result words.new }
 {
     let mut count = old;
-    let mut i: usize = 0;
-    let mut at: usize = 4;
-    while i < n {
-        let end = frames::record_end(sheet, at);
-        if end == 0 {
-            return Reading::Refused(Refusal::CutRecord, i + 1);
-        }
+    let mut at = 4;
+    for i in 0..n {
+        let Some(end) = frames::record_end(sheet, at) else {
+            return Err(ReadError(Refusal::CutRecord, i + 1));
+        };
         match turn(edition, sheet, at, end, words, Bitmap { count, ..EMPTY }) {
-            Change::Refused(why, _) => return Reading::Refused(why, i + 1),
-            Change::Done(after) => {
-                count = after.count;
-            }
+            Err(Refused(why, _)) => return Err(ReadError(why, i + 1)),
+            Ok(after) => count = after.count,
         }
         at = end;
-        i += 1;
     }
     if at < sheet.len() {
-        return Reading::Refused(Refusal::BytesRemain, i);
+        return Err(ReadError(Refusal::BytesRemain, n));
     }
-    Reading::Done(i, Bitmap { count, ..EMPTY })
+    Ok((n, Bitmap { count, ..EMPTY }))
 }
 
 // The old words, and zeros past them.
@@ -101,27 +114,29 @@ fn load(res: &mut [u64], words: &[u64], n: usize)
     requires { (n ≤ length res.old) × (n ≤ length words.now) }
     ensures { res.new ≡ written res.old (length res.old) (view words.now n) }
 {
-    let mut k = 0;
-    while k < n {
-        res[k] = words[k];
-        k += 1;
-    }
+    res[..n].copy_from_slice(&words[..n]);
     let end = res.len();
     storage::zero_words(res, n, end);
 }
 
 // 9, then 6 where the old bitmap has no space, then the records. A refusal leaves the store as it is then.
-fn read_into(edition: usize, sheet: &[u8], words: &[u64], b: Bitmap, res: &mut [u64]) -> Reading
+fn read_into(
+    edition: usize,
+    sheet: &[u8],
+    words: &[u64],
+    b: Bitmap,
+    res: &mut [u64],
+) -> Result<(usize, Bitmap), ReadError>
     requires { Passed words.now b × Passed res.old no_words }
     ensures { Came (read (edition_of (space_of res.old) edition) sheet.now
         (fitting (space_of res.old) (held words.now b))) res.old result res.new }
 {
     let n = b.count;
     if !frames::has_head(sheet) {
-        return Reading::Refused(Refusal::NotSheet, 0);
+        return Err(ReadError(Refusal::NotSheet, 0));
     }
     if n > res.len() {
-        return Reading::Refused(Refusal::NoSpace, 0);
+        return Err(ReadError(Refusal::NoSpace, 0));
     }
     load(res, words, n);
     let count = frames::record_count(sheet);
@@ -130,25 +145,29 @@ fn read_into(edition: usize, sheet: &[u8], words: &[u64], b: Bitmap, res: &mut [
 
 // Reads a sheet in an edition: the old bitmap, changed by each duty record in order, into the result store, with zeros past its words.
 // 14, then 1 and 2 for the old store and 1 for the result store, touch nothing; any later refusal leaves the result store all zero.
-pub fn read(edition: usize, sheet: &[u8], words: &[u64], b: Bitmap, res: &mut [u64]) -> Reading
+pub fn read(
+    edition: usize,
+    sheet: &[u8],
+    words: &[u64],
+    b: Bitmap,
+    res: &mut [u64],
+) -> Result<(usize, Bitmap), ReadError>
     ensures { Reads edition sheet.now words.now b res.old result res.new }
 {
     if edition < 1 {
-        return Reading::Refused(Refusal::NoEdition, 0);
+        return Err(ReadError(Refusal::NoEdition, 0));
     }
     if edition > LATEST {
-        return Reading::Refused(Refusal::NoEdition, 0);
+        return Err(ReadError(Refusal::NoEdition, 0));
     }
-    match storage::check_two(words, b, res, EMPTY) {
-        Guard::Stop(e) => return Reading::Refused(e, 0),
-        Guard::Pass => {}
+    if let Err(Refused(why, _)) = storage::check_two(words, b, res, EMPTY) {
+        return Err(ReadError(why, 0));
     }
-    let end = res.len();
     match read_into(edition, sheet, words, b, res) {
-        Reading::Done(n, after) => Reading::Done(n, after),
-        Reading::Refused(why, k) => {
-            storage::zero_words(res, 0, end);
-            Reading::Refused(why, k)
+        Ok(read) => Ok(read),
+        Err(e) => {
+            res.fill(0);
+            Err(e)
         }
     }
 }

@@ -1,16 +1,18 @@
 -- Lines of a register put into a buffer, piece by piece, and how long they are.
-use mathlib.Core.Path.{◌≡◌, ap, ◌∙◌, subst}
+use mathlib.Core.Path.{◌≡◌, sym, ap, ◌∙◌}
 use mathlib.Core.List.{List, [], ◌∷◌, ◌++◌}
 use Prim.Native.Nat.{ℕ, ◌+◌, ◌-◌, ◌≤◌, ◌<◌}
 use native.Mathlib.Omega.{arith}
-use lib.ListN.{length, set, replicate, length-append, length-replicate, replicate-append-replicate}
+use lib.ListN.{length, set, take, drop, replicate, length-drop, length-append, length-replicate}
 use Rattle.text.specs.Lists.{space}
 use Rattle.print.specs.Texts.{decimal, PutsDecimal}
 use Rattle.print.specs.Kernels.{Puts}
 use Rattle.print.proofs.Decimals.{digits-most}
-use Rattle.print.proofs.Buffer.{puts_none, puts_one, puts_then, puts_long, puts_is, decimal_puts}
+use Rattle.print.proofs.Buffer.{put_is, puts_one, puts_then, puts_long, puts_is, decimal_puts}
 use Rattle.register.specs.Register.{line_end, column, ended, line}
 use Rattle.register.specs.Kernels.{Narrow}
+use lib.Seq.{length-take-le}
+use borrow.Rule.Slice.PartMut.{put_mid, Post-is}
 
 -- ---- lengths
 
@@ -41,40 +43,23 @@ length-line a b c ha hb hc =
 
 -- ---- blanks, up to place p
 
-pub record Blanking (at n : ℕ) (out : List ℕ) (p : ℕ) (out' : List ℕ) : Type 0 where
-  pub low : at ≤ p
-  pub high : p ≤ at + n
-  put : Puts at (replicate (p - at) space) p out out'
-
-module _ (at n : ℕ) (out : List ℕ) (room : at + n ≤ length out) where
-  pub blanking_start : Blanking at n out at out
-  blanking_start =
-      let e : 0 ≡ at - at = omega arith in
-      record { low = omega arith; high = omega arith; put = puts_is at at (replicate 0 space) (replicate (at - at) space) out out (ap (λ (k : ℕ). replicate k space) e) (puts_none at out) }
-
-  module _ (p : ℕ) (out' : List ℕ) (g : Blanking at n out p out') where
-    pub blanking_long : length out' ≡ length out
-    blanking_long = puts_long at p (replicate (p - at) space) out out' (omega (arith, g.high, g.low, length-replicate (p - at) space)) g.put
-
-    pub blanking_more : p < at + n → Blanking at n out (p + 1) (set out' p space)
-    blanking_more h =
-        let e : p - at + 1 ≡ p + 1 - at = omega (arith, g.low) in
-        record {
-          low = omega (arith, g.low);
-          high = omega arith;
-          put =
-              puts_is at (p + 1) (replicate (p - at) space ++ space ∷ []) (replicate (p + 1 - at) space) out (set out' p space)
-              (replicate-append-replicate (p - at) 1 space ∙ ap (λ (k : ℕ). replicate k space) e)
-              (puts_then at p (p + 1) (replicate (p - at) space) (space ∷ []) out out' (set out' p space)
-              (omega (arith, g.low, length-replicate (p - at) space)) g.put (puts_one p space out' (omega (arith, blanking_long))));
-        }
-
-    pub blanking_end : at + n ≤ p → Puts at (replicate n space) (at + n) out out'
-    blanking_end h =
-        let e : p - at ≡ n = omega (arith, g.high) in
-        let k : p ≡ at + n = omega (arith, g.high) in
-        puts_is at (at + n) (replicate (p - at) space) (replicate n space) out out' (ap (λ (k : ℕ). replicate k space) e)
-        (subst (λ (r : ℕ). Puts at (replicate (p - at) space) r out out') k g.put)
+-- a part of the buffer that is filled with blanks
+pub blanks_put : (at n : ℕ) (out : List ℕ) → at + n ≤ length out → (part : List ℕ) → part ≡ replicate (length (take (at + n - at) (drop at out))) space
+    → Puts at (replicate n space) (at + n) out (put_mid at (at + n - at) out part)
+blanks_put at n out h part e =
+    let k : length (take (at + n - at) (drop at out)) ≡ n = length-take-le (at + n - at) (drop at out) (omega (arith, length-drop at out)) ∙ omega arith in
+    let l : length blanks ≡ n = length-replicate {A = ℕ} n space in
+    record {
+      next = omega (arith, l);
+      leaves =
+          ap (put_mid at (at + n - at) out) (e ∙ ap (λ (k : ℕ). replicate k space) k)
+          ∙ ap (λ (x : List ℕ). take at out ++ (blanks ++ x)) (Post-is at (at + n) out (omega arith))
+          ∙ ap (λ (k : ℕ). take at out ++ (blanks ++ drop k out)) (let q : at + n ≡ at + length blanks = omega (arith, l) in q)
+          ∙ sym (put_is at blanks out (omega arith));
+    }
+  where
+    blanks : List ℕ
+    blanks = replicate n space
 
 -- ---- a column, a line's end, a line
 

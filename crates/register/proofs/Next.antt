@@ -1,15 +1,12 @@
 -- What the calls that a register is made of answer of a store that passes.
-use mathlib.Core.Path.{◌≡◌, sym, ◌∙◌}
+use mathlib.Core.Path.{ap, ◌≡◌, ◌∙◌}
 use mathlib.Core.List.{List}
 use Prim.Native.Nat.{ℕ, ◌+◌, ◌*◌, ◌≤◌}
 use native.Mathlib.Omega.{arith}
 use lib.ListN.{length}
-use Rattle.word.proofs.Cases.{zero_one}
 use Rattle.storage.specs.Stores.{view, held, reading, size}
 use Rattle.storage.specs.Guards.{most_words, Passed}
 use Rattle.storage.specs.declared.Bitmap.{Bitmap}
-use Rattle.storage.specs.declared.Refusal.{Refusal}
-use Rattle.storage.specs.declared.Amount.{Amount}
 use Rattle.storage.proofs.Checks.{reading_ok}
 use Rattle.storage.proofs.Views.{bounded_view}
 use Rattle.print.specs.Texts.{runs, AnswersRun}
@@ -17,6 +14,9 @@ use Rattle.print.specs.declared.Run.{Run}
 use Rattle.print.proofs.Runs.{next-answer}
 use Rattle.register.specs.Kernels.{Ahead}
 use Rattle.register.proofs.Ahead.{ahead_start, ahead_more, ahead_within, runs-most}
+use Rattle.storage.specs.Refusals.{Amount}
+use Rattle.std.specs.Result.{result_unwrap_or}
+use Rattle.std.specs.Prelude.{Ok, Err}
 
 pub small : {ws : List ℕ} {b : Bitmap} → Passed ws b → (held ws b).count ≤ most_words
 unfolding view
@@ -44,12 +44,9 @@ module _ (ws : List ℕ) (b : Bitmap) (p : Passed ws b) where
     pub next_from : (r : Run) → AnswersRun ws b run.end r → run.end ≤ r.low
     next_from r e = (next-answer ws b run.end p within r e).from
 
-  module _ (a : Amount) (e : a ≡ reading ws b Amount.Refused (λ s. Amount.Is (size s))) where
-    is : a ≡ Amount.Is (size (held ws b))
-    is = e ∙ reading_ok ws b Amount.Refused (λ s. Amount.Is (size s)) p
+  module _ (a : Amount) (e : a ≡ reading ws b Err (λ s. Ok (size s))) where
+    is : a ≡ Ok (size (held ws b))
+    is = e ∙ reading_ok ws b Err (λ s. Ok (size s)) p
 
-    pub counted_is : (v : ℕ) → a ≡ Amount.Is v → v ≡ size (held ws b)
-    counted_is v q = let z : Amount.Is v ≡ Amount.Is (size (held ws b)) = sym q ∙ is in cc
-
-    pub counted_never : (d : Refusal) → a ≡ Amount.Refused d → ⊥
-    counted_never d q = let z : Amount.Refused d ≡ Amount.Is (size (held ws b)) = sym q ∙ is in zero_one cc
+    pub counted_is : (n : ℕ) → n ≡ result_unwrap_or a 0 → n ≡ size (held ws b)
+    counted_is n q = q ∙ ap (λ (r : Amount). result_unwrap_or r 0) is

@@ -7,11 +7,8 @@ use lib.ListN.{length}
 use Rattle.storage.specs.Stores.{Bits, Bounded, checked, held, reading}
 use Rattle.storage.specs.Guards.{most_words, Passed}
 use Rattle.storage.specs.declared.Bitmap.{Bitmap}
-use Rattle.storage.specs.declared.Refusal.{Refusal}
 use Rattle.storage.specs.declared.Refusal.TheVariants.{NoSpace}
-use Rattle.storage.specs.declared.Guard.TheVariants.{Pass, Stop}
-use Rattle.storage.specs.declared.Amount.{Amount}
-use Rattle.storage.proofs.Checks.{reading_ok, reading_stopped}
+use Rattle.storage.proofs.Checks.{reading_ok, reading_stopped, reading_raised}
 use Rattle.storage.proofs.Views.{bounded_view}
 use Rattle.print.specs.Texts.{fitted, replaced}
 use Rattle.print.specs.Kernels.{put_at}
@@ -23,6 +20,10 @@ use Rattle.register.specs.Kernels.{Narrow, Ahead, NextLine, row_for, Ready}
 use Rattle.register.proofs.Ahead.{ahead_within}
 use Rattle.register.proofs.Next.{small}
 use Rattle.register.proofs.Rows.{size_narrow, pages_narrow, length-line_of, length-lines, foot-line, row_line, row_ahead}
+use Rattle.storage.specs.Refusals.{Amount, passing, refusing}
+use Rattle.storage.specs.declared.Refused.{Refused}
+use Rattle.std.specs.Prelude.{IsErr, IsErrAnd}
+use Rattle.std.specs.Prelude.{Ok, Err}
 
 -- ---- one line
 
@@ -99,9 +100,9 @@ module _ (b : Bits) (bound : Bounded b) (small : b.count ≤ most_words) (pages 
 -- ---- the call
 
 module _ (ws : List ℕ) (b : Bitmap) (out : List ℕ) where
-  pub registers_stopped : (e : Refusal) → Stop e ≡ checked ws b Stop Pass → Registers ws b out (Amount.Refused e) out
-  registers_stopped e q = record {
-    answers = sym (reading_stopped ws b e Amount.Refused (register_answer out) q);
+  pub registers_raised : {r : Amount} {e : Refused} → IsErr r × IsErrAnd r (λ x. x ≡ e.0) → Err e ≡ checked ws b (refusing b) passing → Registers ws b out r out
+  registers_raised {r} {e} h q = record {
+    answers = reading_raised ws b (register_answer out) h q;
     leaves = sym (reading_stopped ws b e (λ d. out) (register_buffer out) q);
   }
 
@@ -109,16 +110,16 @@ module _ (ws : List ℕ) (b : Bitmap) (out : List ℕ) where
     abbrev t : List ℕ
     t = register_of (held ws b)
 
-    asked : (reading ws b Amount.Refused (register_answer out) ≡ fitted t out) × (reading ws b (λ d. out) (register_buffer out) ≡ replaced t out)
-    asked = (reading_ok ws b Amount.Refused (register_answer out) p, reading_ok ws b (λ d. out) (register_buffer out) p)
+    asked : (reading ws b Err (register_answer out) ≡ fitted t out) × (reading ws b (λ d. out) (register_buffer out) ≡ replaced t out)
+    asked = (reading_ok ws b Err (register_answer out) p, reading_ok ws b (λ d. out) (register_buffer out) p)
 
     long : length t ≡ 3650 * pages
     long = length-lines (held ws b) (bounded_view ws b.count) (small p) (50 * pages_of (held ws b)) (omega arith) ∙ omega (arith, e)
 
-    pub registers_short : length out < 3650 * pages → Registers ws b out (Amount.Refused NoSpace) out
+    pub registers_short : length out < 3650 * pages → Registers ws b out (Err NoSpace) out
     registers_short h = let f = lacks t out (omega (arith, long)) in record { answers = sym (asked.0 ∙ f.0); leaves = sym (asked.1 ∙ f.1) }
 
-    pub registers_done : (out' : List ℕ) → 3650 * pages ≤ length out → out' ≡ put_at 0 t out → Registers ws b out (Amount.Is (3650 * pages)) out'
+    pub registers_done : (out' : List ℕ) → 3650 * pages ≤ length out → out' ≡ put_at 0 t out → Registers ws b out (Ok (3650 * pages)) out'
     registers_done out' h x =
         let f = fitting t out (omega (arith, long)) in
-        record { answers = ap Amount.Is (sym long) ∙ sym (asked.0 ∙ f.0); leaves = x ∙ sym (asked.1 ∙ f.1) }
+        record { answers = ap Ok (sym long) ∙ sym (asked.0 ∙ f.0); leaves = x ∙ sym (asked.1 ∙ f.1) }

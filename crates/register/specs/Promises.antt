@@ -1,17 +1,17 @@
 -- What the printed register promises, in words of its own. Each is proved in proofs/Promises.
 use Rattle.std.specs.Prelude.{ℕ, ◌+◌, ◌*◌, ◌/◌, ◌≤◌, ◌<◌, ◌≡◌, List, ◌↔◌, length}
-use Rattle.storage.specs.Refusals.{amount_number, amount_value}
+use Rattle.storage.specs.Refusals.{answer_number, amount_value}
 use Rattle.storage.specs.Stores.{Bits, Bounded, held}
 use Rattle.storage.specs.Guards.{most_words}
 use Rattle.storage.specs.Promises.{Guarded}
 use Rattle.storage.specs.declared.Bitmap.{Bitmap}
-use Rattle.storage.specs.declared.Amount.{Amount}
 use Rattle.scans.specs.Promises.{AllCounted}
 use Rattle.text.specs.Lists.{Range}
 use Rattle.print.specs.Forms.{Runs}
 use Rattle.print.specs.Promises.{NotPrinted, PutOrShort}
 use Rattle.register.specs.Register.{register_of, Registers}
 use Rattle.register.specs.Pages.{Row, line_at, IsRegister, Entry, Taken, Say, Sums}
+use Rattle.storage.specs.Refusals.{Amount}
 
 -- of every bitmap that a store may hold: the register is of the form that 02 has, and no other text is
 abbrev pub OneRegister : Type 0
@@ -39,4 +39,4 @@ PrintsRegister ws b out x v out' = Guarded ws b (NotPrinted out x v out') (PutOr
 abbrev pub WriteRegisterMeans : Type 0
 WriteRegisterMeans =
     (ws : List ℕ) (b : Bitmap) (out : List ℕ) (r : Amount) (out' : List ℕ) → Registers ws b out r out'
-    → PrintsRegister ws b out (amount_number r) (amount_value r) out'
+    → PrintsRegister ws b out (answer_number r) (amount_value r) out'

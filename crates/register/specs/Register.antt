@@ -1,11 +1,11 @@
 -- `write_register`: a bitmap as pages of 50 lines, a maximal run on a line, upward, and a foot on the last (02, T-03).
-use Rattle.std.specs.Prelude.{ℕ, zero, suc, ◌+◌, ◌-◌, ◌*◌, ◌/◌, ◌%◌, max, ◌≡◌, List, [], ◌∷◌, ◌++◌, eqb, length, drop, replicate}
+use Rattle.std.specs.Prelude.{ℕ, zero, suc, ◌+◌, ◌-◌, ◌*◌, ◌/◌, ◌%◌, max, ◌≡◌, List, [], ◌∷◌, ◌++◌, eqb, length, drop, replicate, Err}
 use Rattle.word.specs.Sets.{choose}
 use Rattle.storage.specs.Stores.{Bits, reading, size}
 use Rattle.storage.specs.declared.Bitmap.{Bitmap}
-use Rattle.storage.specs.declared.Amount.{Amount}
 use Rattle.text.specs.Lists.{space, Range}
 use Rattle.print.specs.Texts.{runs, decimal, size_of, fitted, replaced}
+use Rattle.storage.specs.Refusals.{Amount}
 
 -- the byte at a line's end
 abbrev pub line_end : ℕ
@@ -65,5 +65,5 @@ register_buffer out s = replaced (register_of s) out
 
 -- a call on the bitmap b in ws answers r, and makes out' of the buffer out: 1, then 2, then 6
 pub record Registers (ws : List ℕ) (b : Bitmap) (out : List ℕ) (r : Amount) (out' : List ℕ) : Type 0 where
-  pub answers : r ≡ reading ws b Amount.Refused (register_answer out)
+  pub answers : r ≡ reading ws b Err (register_answer out)
   pub leaves : out' ≡ reading ws b (λ e. out) (register_buffer out)

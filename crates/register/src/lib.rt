@@ -12,7 +12,7 @@ ghost use Rattle.register.specs.Register.{column, ended, line, pages_for, line_o
 ghost use Rattle.register.specs.Kernels.{Narrow, row_for, NextLine, Ready};
 
 use print::Run;
-use storage::{Amount, Bitmap, Guard, Refusal};
+use storage::{Bitmap, Refusal};
 
 const SPACE: u8 = 32;
 
@@ -38,11 +38,7 @@ fn put_blanks(out: &mut [u8], at: usize, n: usize) -> usize
     ensures { Puts at (replicate n space) result out.old out.new }
 {
     let end = at + n;
-    let mut p = at;
-    while p < end {
-        out[p] = SPACE;
-        p += 1;
-    }
+    out[at..end].fill(SPACE);
     end
 }
 
@@ -116,14 +112,12 @@ fn put_lines(words: &[u64], b: Bitmap, out: &mut [u8], pages: usize, count: usiz
 {
     let lines = LINES * pages;
     let mut run = print::run_from(words, b, 0);
-    let mut k = 0;
-    while k < lines {
+    for k in 0..lines {
         run = put_next(words, b, out, k, run, pages, count);
-        k += 1;
     }
 }
 
-// How many runs there are.
+// How many runs there are. From run to run: `run_from` answers an empty one after the last, as `run_from_means` says.
 fn count_runs(words: &[u64], b: Bitmap) -> usize
     requires { Passed words.now b }
     ensures { result ≡ length (runs (held words.now b)) }
@@ -153,27 +147,20 @@ fn count_bits(words: &[u64], b: Bitmap) -> usize
     requires { Passed words.now b }
     ensures { result ≡ size (held words.now b) }
 {
-    let n = scans::count_set_bits(words, b);
-    match n {
-        Amount::Is(v) => v,
-        Amount::Refused(_) => 0,
-    }
+    scans::count_set_bits(words, b).unwrap_or(0)
 }
 
 // Prints the bitmap as a register; the text's length, 3,650 bytes a page. 6 if the buffer is shorter, before a byte is written; bytes past the text are
 // untouched. {7} is a line of 7, 7 and 1, 48 blank lines, and a line of 1, 1 and 1.
-pub fn write_register(words: &[u64], b: Bitmap, out: &mut [u8]) -> Amount
+pub fn write_register(words: &[u64], b: Bitmap, out: &mut [u8]) -> Result<usize, Refusal>
     ensures { Registers words.now b out.old result out.new }
 {
-    match storage::check(words, b) {
-        Guard::Stop(e) => return Amount::Refused(e),
-        Guard::Pass => {}
-    }
+    storage::check(words, b)?;
     let pages = page_count(count_runs(words, b));
     let len = LINE * LINES * pages;
     if len > out.len() {
-        return Amount::Refused(Refusal::NoSpace);
+        return Err(Refusal::NoSpace);
     }
     put_lines(words, b, out, pages, count_bits(words, b));
-    Amount::Is(len)
+    Ok(len)
 }

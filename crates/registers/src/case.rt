@@ -1,120 +1,108 @@
 // One case: a call on memory that is filled as the line says, and what it answers and leaves compared with the line and the text behind it.
-ghost use Rattle.std.specs.Prelude.{◌≤◌};
+ghost use Rattle.std.specs.Prelude.{◌≤◌, length, IfSome};
 
+use std::{array, fmt};
 use storage::{Bitmap, EMPTY};
 use told::Told;
-
-// The numbers of a line: capacity and count of the store; what is right, number and length; the size of the buffer, and the words of the store.
-const CAPACITY: usize = 0;
-
-const COUNT: usize = 1;
-
-pub const NUMBER: usize = 2;
-
-const LENGTH: usize = 3;
-
-const SIZE: usize = 4;
-
-const WORDS: usize = 5;
 
 // The most words of a store, and the bytes of a buffer: ten pages have room.
 const STORE: usize = 1_600;
 
 const BUFFER: usize = 40_000;
 
+// The largest number of an answer.
+const NUMBERS: u64 = 16;
+
 // The bytes of a register's line.
-const LINE: u64 = 73;
+const LINE: usize = 73;
 
-// What a case shows.
-pub const AGREES: u64 = 0;
-
-pub const OTHER_ANSWER: u64 = 1;
-
-pub const OTHER_MEMORY: u64 = 2;
-
-// A number, or the most that it may be.
-fn at_most(x: u64, most: usize) -> usize
-    ensures { result ≤ most }
-{
-    let n = x as usize;
-    if n < most { n } else { most }
+// How a case differs from its line.
+#[derive(Clone, Copy)]
+pub enum Mismatch {
+    Answer,
+    Memory,
 }
 
-// Whether the line is a case that has room here, with exactly `count` numbers and its text in the `rest` of the list.
-pub(crate) fn sound(line: &[u64; 1605], count: usize, rest: usize) -> bool {
-    line[CAPACITY] <= STORE as u64
-        && line[NUMBER] <= 16
-        && line[LENGTH] <= BUFFER as u64
-        && line[LENGTH] <= rest as u64
-        && line[SIZE] <= BUFFER as u64
-        && count == WORDS + at_most(line[CAPACITY], STORE)
+impl fmt::Display for Mismatch {
+    fn fmt<W: fmt::Write>(&self, f: &mut fmt::Formatter<W>) -> fmt::Result {
+        f.write_str(match self {
+            Mismatch::Answer => "something else is answered",
+            Mismatch::Memory => "something else is left in memory",
+        })
+    }
 }
 
-// The length of the text behind the line.
-pub(crate) fn length(line: &[u64; 1605], rest: usize) -> usize
-    ensures { result ≤ rest }
-{
-    at_most(line[LENGTH], rest)
-}
-
-// How many lines of the list that text is.
-pub(crate) fn lines(line: &[u64; 1605]) -> u64 {
-    line[LENGTH] / LINE
-}
-
-// What byte k of the buffer is before the call; no register has such a byte.
+// What stands in byte k of a buffer before the call; no register has such a byte.
 fn unwritten(k: usize) -> u8 {
     (128 + k % 128) as u8
 }
 
-fn buffer() -> [u8; 40000] {
-    let mut out = [0u8; 40000];
-    for k in 0..BUFFER {
-        out[k] = unwritten(k);
-    }
-    out
+// All words of a store and their count, the number that is right, the register, empty where it is refused, and the size of the buffer.
+#[derive(Clone, Copy)]
+pub struct Case<'a> {
+    words: &'a [u64],
+    count: usize,
+    pub number: u64,
+    text: &'a [u8],
+    size: usize,
+    ghost has_room: { size ≤ 40000 },
 }
 
-// Byte k of a buffer that begins with a text.
-fn byte_of(text: &[u8], k: usize) -> u8 {
-    if k < text.len() {
-        return text[k];
+impl<'a> Case<'a> {
+    // The case that has exactly these numbers and its text first in the list, if there is one with room here; and the rest of the list.
+    pub fn split<'l: 'a>(numbers: &'a [u64], list: &'l [u8]) -> Option<(Case<'a>, &'l [u8])>
+        ensures { IfSome result (λ p. length p.1.now ≤ length list.now) }
+    {
+        let (&[capacity, count, number, length, size], words) = numbers.split_first_chunk::<5>()?;
+        let (text, rest) = list.split_at_checked(length as usize)?;
+        let (count, size) = (count as usize, size as usize);
+        let fits = words.len() <= STORE && text.len() <= BUFFER && size <= BUFFER;
+        if words.len() as u64 != capacity || number > NUMBERS || !fits {
+            return None;
+        }
+        Some((
+            Case {
+                words,
+                count,
+                number,
+                text,
+                size,
+            },
+            rest,
+        ))
     }
-    unwritten(k)
-}
 
-// Whether the buffer has the text, and is unwritten behind it.
-fn left(text: &[u8], out: &[u8; 40000]) -> bool {
-    for k in 0..BUFFER {
-        if out[k] != byte_of(text, k) {
-            return false;
+    // How many lines of the list the text is.
+    pub fn lines(&self) -> u64 {
+        (self.text.len() / LINE) as u64
+    }
+
+    // A buffer with the text, and unwritten behind it.
+    fn written(&self) -> [u8; BUFFER] {
+        array::from_fn(|k| match self.text.get(k) {
+            Some(byte) => *byte,
+            None => unwritten(k),
+        })
+    }
+
+    fn answered(&self, got: Told) -> bool {
+        u64::from(got.number) == self.number && got.value == self.text.len() as u64
+    }
+
+    // Prints the register of the set into the first bytes of a buffer, and compares the answer and the buffer.
+    pub fn replay(&self) -> Result<(), Mismatch> {
+        let mut out: [u8; BUFFER] = array::from_fn(unwritten);
+        let record = Bitmap {
+            count: self.count,
+            ..EMPTY
+        };
+        let got = register::write_register(self.words, record, &mut out[..self.size]);
+        if !self.answered(told::amount(got)) {
+            Err(Mismatch::Answer)
+        } else if out != self.written() {
+            Err(Mismatch::Memory)
+        } else {
+            Ok(())
         }
     }
-    true
-}
-
-// What an answer and the memory show.
-fn shown(line: &[u64; 1605], got: Told, memory: bool) -> u64 {
-    if got.number as u64 != line[NUMBER] || got.value != line[LENGTH] {
-        return OTHER_ANSWER;
-    }
-    if memory { AGREES } else { OTHER_MEMORY }
-}
-
-// The register of the line's set, printed into the first bytes of a buffer.
-fn printed(line: &[u64; 1605], out: &mut [u8]) -> Told {
-    let numbers = &line[..];
-    let end = WORDS + at_most(line[CAPACITY], STORE);
-    let b = Bitmap {
-        count: line[COUNT] as usize,
-        ..EMPTY
-    };
-    told::amount(register::write_register(&numbers[WORDS..end], b, out))
-}
-
-pub(crate) fn replay(line: &[u64; 1605], text: &[u8]) -> u64 {
-    let mut out = buffer();
-    let size = at_most(line[SIZE], BUFFER);
-    let got = printed(line, &mut out[0..size]);
-    shown(line, got, left(text, &out))
 }

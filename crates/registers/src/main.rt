@@ -2,103 +2,92 @@
 // was met by number, and a line for each mismatch.
 #![tactic(auto)]
 
+ghost use Rattle.std.specs.Prelude.{◌<◌, length};
+
 mod case;
-mod line;
+mod list;
 mod small;
 mod tally;
 
-use crate::line::{LOST, Line};
+use crate::case::Case;
+use crate::tally::{End, Row};
 use std::io;
 use std::io::Read;
+
+// The bytes that no list has.
+const MOST: usize = 1_048_576;
 
 // Stands for a capacity on the last line, which has its own number and no more.
 const LAST: u64 = 15;
 
-// Replays a case.
-fn one(
-    rt: &impl Print,
-    numbers: &[u64; 1605],
-    text: &[u8],
-    counts: &mut [u64; 21],
-) -> io::Result<()> {
-    let number = numbers[case::NUMBER];
-    let what = case::replay(numbers, text);
-    tally::case(counts, number);
-    if what != case::AGREES {
-        tally::mismatch(rt, counts, number, what == case::OTHER_ANSWER)?;
+// Replays the case of a line.
+fn one(rt: &impl Print, line: u64, case: Case<'_>, tally: &mut Row) -> io::Result<()> {
+    let number = case.number;
+    let shown = case.replay();
+    tally.add(number, shown.is_err());
+    if let Err(mismatch) = shown {
+        println!(rt; "line {line}: number {number} is right, and {mismatch}")?;
     }
     Ok(())
 }
 
-// How the list ended; no further line is read.
-fn ended(counts: &mut [u64; 21], how: u64) -> usize {
-    counts[tally::ENDED] = how;
-    LOST
+// The first line and what is behind it.
+fn split_line(list: &[u8]) -> (&[u8], &[u8])
+    ensures { 0 < length list.now → length result.1.now < length list.now }
+{
+    match list.iter().position(|byte| *byte == b'\n') {
+        Some(k) => list.split_at(k + 1),
+        None => (list, &[]),
+    }
 }
 
-// The place after a line and the text behind it; LOST where the list ends with it or it can't be read.
-fn taken(
-    rt: &impl Print,
-    s: &[u8],
-    l: Line,
-    numbers: &[u64; 1605],
-    counts: &mut [u64; 21],
-) -> io::Result<usize> {
-    let from = l.at;
-    if l.count == 2 && numbers[0] == LAST && numbers[1] == counts[tally::LINE] {
-        if from == s.len() {
-            return Ok(ended(counts, tally::WHOLE));
+// Every line and the text behind it, up to the last or one that can't be read: how many lines, and how the list ends.
+fn lines(rt: &(impl Print + AllocGlobal), list: &[u8], tally: &mut Row) -> io::Result<(u64, End)> {
+    let mut numbers = Vec::new(rt.alloc());
+    let mut last = 0u64;
+    let mut rest = list;
+    while !rest.is_empty() {
+        last = last.saturating_add(1);
+        let (line, behind) = split_line(rest);
+        let sound = list::read(line, &mut numbers)?;
+        if sound && numbers.as_slice() == [LAST, last].as_slice() {
+            let end = if behind.is_empty() {
+                End::Whole
+            } else {
+                End::More
+            };
+            return Ok((last, end));
         }
-        return Ok(ended(counts, tally::MORE));
-    }
-    if from > s.len() || !case::sound(numbers, l.count, s.len() - from) {
-        return Ok(ended(counts, tally::UNREAD));
-    }
-    let to = from + case::length(numbers, s.len() - from);
-    one(rt, numbers, &s[from..to], counts)?;
-    tally::add(counts, tally::LINE, case::lines(numbers));
-    Ok(to)
-}
-
-// Every line, up to the last or one that can't be read; each takes a byte or more.
-fn lines(rt: &impl Print, s: &[u8], counts: &mut [u64; 21]) -> io::Result<()> {
-    let mut numbers = [0u64; 1605];
-    let mut at: usize = 0;
-    for turn in 0..s.len() {
-        if at >= s.len() {
-            return Ok(());
+        if sound && let Some((case, behind)) = Case::split(&numbers, behind) {
+            one(rt, last, case, tally)?;
+            last = last.saturating_add(case.lines());
+            rest = behind;
+        } else {
+            return Ok((last, End::Unread));
         }
-        tally::add(counts, tally::LINE, 1);
-        let l = line::read(s, at, &mut numbers);
-        at = taken(rt, s, l, &numbers, counts)?;
     }
-    Ok(())
+    Ok((last, End::Cut))
 }
 
-// The list is the first n bytes; where it fills them all, some may be missing.
-fn replay(rt: &impl Print, s: &[u8], n: usize) -> io::Result<()> {
-    let mut counts = [0u64; 21];
-    if n >= s.len() {
-        return rt.write_all(b"the list is too long\n");
+// Nothing more where the list is whole.
+fn report(rt: &impl Print, last: u64, end: End) -> io::Result<()> {
+    match end {
+        End::Whole => Ok(()),
+        End::Cut => println!(rt; "the list is cut after line {last}"),
+        End::Unread => println!(rt; "line {last} can't be read"),
+        End::More => println!(rt; "the list goes on after its last line, {last}"),
     }
-    lines(rt, &s[0..n], &mut counts)?;
-    tally::report(rt, &counts)
-}
-
-// Reads until the input fills its place or ends: how many bytes there are then.
-fn load(rt: &impl Input, input: &mut [u8; 1048576]) -> io::Result<usize> {
-    let mut to = &mut input[..];
-    let n = io::copy(&mut rt.reader().take(1_048_576), &mut to)?;
-    Ok(n as usize)
-}
-
-fn run(rt: &impl Print, input: &[u8; 1048576], n: usize) -> io::Result<()> {
-    replay(rt, input, n)
 }
 
 fn main(rt: HostRuntime) -> io::Result<()> {
-    let mut input = [0u8; 1048576];
     small::print(&rt)?;
-    let n = load(&rt, &mut input)?;
-    run(&rt, &input, n)
+    let mut list = Vec::new(rt.alloc());
+    rt.reader().take(MOST as u64).read_to_end(&mut list)?;
+    if list.len() == MOST {
+        return println!(rt; "the list is too long");
+    }
+    let mut tally = Row::default();
+    let (last, end) = lines(&rt, &list, &mut tally)?;
+    println!(rt; "registers printed: {tally}")?;
+    report(&rt, last, end)
 }

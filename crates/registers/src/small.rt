@@ -8,13 +8,11 @@ const WORDS: [u64; 2] = [0x8000_0000_0000_0388, 0xffff_fff0_0000_0001];
 const PAGE: usize = 3_650;
 
 pub(crate) fn print(rt: &impl Print) -> io::Result<()> {
-    let words = WORDS;
-    let mut out = [0u8; 3650];
-    let b = Bitmap { count: 2, ..EMPTY };
-    let got = told::amount(register::write_register(&words, b, &mut out));
-    let n = got.value as usize;
-    if n <= PAGE {
-        rt.write_all(&out[0..n])?;
+    let mut out = [0u8; PAGE];
+    let record = Bitmap { count: 2, ..EMPTY };
+    let got = told::amount(register::write_register(&WORDS, record, &mut out));
+    match out.get(..got.value as usize) {
+        Some(page) => rt.write_all(page),
+        None => Ok(()),
     }
-    Ok(())
 }

@@ -1,139 +1,232 @@
-// One line: the call made on stores that are filled as the line says, and what it answers and leaves compared with the line.
-use crate::{call, store};
+// One case: the call made on stores that are filled as the line says, and what it answers and leaves compared with the line.
+use crate::call;
+use crate::store::{BYTES, Given, Pattern, Text, WORDS};
+use std::{array, fmt};
+use storage::Refusal;
 use style::PLAIN;
 use told::Told;
 
 // In place of a call: the list names the call whose cases stand above.
-pub const TITLE: u64 = 256;
+const TITLE: u64 = 256;
 
-// What a line shows.
-pub const AGREES: u64 = 0;
+const SPLIT_OFF: u64 = 0xf2;
 
-pub const OTHER_ANSWER: u64 = 1;
+// The tag of an answer where the call may have changed its store.
+const CHANGED: u64 = 2;
 
-pub const OTHER_WORDS: u64 = 2;
-
-pub const OTHER_OUTPUT: u64 = 3;
-
-pub const MALFORMED: u64 = 4;
-
-const SET_MANY: u64 = 0xf1;
-
-const WRITE_LIST: u64 = 0xf3;
-
-const FROM_LIST: u64 = 0xf4;
-
-const NOT_LIST: u32 = 7;
-
-const NUMBER_OVER: u32 = 16;
-
-// How many calls a kind has: the high digit of a call's number is its kind, by what it takes and answers.
-const CALLS: [u64; 16] = [8, 6, 5, 4, 6, 4, 4, 4, 7, 6, 5, 6, 5, 4, 4, 5];
-
-fn known(op: u64) -> bool {
-    if op < 256 {
-        let k = (op >> 4) as usize;
-        return op % 16 < CALLS[k];
-    }
-    op == TITLE
+// How a case differs from its line.
+#[derive(Clone, Copy)]
+pub enum Mismatch {
+    Answer,
+    Words,
+    Output,
+    Malformed,
 }
 
-// Whether the line has a known call, an odd seed, parts that have room here, and exactly `count` numbers.
-pub(crate) fn sound(line: &[u64; 1024], count: usize) -> bool {
-    known(store::at(line, 0))
-        && store::at(line, 1) % 2 == 1
-        && store::at(line, 9) <= 64
-        && store::at(line, 11) <= 64
-        && store::at(line, 13) <= 64
-        && store::at(line, 15) <= 64
-        && store::at(line, 16) <= 512
-        && count == store::start(line, store::ALL)
-}
-
-// Whether the answer is the line's.
-fn answered(line: &[u64; 1024], got: Told) -> bool {
-    got.number as u64 == store::at(line, 5)
-        && got.tag == store::at(line, 6)
-        && got.value == store::at(line, 7)
-        && got.also == store::at(line, 8)
-}
-
-// What the answer shows.
-fn shown(line: &[u64; 1024], got: Told) -> u64 {
-    if answered(line, got) {
-        AGREES
-    } else {
-        OTHER_ANSWER
+impl fmt::Display for Mismatch {
+    fn fmt<W: fmt::Write>(&self, f: &mut fmt::Formatter<W>) -> fmt::Result {
+        f.write_str(match self {
+            Mismatch::Answer => "answers otherwise",
+            Mismatch::Words => "leaves other words",
+            Mismatch::Output => "leaves another second output",
+            Mismatch::Malformed => "is malformed",
+        })
     }
 }
 
-// What the answer and the bytes show.
-fn shown_text(line: &[u64; 1024], got: Told, bytes: &[u8; 512]) -> u64 {
-    if !answered(line, got) {
-        return OTHER_ANSWER;
-    }
-    if store::left_bytes(line, store::length(line), bytes) {
-        AGREES
-    } else {
-        OTHER_OUTPUT
+// An answer in the numbers of the list.
+#[derive(Clone, Copy, PartialEq)]
+struct Answer {
+    number: u64,
+    tag: u64,
+    value: u64,
+    also: u64,
+}
+
+impl Answer {
+    // The first of the numbers, and the rest.
+    fn split(numbers: &[u64]) -> Option<(Answer, &[u64])> {
+        let (&[number, tag, value, also], rest) = numbers.split_first_chunk::<4>()?;
+        Some((
+            Answer {
+                number,
+                tag,
+                value,
+                also,
+            },
+            rest,
+        ))
     }
 }
 
-// Writes into x bytes, which are a pattern before.
-fn write_list(line: &[u64; 1024], words: &[u64]) -> u64 {
-    let mut bytes = store::bytes(line, 0);
-    let n = store::at_most(store::at(line, 2), 512);
-    let got = print::write_list(words, store::bitmap_at(line, 10), &mut bytes[0..n], PLAIN);
-    shown_text(line, told::amount(got), &bytes)
+impl From<Told> for Answer {
+    fn from(told: Told) -> Answer {
+        Answer {
+            number: u64::from(told.number),
+            tag: told.tag,
+            value: told.value,
+            also: told.also,
+        }
+    }
 }
 
-// The Rust has one parse error, for which the list has 7; here it is 7 or 16.
-fn one_error(got: Told) -> Told {
-    Told {
-        number: if got.number == NUMBER_OVER {
-            NOT_LIST
+// The arguments of a call.
+#[derive(Clone, Copy)]
+pub struct Arguments {
+    pub x: usize,
+    pub y: usize,
+    pub z: u64,
+}
+
+impl Arguments {
+    // The first of the numbers, and the rest.
+    fn split(numbers: &[u64]) -> Option<(Arguments, &[u64])> {
+        let (&[x, y, z], rest) = numbers.split_first_chunk::<3>()?;
+        let (x, y) = (x as usize, y as usize);
+        Some((Arguments { x, y, z }, rest))
+    }
+}
+
+fn agree<T: PartialEq>(got: &T, want: &T, otherwise: Mismatch) -> Result<(), Mismatch> {
+    if got == want { Ok(()) } else { Err(otherwise) }
+}
+
+// The call, its arguments and answer, the stores in the order of its arguments, and behind their words the result's and the list.
+#[derive(Clone, Copy)]
+pub struct Case<'a> {
+    pub call: u64,
+    pub arguments: Arguments,
+    pattern: Pattern,
+    answer: Answer,
+    pub first: Given<'a>,
+    pub second: Given<'a>,
+    pub third: Given<'a>,
+    result: &'a [u64],
+    list: &'a [u64],
+}
+
+impl<'a> Case<'a> {
+    // The case that has exactly these numbers, if there is one with room here.
+    pub fn of(numbers: &'a [u64]) -> Option<Case<'a>> {
+        let (&[call, seed], rest) = numbers.split_first_chunk::<2>()?;
+        let (arguments, rest) = Arguments::split(rest)?;
+        let (answer, rest) = Answer::split(rest)?;
+        let (&[c0, n0, c1, n1, c2, n2, words, bytes], rest) = rest.split_first_chunk::<8>()?;
+        if seed % 2 == 0 || words > WORDS as u64 || bytes > BYTES as u64 {
+            return None;
+        }
+        let (first, rest) = Given::split(Pattern { seed, store: 0 }, c0, n0, rest)?;
+        let (second, rest) = Given::split(Pattern { seed, store: 1 }, c1, n1, rest)?;
+        let (third, rest) = Given::split(Pattern { seed, store: 2 }, c2, n2, rest)?;
+        let (result, list) = rest.split_at_checked(words as usize)?;
+        if list.len() as u64 != bytes {
+            return None;
+        }
+        Some(Case {
+            call,
+            arguments,
+            pattern: Pattern { seed, store: 0 },
+            answer,
+            first,
+            second,
+            third,
+            result,
+            list,
+        })
+    }
+
+    // The name that a title has.
+    pub fn title(&self) -> Option<Text> {
+        if self.call == TITLE {
+            Some(Text::of(self.list, self.pattern))
+        } else {
+            None
+        }
+    }
+
+    // Makes the call, on as much of its stores as the line says.
+    pub fn replay(&self) -> Result<(), Mismatch> {
+        let mut first = self.first.filled();
+        let mut second = self.second.filled();
+        self.make(
+            &mut first[..self.first.capacity],
+            &mut second[..self.second.capacity],
+        )?;
+        agree(&first, &self.first_after(), Mismatch::Words)?;
+        agree(&second, &self.second_after(), Mismatch::Output)
+    }
+
+    // What the call is to leave in the first store: where it may have changed, the result's words, zeros up to the words that were in use, and the rest
+    // as it was.
+    fn first_after(&self) -> [u64; WORDS] {
+        if self.answer.tag != CHANGED {
+            return self.first.filled();
+        }
+        array::from_fn(|k| match self.result.get(k) {
+            Some(word) => *word,
+            None if k < self.first.words.len() => 0,
+            None => self.first.word(k),
+        })
+    }
+
+    // What it is to leave in the second: a tail that is split off, and the rest as it was.
+    fn second_after(&self) -> [u64; WORDS] {
+        if self.answer.tag != CHANGED || self.call != SPLIT_OFF {
+            return self.second.filled();
+        }
+        array::from_fn(|k| match self.list.get(k) {
+            Some(word) => *word,
+            None => self.second.word(k),
+        })
+    }
+
+    fn make(&self, words: &mut [u64], other: &mut [u64]) -> Result<(), Mismatch> {
+        let record = self.first.record();
+        let got = match self.call {
+            0xf1 => self.set_many(words),
+            SPLIT_OFF => told::split(shape::split_off(words, record, self.arguments.x, other)),
+            0xf4 => self.from_list(words),
+            0xf3 => return self.write_list(words),
+            _ => call::on_words(self, words, other).ok_or(Mismatch::Malformed)?,
+        };
+        self.compare(got)
+    }
+
+    fn compare(&self, got: Told) -> Result<(), Mismatch> {
+        agree(&Answer::from(got), &self.answer, Mismatch::Answer)
+    }
+
+    fn set_many(&self, words: &mut [u64]) -> Told {
+        let indexes: [usize; WORDS] = array::from_fn(|k| self
+            .list
+            .get(k)
+            .map_or(0, |index| *index as usize));
+        let n = self.list.len().min(WORDS);
+        told::change(bitmap::set_many(words, self.first.record(), &indexes[..n]))
+    }
+
+    // The Rust has one parse error, for which the list has 7; here it is 7 or 16.
+    fn from_list(&self, words: &mut [u64]) -> Told {
+        let text = Text::of(self.list, self.pattern);
+        let got = told::change(text::from_list(words, self.first.record(), text.as_slice(), PLAIN));
+        let number = if got.number == Refusal::NumberOver.number() {
+            Refusal::NotList.number()
         } else {
             got.number
-        },
-        ..got
+        };
+        Told { number, ..got }
     }
-}
 
-// Reads the bytes of the list.
-fn from_list(line: &[u64; 1024], words: &mut [u64]) -> u64 {
-    let bytes = store::bytes(line, store::length(line));
-    let n = store::at_most(store::at(line, 16), 512);
-    let got = text::from_list(words, store::bitmap_at(line, 10), &bytes[0..n], PLAIN);
-    shown_text(line, one_error(told::change(got)), &bytes)
-}
-
-fn make(line: &[u64; 1024], words: &mut [u64], other: &mut [u64]) -> u64 {
-    let op = store::at(line, 0);
-    match op {
-        SET_MANY => shown(line, call::set_many(line, words)),
-        store::SPLIT_OFF => shown(line, call::split_off(line, words, other)),
-        WRITE_LIST => write_list(line, words),
-        FROM_LIST => from_list(line, words),
-        _ => shown(line, call::on_words(line, words, other)),
-    }
-}
-
-// Replays a sound line: each call has as much of its stores as the line says.
-pub(crate) fn replay(line: &[u64; 1024]) -> u64 {
-    let mut a = store::loaded(line, 0);
-    let mut b = store::loaded(line, 1);
-    let n = store::room(line, 9);
-    let m = store::room(line, 11);
-    let what = make(line, &mut a[0..n], &mut b[0..m]);
-    if what != AGREES {
-        return what;
-    }
-    if !store::left(line, 0, &a) {
-        return OTHER_WORDS;
-    }
-    if store::left(line, 1, &b) {
-        AGREES
-    } else {
-        OTHER_OUTPUT
+    // Writes into x bytes, which are a pattern before.
+    fn write_list(&self, words: &[u64]) -> Result<(), Mismatch> {
+        let mut out = Text::of(&[], self.pattern).bytes;
+        let n = self.arguments.x.min(BYTES);
+        let got = print::write_list(words, self.first.record(), &mut out[..n], PLAIN);
+        self.compare(told::amount(got))?;
+        agree(
+            &out,
+            &Text::of(self.list, self.pattern).bytes,
+            Mismatch::Output,
+        )
     }
 }

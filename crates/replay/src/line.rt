@@ -1,195 +1,120 @@
 // A line of the list: hexadecimal numbers with a comma between, byte 10 at the end. A number without digits is 0; a tilde before it stands for its
 // complement.
+use crate::case::Case;
+use std::alloc::Global;
 use std::io;
-use std::io::Read;
-use word::Word;
+use std::io::{BufRead, Read};
 
-// What a line is.
-pub const SOUND: u64 = 0;
+// The most bytes of a line; what is behind them is another line.
+const LONGEST: usize = 20_000;
 
-pub const MALFORMED: u64 = 1;
+// The most digits of a number.
+const DIGITS: u32 = 16;
 
-pub const END: u64 = 2;
-
-// The most bytes of a line.
-const LONGEST: u64 = 20_000;
-
-const NEWLINE: u64 = 10;
-
-const COMMA: u64 = 44;
-
-const TILDE: u64 = 126;
-
-// In place of a byte where the input has ended.
-const NONE: u64 = 256;
-
-// A byte, and the part of the buffer that is left to read.
-#[derive(Clone, Copy)]
-struct Byte {
-    byte: u64,
-    at: usize,
-    end: usize,
-}
-
-// What a line is, how many numbers it has, and the part of the buffer that is left to read.
-#[derive(Clone, Copy)]
+// The line at hand: its bytes, its numbers, and whether it is a line of the list at all.
+#[derive(Drop)]
 pub struct Line {
-    pub kind: u64,
-    pub count: usize,
-    pub at: usize,
-    pub end: usize,
+    bytes: Vec<u8>,
+    numbers: Vec<u64>,
+    sound: bool,
 }
 
-fn wide(x: u8) -> u64 {
-    x as u64
-}
-
-// Reads until the buffer is full or the input ends: how many bytes it has then.
-fn load(rt: &impl Input, buf: &mut [u8; 65536]) -> io::Result<usize> {
-    let mut to = &mut buf[..];
-    let n = io::copy(&mut rt.reader().take(65_536), &mut to)?;
-    Ok(n as usize)
-}
-
-// The next byte of the input: bytes at to end of the buffer are not yet read.
-fn next(rt: &impl Input, buf: &mut [u8; 65536], at: usize, end: usize) -> io::Result<Byte> {
-    if at < end {
-        if at < 65536 {
-            return Ok(Byte {
-                byte: wide(buf[at]),
-                at: at + 1,
-                end: end,
-            });
+impl Line {
+    pub fn new(alloc: Global) -> Line {
+        Line {
+            bytes: Vec::new(alloc),
+            numbers: Vec::new(alloc),
+            sound: false,
         }
     }
-    let n = load(rt, buf)?;
-    Ok(Byte {
-        byte: if n == 0 { NONE } else { wide(buf[0]) },
-        at: 1,
-        end: n,
-    })
-}
 
-// The value of a hexadecimal digit; 16 for any other byte.
-fn digit(c: u64) -> u64 {
-    if c >= 48 {
-        if c < 58 {
-            return c - 48;
+    // Reads the next line; false where there is none.
+    pub fn read(&mut self, input: &mut impl BufRead) -> io::Result<bool> {
+        self.bytes.clear();
+        let n = input
+            .take(LONGEST as u64)
+            .read_until(b'\n', &mut self.bytes)?;
+        self.parse()?;
+        Ok(n > 0)
+    }
+
+    // A line that is too long ends before its last byte, as if that were its end.
+    fn parse(&mut self) -> io::Result<()> {
+        let bytes = self.bytes.as_slice();
+        let whole = bytes.ends_with(b"\n");
+        let end = if whole || bytes.len() == LONGEST {
+            1
+        } else {
+            0
+        };
+        let text = &bytes[..bytes.len() - end];
+        self.sound = whole;
+        self.numbers.clear();
+        for field in text.split(|byte| *byte == b',') {
+            let number = Number::of(field);
+            self.sound &= number.sound;
+            self.numbers.push(number.value ^ number.flip)?;
         }
-        if c >= 97 {
-            if c < 103 {
-                return c - 87;
-            }
+        Ok(())
+    }
+
+    // The call, as far as a malformed line has it.
+    pub fn call(&self) -> u64 {
+        self.numbers.first().copied().unwrap_or(0)
+    }
+
+    // The case or title that the line is.
+    pub fn case(&self) -> Option<Case<'_>> {
+        if self.sound {
+            Case::of(&self.numbers)
+        } else {
+            None
         }
     }
-    16
 }
 
-fn put(numbers: &mut [u64; 1024], n: usize, x: u64) {
-    if n < 1024 {
-        numbers[n] = x;
+// The value of a hexadecimal digit.
+fn digit(byte: u8) -> Option<u64> {
+    match byte {
+        b'0'..=b'9' => Some(u64::from(byte - b'0')),
+        b'a'..=b'f' => Some(u64::from(byte - b'a') + 10),
+        _ => None,
     }
 }
 
-// A line as far as it is read: what it is, whether it has ended, how many numbers stand before the one at hand, and of that its digits' value, how many
-// they are, and all ones after a tilde.
+// What the bytes between two commas make: the digits' value and how many there are, all ones after a tilde, and whether all that is a number.
 #[derive(Clone, Copy)]
-struct Part {
-    kind: u64,
-    ended: bool,
-    count: usize,
-    x: u64,
-    digits: u64,
+struct Number {
+    value: u64,
+    digits: u32,
     flip: u64,
+    sound: bool,
 }
 
-// Before the number at that place.
-fn before(kind: u64, ended: bool, count: usize) -> Part {
-    Part {
-        kind: kind,
-        ended: ended,
-        count: count,
-        x: 0,
-        digits: 0,
-        flip: 0,
+impl Number {
+    fn of(field: &[u8]) -> Number {
+        let mut number = Number {
+            value: 0,
+            digits: 0,
+            flip: 0,
+            sound: true,
+        };
+        for byte in field {
+            number.take(*byte);
+        }
+        number
     }
-}
 
-// With a tilde, which fits at the beginning.
-fn flipped(p: Part) -> Part {
-    Part {
-        kind: if p.digits == 0 && p.flip == 0 {
-            p.kind
+    // One more byte. The tilde is the first; a byte that is no digit counts as 16, for the call that a malformed line is reported with.
+    fn take(&mut self, byte: u8) {
+        if byte == b'~' {
+            self.sound &= self.digits == 0 && self.flip == 0;
+            self.flip = u64::MAX;
         } else {
-            MALFORMED
-        },
-        ended: false,
-        count: p.count,
-        x: p.x,
-        digits: p.digits,
-        flip: Word::ONES,
-    }
-}
-
-// With a digit of that value, of which at most 16 fit.
-fn with(p: Part, d: u64) -> Part {
-    Part {
-        kind: if d < 16 && p.digits < 16 {
-            p.kind
-        } else {
-            MALFORMED
-        },
-        ended: false,
-        count: p.count,
-        x: p.x << 4 | d,
-        digits: std::num::wrapping_add_u64(p.digits, 1),
-        flip: p.flip,
-    }
-}
-
-// With byte c, the first of its line where `first` is 0.
-fn taken(p: Part, c: u64, first: u64) -> Part {
-    match c {
-        NONE => before(if first == 0 { END } else { MALFORMED }, true, p.count),
-        COMMA | NEWLINE => before(
-            p.kind,
-            c == NEWLINE,
-            std::num::wrapping_add_usize(p.count, 1),
-        ),
-        TILDE => flipped(p),
-        _ => with(p, digit(c)),
-    }
-}
-
-pub(crate) fn told(kind: u64, count: usize, at: usize, end: usize) -> Line {
-    Line {
-        kind: kind,
-        count: count,
-        at: at,
-        end: end,
-    }
-}
-
-// Reads a line's numbers, of which at most 1,024 are kept.
-pub(crate) fn read(
-    rt: &impl Input,
-    buf: &mut [u8; 65536],
-    from: Line,
-    numbers: &mut [u64; 1024],
-) -> io::Result<Line> {
-    let mut b = Byte {
-        byte: 0,
-        at: from.at,
-        end: from.end,
-    };
-    let mut p = before(SOUND, false, 0);
-    for step in 0..LONGEST {
-        b = next(rt, buf, b.at, b.end)?;
-        put(numbers, p.count, p.x ^ p.flip);
-        p = taken(p, b.byte, step);
-        if p.ended {
-            return Ok(told(p.kind, p.count, b.at, b.end));
+            let digit = digit(byte);
+            self.sound &= digit.is_some() && self.digits < DIGITS;
+            self.value = self.value << 4 | digit.unwrap_or(16);
+            self.digits = self.digits.saturating_add(1);
         }
     }
-    Ok(told(MALFORMED, p.count, b.at, b.end))
 }

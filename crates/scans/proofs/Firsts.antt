@@ -33,9 +33,6 @@ pub record First (s : ℕ → Bool) (n i p : ℕ) : Type 0 where
 abbrev pub kept_first : ℕ → ℕ → ℕ
 kept_first x i = x / 2 ^ (i % 64) * 2 ^ (i % 64) % 2 ^ 64
 
-positive : (x : ℕ) → (x ≡ 0 → ⊥) → 0 < x
-positive x n = by_eq x 0 (λ e. absurd (n e)) (λ e. omega arith)
-
 module _ (s : ℕ → Bool) (n i : ℕ) where
   least_none : i ≤ 64 * n → Bare s i (64 * n) → least_from s i (64 * n - i) ≡ 64 * n
   least_none h b =
@@ -95,7 +92,7 @@ module _ (s : ℕ → Bool) (w : ℕ → ℕ) (n : ℕ) (words : Words s w n) (i
 
   pub first_here : (z : ℕ) → (rest ≡ 0 → ⊥) → z ≡ least_from (bit rest) 0 64 → First s n i (64 * (i / 64) + z)
   first_here z nz e =
-      least_word s n i (i / 64) rest inside (positive rest nz) (mod-lt (w (i / 64) / 2 ^ (i % 64) * 2 ^ (i % 64)) (pow_pos 64)) rest_bit z e
+      least_word s n i (i / 64) rest inside (omega arith) (mod-lt (w (i / 64) / 2 ^ (i % 64) * 2 ^ (i % 64)) (pow_pos 64)) rest_bit z e
       (record { at = λ q p l. absurd (omega arith) })
 
   -- the word of i has nothing from i on, and the words after it, up to word e, are 0
@@ -117,7 +114,7 @@ module _ (s : ℕ → Bool) (w : ℕ → ℕ) (n : ℕ) (words : Words s w n) (i
 
     pub first_after : (z : ℕ) → e < n → i / 64 < e → (w e ≡ 0 → ⊥) → z ≡ least_from (bit (w e)) 0 64 → First s n i (64 * e + z)
     first_after z l after nz q =
-        least_word s n i e (w e) l (positive (w e) nz) (words.fits e)
+        least_word s n i e (w e) l (omega arith) (words.fits e)
         (λ j m. words.at e j l m ∙ ap (λ (a : Bool). a && s (64 * e + j)) (sym (le-leb i (64 * e + j) (omega arith))))
         z q bare
 

@@ -10,17 +10,16 @@ use borrow.Author.Tests.{ne_eqb, not-true, not-false}
 use Rattle.word.specs.Sets.{choose, val, count_below, least_from, top_below, Least, Top}
 use Rattle.word.proofs.Cases.{by_lt, by_eq}
 use Rattle.word.proofs.Sets.{count_ext, count_flat, counted, least, top}
-use Rattle.storage.specs.Refusals.{found_number, found_flag, found_value}
+use Rattle.storage.specs.Refusals.{answer_number, found_flag, found_value}
 use Rattle.storage.specs.Stores.{Bits, Bounded, size, next_from}
 use Rattle.storage.specs.Promises.{Hands, NextMember}
-use Rattle.storage.specs.declared.Found.{Found}
-use Rattle.storage.specs.declared.Found.TheVariants.{At, Nothing}
-use Rattle.storage.specs.declared.Amount.{Amount}
 use Rattle.storage.proofs.Combined.{size_none, none_of_size}
 use Rattle.storage.proofs.Promises.{amount-call, found-call, next-member}
 use Rattle.scans.specs.Searches.{last_set, next_clear}
 use Rattle.scans.specs.Promises.{NextSetMeans, FirstSetMeans, LastMember, LastSetMeans, NextOther, NextClearMeans, FirstClearMeans}
 use Rattle.scans.specs.Promises.{AllCounted, CountSetBitsMeans, CountsMembers}
+use Rattle.storage.specs.Refusals.{Found}
+use Rattle.std.specs.Prelude.{Ok, Some, None}
 
 -- ---- scans
 
@@ -31,20 +30,20 @@ pub first_set_means : FirstSetMeans
 first_set_means = next_set_means 0
 
 module _ (b : Bits) (bounded : Bounded b) where
-  last-member : LastMember b (found_number (last_set b)) (found_flag (last_set b)) (found_value (last_set b))
+  last-member : LastMember b (answer_number (last_set b)) (found_flag (last_set b)) (found_value (last_set b))
   unfolding last_set
   last-member = go (top_below b.members (64 * b.count)) (top b.members (64 * b.count))
     where
       is : Found → Type 0
-      is a = LastMember b (found_number a) (found_flag a) (found_value a)
+      is a = LastMember b (answer_number a) (found_flag a) (found_value a)
 
       over : (t : ℕ) → Top b.members (64 * b.count) t → (q : ℕ) → t ≤ q → b.members q ≡ false
       over t r q l = by_lt q (64 * b.count) (λ m. r.over q l m) (λ m. bounded.past q m)
 
-      go : (t : ℕ) → Top b.members (64 * b.count) t → is (choose (eqb t 0) Nothing (At (t - 1)))
+      go : (t : ℕ) → Top b.members (64 * b.count) t → is (choose (eqb t 0) (Ok None) (Ok (Some (t - 1))))
       go zero r = (refl, inr (refl, refl, λ q. over 0 r q (omega arith)))
       go (suc k) r =
-          subst is (sym (ap (λ (t : Bool). choose t Nothing (At (suc k - 1))) (ne_eqb (suc k) 0 (omega arith))))
+          subst is (sym (ap (λ (t : Bool). choose t (Ok None) (Ok (Some (suc k - 1)))) (ne_eqb (suc k) 0 (omega arith))))
           (refl, inl (refl, (r.last (suc k - 1) (omega arith), λ q l. over (suc k) r q (omega arith))))
 
   pub next_other : (i : ℕ) → NextOther b i (next_clear b i)
@@ -69,7 +68,7 @@ pub last_set_means : LastSetMeans
 last_set_means = found-call last_set LastMember last-member
 
 pub next_clear_means : NextClearMeans
-next_clear_means i = amount-call (λ s. Amount.Is (next_clear s i)) (λ b. Hands (NextOther b i)) (λ b bounded. (refl, next_other b bounded i))
+next_clear_means i = amount-call (λ s. Ok (next_clear s i)) (λ b. Hands (NextOther b i)) (λ b bounded. (refl, next_other b bounded i))
 
 pub first_clear_means : FirstClearMeans
 first_clear_means = next_clear_means 0
@@ -100,4 +99,4 @@ unfolding size
 all-counted b bounded e h = counted b.members e (size b) (count_flat b.members (64 * b.count) e h bounded.past)
 
 pub count_set_bits_means : CountSetBitsMeans
-count_set_bits_means = amount-call (λ s. Amount.Is (size s)) (λ b. Hands (AllCounted b)) (λ b bounded. (refl, all-counted b bounded))
+count_set_bits_means = amount-call (λ s. Ok (size s)) (λ b. Hands (AllCounted b)) (λ b bounded. (refl, all-counted b bounded))

@@ -1,9 +1,8 @@
 -- What the definitions promise, in words of their own. Each is proved in proofs/Promises.
-use Rattle.std.specs.Prelude.{ℕ, suc, ◌*◌, ◌≤◌, ◌<◌, ◌≡◌, true, false}
+use Rattle.std.specs.Prelude.{ℕ, suc, ◌*◌, ◌≤◌, ◌<◌, ◌≡◌, true, false, Ok}
 use Rattle.word.specs.Sets.{Counted}
 use Rattle.storage.specs.Stores.{Bits, Bounded, size, next_from}
 use Rattle.storage.specs.Promises.{Hands, Finds, NextMember, AmountCall, FoundCall}
-use Rattle.storage.specs.declared.Amount.{Amount}
 use Rattle.scans.specs.Searches.{last_set, next_clear}
 
 -- `next_set`, `first_set`: the least member from i on, and the least
@@ -30,10 +29,10 @@ pub record NextOther (b : Bits) (i p : ℕ) : Type 0 where
 
 -- `next_clear`, `first_clear`
 abbrev pub NextClearMeans : Type 0
-NextClearMeans = (i : ℕ) → AmountCall (λ s. Amount.Is (next_clear s i)) (λ b. Hands (NextOther b i))
+NextClearMeans = (i : ℕ) → AmountCall (λ s. Ok (next_clear s i)) (λ b. Hands (NextOther b i))
 
 abbrev pub FirstClearMeans : Type 0
-FirstClearMeans = AmountCall (λ s. Amount.Is (next_clear s 0)) (λ b. Hands (NextOther b 0))
+FirstClearMeans = AmountCall (λ s. Ok (next_clear s 0)) (λ b. Hands (NextOther b 0))
 
 -- v members, at the length and from there on
 abbrev pub AllCounted : Bits → ℕ → Type 0
@@ -41,7 +40,7 @@ AllCounted b v = (e : ℕ) → 64 * b.count ≤ e → Counted b.members e v
 
 -- `count_set_bits`
 abbrev pub CountSetBitsMeans : Type 0
-CountSetBitsMeans = AmountCall (λ s. Amount.Is (size s)) (λ b. Hands (AllCounted b))
+CountSetBitsMeans = AmountCall (λ s. Ok (size s)) (λ b. Hands (AllCounted b))
 
 -- the size is 0 exactly where there is no member, and one more with each number that becomes one
 pub record CountsMembers : Type 0 where

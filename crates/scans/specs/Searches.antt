@@ -1,13 +1,12 @@
 -- Searches within the words in use, on sets.
-use Rattle.std.specs.Prelude.{ℕ, ◌-◌, ◌*◌, not, eqb}
+use Rattle.std.specs.Prelude.{ℕ, ◌-◌, ◌*◌, not, eqb, Ok, Some, None}
 use Rattle.word.specs.Sets.{choose, least_from, top_below}
 use Rattle.storage.specs.Stores.{Bits}
-use Rattle.storage.specs.declared.Found.{Found}
-use Rattle.storage.specs.declared.Found.TheVariants.{At, Nothing}
+use Rattle.storage.specs.Refusals.{Found}
 
 -- the greatest member
 unfoldable pub last_set : Bits → Found
-last_set b = let t = top_below b.members (64 * b.count) in choose (eqb t 0) Nothing (At (t - 1))
+last_set b = let t = top_below b.members (64 * b.count) in choose (eqb t 0) (Ok None) (Ok (Some (t - 1)))
 
 -- the least number from i on that is no member; past the length that is i
 unfoldable pub next_clear : Bits → ℕ → ℕ

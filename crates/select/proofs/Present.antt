@@ -12,7 +12,7 @@ use Rattle.word.specs.Sets.{val, count_below, nth}
 use Rattle.word.specs.Places.{bit}
 use Rattle.word.proofs.Sets.{Nth, count-le, nth_has}
 use Rattle.select.specs.Select.{byte_of, select_by}
-use Rattle.select.specs.Kernels.{num, sum_below, set_in, at_most, Room}
+use Rattle.select.specs.Kernels.{num, sum_below, set_in, at_most, Room, RankIn}
 use Rattle.select.proofs.Digits.{DigitsBelow, num-byte, byte-num, byte_le, byte-suc, byte-zero, product}
 use Rattle.select.proofs.Before.{up_to_ext, SumsPass, passes}
 use Rattle.select.proofs.Table.{count-byte, in_byte, placed_in, select-placed}
@@ -50,16 +50,10 @@ taken-byte : (x b : ℕ) → taken_bytes x b ≡ byte_of x b
 unfolding byte_of
 taken-byte x b = and_mask (x / 2 ^ (8 * b)) 8
 
--- the index that the code reads the table at
-abbrev pub index : ℕ → ℕ → ℕ → ℕ → ℕ
-index x n c b = taken_bytes x b * 8 + (n - taken_bytes (c * 2 ^ 8 % 2 ^ 64) b)
-
--- byte b has the bit of rank n, and the table's entry at the index tells its place there
-pub record Present (x n c b : ℕ) : Type 0 where
-  pub within : b < 8
-  pub below : taken_bytes (c * 2 ^ 8 % 2 ^ 64) b ≤ n
-  pub inside : index x n c b < 2048
-  pub is : (table : List ℕ) → 8 * b + get_or table (index x n c b) 0 ≡ select_by table x n
+-- by what the code has of the bytes' counts
+pub sums_made : (x counts c : ℕ) → counts ≡ num 8 (set_in x) → c ≡ (counts * 0x0101_0101_0101_0101) % 2 ^ 64
+    → c ≡ (num 8 (set_in x) * 0x0101_0101_0101_0101) % 2 ^ 64
+sums_made x counts c e f = f ∙ ap (λ (y : ℕ). (y * 0x0101_0101_0101_0101) % 2 ^ 64) e
 
 module _ (x c : ℕ) (made : c ≡ (num 8 (set_in x) * 0x0101_0101_0101_0101) % 2 ^ 64) where
   sum-le : (k : ℕ) → k < 8 → sum_below (set_in x) (suc k) ≤ 64
@@ -89,18 +83,24 @@ module _ (x c : ℕ) (made : c ≡ (num 8 (set_in x) * 0x0101_0101_0101_0101) % 
       under : taken_bytes (c * 2 ^ 8 % 2 ^ 64) b ≡ E b
       under = taken-byte (c * 2 ^ 8 % 2 ^ 64) b ∙ byte_up (set_in x) c b sums found.within ∙ up_to-count x b
 
-      pub present : Present x n c b
-      present =
+      pub rank_in : RankIn x n b (taken_bytes (c * 2 ^ 8 % 2 ^ 64) b)
+      rank_in =
           let f : SumsPass E n 8 b = found in
           let d : taken_bytes (c * 2 ^ 8 % 2 ^ 64) b ≡ E b = under in
-          let p : ℕ = nth (bit x) n 64 64 in
-          let r : Nth (bit x) n 64 p = nth_has (bit x) n 64 64 enough in
           record {
             within = f.within;
-            below = omega arith;
-            inside = omega (arith, taken-byte x b, byte_le x b, count_next x b, count-le (bit (byte_of x b)) 8);
-            is = λ table.
-                ap₂ (λ (y z : ℕ). 8 * b + get_or table (y * 8 + (n - z)) 0) (taken-byte x b) d
-                ∙ ap (placed_in table x n) (sym (in_byte x n p b r f.from f.to))
-                ∙ sym (select-placed table x n p r);
+            counted = d;
+            from = omega (arith, f.from);
+            to = omega (arith, f.to, count_next x b);
+            few = omega (arith, f.to, count_next x b, count-le (bit (byte_of x b)) 8);
           }
+
+-- the table's entry for the byte that has the bit, at its rank there
+pub placed : (table : List ℕ) (x n b below : ℕ) → n < count_below (bit x) 64 → RankIn x n b below
+    → 8 * b + get_or table (taken_bytes x b * 8 + (n - below)) 0 ≡ select_by table x n
+placed table x n b below enough k =
+    let p : ℕ = nth (bit x) n 64 64 in
+    let r : Nth (bit x) n 64 p = nth_has (bit x) n 64 64 enough in
+    ap₂ (λ (y z : ℕ). 8 * b + get_or table (y * 8 + (n - z)) 0) (taken-byte x b) k.counted
+    ∙ ap (placed_in table x n) (sym (in_byte x n p b r (omega (arith, k.counted, k.from)) (omega (arith, k.counted, k.to, count_next x b))))
+    ∙ sym (select-placed table x n p r)

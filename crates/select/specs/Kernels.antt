@@ -1,5 +1,5 @@
 -- What the private functions of this crate make of a word, by its bytes, the lowest first.
-use Rattle.std.specs.Prelude.{ℕ, zero, suc, ◌+◌, ◌*◌, ◌^◌, ◌≤◌, ◌<◌, leb}
+use Rattle.std.specs.Prelude.{ℕ, zero, suc, ◌+◌, ◌*◌, ◌^◌, ◌≤◌, ◌<◌, ◌≡◌, leb}
 use Rattle.word.specs.Sets.{val, count_below}
 use Rattle.word.specs.Places.{bit}
 use Rattle.select.specs.Select.{byte_of}
@@ -26,3 +26,11 @@ at_most c n k = val (leb (byte_of c k) n)
 pub record Room (c n : ℕ) : Type 0 where
   pub few : n < 128
   pub low : (k : ℕ) → k < 8 → byte_of c k ≤ 128
+
+-- byte b of x has the bit of rank n, and the bytes before it have `below` set bits
+pub record RankIn (x n b below : ℕ) : Type 0 where
+  pub within : b < 8
+  pub counted : below ≡ count_below (bit x) (8 * b)
+  pub from : below ≤ n
+  pub to : n < below + set_in x b
+  pub few : n < below + 8

@@ -5,7 +5,7 @@ ghost use Rattle.std.specs.Prelude.{◌≡◌, ◌<◌};
 ghost use Rattle.word.specs.Sets.{count_below, nth};
 ghost use Rattle.word.specs.Places.{bit};
 ghost use Rattle.select.specs.Select.{select_by};
-ghost use Rattle.select.specs.Kernels.{num, sum_below, set_in, at_most, Room};
+ghost use Rattle.select.specs.Kernels.{num, sum_below, set_in, at_most, Room, RankIn};
 
 use word::Word;
 
@@ -100,11 +100,14 @@ fn bytes_before(cumulative: u64, n: usize) -> usize
     (Word::wrapping_mul(before >> 7, L8) >> 56) as usize
 }
 
-// A byte as an index.
-fn wide(x: u8) -> usize
-    ensures { (result ≡ x) × (result < 256) }
+// The byte of x that has its n-th set bit, and how many bits are set in the bytes before it.
+fn byte_with(x: u64, n: usize) -> (usize, usize)
+    requires { n < count_below (bit x) 64 }
+    ensures { RankIn x n result.0 result.1 }
 {
-    x as usize
+    let cumulative = Word::wrapping_mul(byte_counts(x), L8);
+    let byte = bytes_before(cumulative, n);
+    (byte, ((cumulative << 8) >> (8 * byte)) as usize & 0xff)
 }
 
 // The place of the n-th set bit of x, where x has more than n.
@@ -112,11 +115,9 @@ fn select_present(table: &[u8; 2048], x: u64, n: usize) -> usize
     requires { n < count_below (bit x) 64 }
     ensures { result ≡ select_by table.now x n }
 {
-    let cumulative = Word::wrapping_mul(byte_counts(x), L8);
-    let byte = bytes_before(cumulative, n);
-    let below = ((cumulative << 8) >> (8 * byte)) as usize & 0xff;
+    let (byte, below) = byte_with(x, n);
     let bits = (x >> (8 * byte)) as usize & 0xff;
-    8 * byte + wide(table[bits * 8 + (n - below)])
+    8 * byte + usize::from(table[bits * 8 + (n - below)])
 }
 
 // The place of the n-th set bit of x, counted from 0; 64 if x has none.

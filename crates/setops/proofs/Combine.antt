@@ -13,19 +13,19 @@ use Rattle.arch.specs.Scans.{nonzero_len}
 use Rattle.arch.proofs.Scans.{nonzero_le, nonzero_past, nonzero_last}
 use Rattle.pairs.specs.Pairs.{word_by, words_by, end_by}
 use Rattle.pairs.specs.declared.SetOp.{SetOp}
-use Rattle.pairs.specs.declared.SetOp.TheVariants.{And, AndNot, Or, Xor}
+use Rattle.pairs.specs.declared.SetOp.TheVariants.{Or}
 use Rattle.pairs.proofs.Tables.{end_top, end_first, end_second, by_at, by_fit, by_nonzero}
 use Rattle.storage.specs.Stores.{Bits, Op, Outcome, with_count, view, held, beside, within, zeroed, Leaves, Changes}
 use Rattle.storage.specs.Guards.{PassedTwo}
 use Rattle.storage.specs.Kernels.{Put}
 use Rattle.storage.specs.declared.Bitmap.{Bitmap}
 use Rattle.storage.specs.declared.Refusal.TheVariants.{NoSpace}
-use Rattle.storage.specs.declared.Change.{Change}
-use Rattle.storage.specs.declared.Change.TheVariants.{Done, Refused}
 use Rattle.storage.proofs.Checks.{beside_ok}
 use Rattle.storage.proofs.Stores.{outcome_ok, length-zeroed, zeroed_in, zeroed_out, zeroed_fit}
 use Rattle.storage.proofs.Combined.{made_words, fewest_words, all_words_lem, all_hold, put_leaves, put_lacks}
 use Rattle.setops.specs.Setops.{combining, uniting}
+use Rattle.storage.specs.Refusals.{Change, refusing}
+use Rattle.std.specs.Prelude.{Ok}
 
 -- a store that has grown to m words, zipped with the other's: its first m words are those that the operation makes
 pub zip_put : (op : SetOp) (ws z os w : List ℕ) (n m e : ℕ) → Fit ws → n ≤ length ws → m ≤ end_by op n (length os) → z ≡ zeroed n m ws → e ≡ min m (length os)
@@ -71,6 +71,10 @@ pub end_holds : (op : SetOp) (ws os : List ℕ) (n end : ℕ) → n ≤ length w
 end_holds op ws os n end h e =
     omega (arith, by_nonzero op (take n ws) os n (length os) (nonzero_len (words_by op (take n ws) os)) (λ k l. past (take n ws) k (omega (arith, length-take-le n ws h))) (past os) refl)
 
+-- how many words of the other are read: up to the last that is not 0, or all where the n words do not grow
+abbrev pub Needed : SetOp → ℕ → List ℕ → ℕ → Type 0
+Needed op n ys last = (last ≡ nonzero_len ys) ⊎ ((last ≡ length ys) × (end_by op n last ≤ n))
+
 -- ---- the calls, past the guard
 
 module _ (ws os : List ℕ) (b o : Bitmap) (p : PassedTwo ws b os o) where
@@ -83,16 +87,34 @@ module _ (ws os : List ℕ) (b o : Bitmap) (p : PassedTwo ws b os o) where
       subst (λ (x : Outcome). Leaves x ws b a ws')
       (sym (outcome_ok (beside os o op) ws b p.own ∙ beside_ok os o op (length ws) (held ws b) p.other ∙ e))
 
-  -- `and`, `andnot`, `xor`, where the other's words from `last` on are 0
-  module _ (op : SetOp) (last end : ℕ) (low : last ≤ o.count) (rest : nonzero_len (take o.count os) ≤ last) (ee : end ≡ end_by op n last) where
+  -- `and`, `andnot`, `xor`
+  module _ (fo : Fit os) (op : SetOp) (last end : ℕ) (need : Needed op n (take o.count os) last) (ee : end ≡ end_by op n last) where
+    low : last ≤ o.count
+    low = go need
+      where
+        go : Needed op n (take o.count os) last → last ≤ o.count
+        go (inl e) = omega (arith, nonzero_le (take o.count os), length-take-le o.count os p.other.inside)
+        go (inr e) = omega (arith, e.0, length-take-le o.count os p.other.inside)
+
+    -- the other's words from there on are 0
+    rest : nonzero_len (take o.count os) ≤ last
+    rest = go need
+      where
+        go : Needed op n (take o.count os) last → nonzero_len (take o.count os) ≤ last
+        go (inl e) = omega arith
+        go (inr e) = omega (arith, e.0, nonzero_le (take o.count os), length-take-le o.count os p.other.inside)
+
+    pub front_inside : last ≤ length os
+    front_inside = omega (arith, low, p.other.inside)
+
     abbrev words : List ℕ
     words = made_words op ws b os o
 
     front : (k : ℕ) → get_or (take last os) k 0 ≡ get_or (take o.count os) k 0
     front k =
         by_lt k last
-        (λ l. get_or-take last os k 0 l ∙ sym (get_or-take o.count os k 0 (omega arith)))
-        (λ l. past (take last os) k (omega (arith, length-take-le last os (omega (arith, p.other.inside)))) ∙ sym (nonzero_past (take o.count os) k (omega arith)))
+        (λ l. get_or-take last os k 0 l ∙ sym (get_or-take o.count os k 0 (omega (arith, low))))
+        (λ l. past (take last os) k (omega (arith, length-take-le last os front_inside)) ∙ sym (nonzero_past (take o.count os) k (omega (arith, rest))))
 
     made_put : {u : ℕ} {ws' : List ℕ} → Put (λ k. get_or (words_by op (take n ws) (take last os)) k 0) 0 u ws ws' → Put (λ k. get_or words k 0) 0 u ws ws'
     made_put q = record {
@@ -106,7 +128,7 @@ module _ (ws os : List ℕ) (b o : Bitmap) (p : PassedTwo ws b os o) where
     out_of_use k h = past (take n ws) k (omega (arith, length-take-le n ws p.own.inside))
 
     holds : nonzero_len words ≤ end
-    holds = omega (arith, by_nonzero op (take n ws) (take o.count os) n last (nonzero_len words) out_of_use (λ k h. nonzero_past (take o.count os) k (omega arith)) refl)
+    holds = omega (arith, by_nonzero op (take n ws) (take o.count os) n last (nonzero_len words) out_of_use (λ k h. nonzero_past (take o.count os) k (omega (arith, rest))) refl)
 
     fewest_changes : {a : Change} {ws' : List ℕ} → Leaves (within (length ws) (view words (nonzero_len words))) ws b a ws' → Changes (beside os o (combining op)) ws b a ws'
     unfolding combining
@@ -121,53 +143,35 @@ module _ (ws os : List ℕ) (b o : Bitmap) (p : PassedTwo ws b os o) where
         (λ c. get_or-take end ws' k 0 c ∙ q.fresh k (omega arith) (omega arith))
         (λ c. past (take end ws') k (omega (arith, q.long, length-take-le end ws' (omega (arith, q.long)))) ∙ sym (nonzero_past words k (omega (arith, holds)))))
 
-    fewest_done : (r : ℕ) (ws' : List ℕ) → (n < end → nonzero_len words ≡ end) → end ≤ length ws
-        → Put (λ k. get_or (words_by op (take n ws) (take last os)) k 0) 0 (max n end) ws ws' → r ≡ nonzero_len (take end ws')
-        → Changes (beside os o (combining op)) ws b (Done (with_count b r)) ws'
-    fewest_done r ws' g h q e =
-        subst (λ (x : ℕ). Changes (beside os o (combining op)) ws b (Done (with_count b x)) ws')
-        (sym (count r ws' (made_put q) (omega arith) h e))
-        (fewest_changes
-        (put_leaves words ws b (nonzero_len words) (max n end) ws' (by_fit op (take n ws) (take o.count os)) (omega arith) (omega (arith, holds)) used (made_put q)))
-      where
-        used : max n end ≡ max n (nonzero_len words)
-        used = by_lt n end (λ l. ap (max n) (sym (g l))) (λ l. omega (arith, holds))
-
     -- a store grows only to the other's last word that is not 0, which the result has
-    grown : Fit os → last ≡ nonzero_len (take o.count os) → n < end → nonzero_len words ≡ end
-    grown fo el l = by_lt (nonzero_len words) end (λ c. absurd (lost (end - 1) (omega arith) (omega arith))) (λ c. omega (arith, holds))
+    grown : n < end → nonzero_len words ≡ end
+    grown l = go need
       where
-        lost : (k : ℕ) → suc k ≡ end → nonzero_len words ≤ k → ⊥
-        lost k e c =
+        lost : last ≡ nonzero_len (take o.count os) → (k : ℕ) → suc k ≡ end → nonzero_len words ≤ k → ⊥
+        lost el k e c =
             nonzero_last (take o.count os) k (omega (arith, end_top op n last (omega arith)))
             (sym (end_second op n last k (get_or (take n ws) k 0) (get_or (take o.count os) k 0) (fit_part os o.count fo p.other.inside k) (out_of_use k (omega arith))
             (omega arith) (omega arith))
             ∙ sym (by_at op (take n ws) (take o.count os) k) ∙ nonzero_past words k c)
 
-    fewest_refused : Fit os → last ≡ nonzero_len (take o.count os) → length ws < end → Changes (beside os o (combining op)) ws b (Refused NoSpace b) ws
-    fewest_refused fo el h = fewest_changes (put_lacks words ws b (nonzero_len words) (omega (arith, grown fo el (omega (arith, p.own.inside)))))
+        go : Needed op n (take o.count os) last → nonzero_len words ≡ end
+        go (inl el) = by_lt (nonzero_len words) end (λ c. absurd (lost el (end - 1) (omega arith) (omega arith))) (λ c. omega (arith, holds))
+        go (inr e) = absurd (omega (arith, e.1))
 
-  short : nonzero_len (take o.count os) ≤ o.count
-  short = omega (arith, nonzero_le (take o.count os), length-take-le o.count os p.other.inside)
+    pub fewest_done : (r : ℕ) (ws' : List ℕ) → end ≤ length ws
+        → Put (λ k. get_or (words_by op (take n ws) (take last os)) k 0) 0 (max n end) ws ws' → r ≡ nonzero_len (take end ws')
+        → Changes (beside os o (combining op)) ws b (Ok (with_count b r)) ws'
+    fewest_done r ws' h q e =
+        subst (λ (x : ℕ). Changes (beside os o (combining op)) ws b (Ok (with_count b x)) ws')
+        (sym (count r ws' (made_put q) (omega arith) h e))
+        (fewest_changes
+        (put_leaves words ws b (nonzero_len words) (max n end) ws' (by_fit op (take n ws) (take o.count os)) (omega arith) (omega (arith, holds)) used (made_put q)))
+      where
+        used : max n end ≡ max n (nonzero_len words)
+        used = by_lt n end (λ l. ap (max n) (sym (grown l))) (λ l. omega (arith, holds))
 
-  pub and_done : (end r : ℕ) (ws' : List ℕ) → end ≡ min n o.count → Put (λ k. get_or (made_words And ws b os o) k 0) 0 (max n end) ws ws' → r ≡ nonzero_len (take end ws')
-      → Changes (beside os o (combining And)) ws b (Done (with_count b r)) ws'
-  and_done end r ws' ee = fewest_done And o.count end (omega arith) short ee r ws' (λ l. absurd (omega arith)) (omega (arith, p.own.inside))
-
-  pub andnot_done : (r : ℕ) (ws' : List ℕ) → Put (λ k. get_or (made_words AndNot ws b os o) k 0) 0 (max n n) ws ws' → r ≡ nonzero_len (take n ws')
-      → Changes (beside os o (combining AndNot)) ws b (Done (with_count b r)) ws'
-  andnot_done r ws' = fewest_done AndNot o.count n (omega arith) short refl r ws' (λ l. absurd (omega arith)) p.own.inside
-
-  module _ (fo : Fit os) (last end : ℕ) (el : last ≡ nonzero_len (take o.count os)) (ee : end ≡ max n last) where
-    pub xor-refused : length ws < end → Changes (beside os o (combining Xor)) ws b (Refused NoSpace b) ws
-    xor-refused = fewest_refused Xor last end (omega (arith, short)) (omega arith) ee fo el
-
-    pub xor_done : (r : ℕ) (ws' : List ℕ) → end ≤ length ws → Put (λ k. get_or (words_by Xor (take n ws) (take last os)) k 0) 0 (max n end) ws ws'
-        → r ≡ nonzero_len (take end ws') → Changes (beside os o (combining Xor)) ws b (Done (with_count b r)) ws'
-    xor_done r ws' = fewest_done Xor last end (omega (arith, short)) (omega arith) ee r ws' (grown Xor last end (omega (arith, short)) (omega arith) ee fo el)
-
-    pub xor-front : last ≤ length os
-    xor-front = omega (arith, short, p.other.inside)
+    pub fewest_refused : length ws < end → Changes (beside os o (combining op)) ws b (refusing b NoSpace) ws
+    fewest_refused h = fewest_changes (put_lacks words ws b (nonzero_len words) (omega (arith, grown (omega (arith, p.own.inside)))))
 
   -- `or`
   module _ (end : ℕ) (ee : end ≡ max n o.count) where
@@ -175,10 +179,10 @@ module _ (ws os : List ℕ) (b o : Bitmap) (p : PassedTwo ws b os o) where
     unfolding uniting
     union-changes = comes_to uniting (view (made_words Or ws b os o) end) (ap (within (length ws)) (all_words_lem Or ws b os o p end ee))
 
-    pub union-refused : length ws < end → Changes (beside os o uniting) ws b (Refused NoSpace b) ws
+    pub union-refused : length ws < end → Changes (beside os o uniting) ws b (refusing b NoSpace) ws
     union-refused h = union-changes (put_lacks (made_words Or ws b os o) ws b end h)
 
     pub union_done : (ws' : List ℕ) → end ≤ length ws → Put (λ k. get_or (made_words Or ws b os o) k 0) 0 (max n end) ws ws'
-        → Changes (beside os o uniting) ws b (Done (with_count b end)) ws'
+        → Changes (beside os o uniting) ws b (Ok (with_count b end)) ws'
     union_done ws' h q =
         union-changes (put_leaves (made_words Or ws b os o) ws b end (max n end) ws' (by_fit Or (take n ws) (take o.count os)) (all_hold Or ws b os o p end ee) h (omega arith) q)

@@ -3,7 +3,8 @@
 // Every call refuses for its own store and then for the other's.
 #![tactic(auto)]
 
-ghost use Rattle.std.specs.Prelude.{◌≡◌, ◌≤◌, max, length, get_or, take};
+ghost use Rattle.std.specs.Prelude.{◌≡◌, ◌≤◌, ◌⊎◌, max, length, get_or, take};
+ghost use Rattle.arch.specs.Scans.{nonzero_len};
 ghost use Rattle.pairs.specs.Pairs.{word_by, words_by, end_by};
 ghost use Rattle.pairs.specs.declared.SetOp.TheVariants.{And, AndNot, Xor};
 ghost use Rattle.storage.specs.Stores.{beside, Changes};
@@ -11,18 +12,16 @@ ghost use Rattle.storage.specs.Kernels.{Put};
 ghost use Rattle.setops.specs.Setops.{combining, uniting};
 
 use pairs::SetOp;
-use storage::{Bitmap, Change, Guard, Refusal};
+use storage::{Bitmap, Refusal, Refused};
 
 // The operation on the words below e.
 fn zip_words(op: SetOp, words: &mut [u64], other: &[u64], e: usize)
     requires { (e ≤ length words.old) × (e ≤ length other.now) }
     ensures { Put (λ k. word_by op (get_or words.old k 0) (get_or other.now k 0)) 0 e words.old words.new }
 {
-    let mut k = 0;
-    while k < e {
-        let x = words[k];
-        words[k] = op.word(x, other[k]);
-        k += 1;
+    // A `zip` of `iter_mut` tells the proof nothing of the words that it leaves.
+    for k in 0..e {
+        words[k] = op.word(words[k], other[k]);
     }
 }
 
@@ -33,81 +32,74 @@ fn put(op: SetOp, words: &mut [u64], n: usize, other: &[u64], end: usize)
         words.old words.new }
 {
     storage::zero_words(words, n, end);
-    zip_words(op, words, other, word::min(end, other.len()));
+    zip_words(op, words, other, end.min(other.len()));
     storage::zero_words(words, end, n);
 }
 
-// The members of both bitmaps, in place; drops trailing zero words.
-pub fn and(words: &mut [u64], b: Bitmap, other: &[u64], o: Bitmap) -> Change
-    ensures { Changes (beside other.now o (combining And)) words.old b result words.new }
+// How many of the other's words an operation on n words needs: zero words at the other's end need no space, and are looked for only where n is too little.
+fn needed(op: SetOp, n: usize, other: &[u64]) -> usize
+    ensures { (result ≡ nonzero_len other.now) ⊎ ((result ≡ length other.now) × (end_by op n result ≤ n)) }
 {
-    let n = b.count;
-    let m = o.count;
-    match storage::check_two(words, b, other, o) {
-        Guard::Stop(e) => return Change::Refused(e, b),
-        Guard::Pass => {}
+    if pairs::end_of(op, n, other.len()) <= n {
+        return other.len();
     }
-    let end = word::min(n, m);
-    put(SetOp::And, words, n, &other[..m], end);
-    Change::Done(Bitmap {
+    arch::nonzero_len(other)
+}
+
+// The members that the operation makes of the two bitmaps, in place; drops trailing zero words. It is taken into each call, where the operation is known.
+#[inline(always)]
+fn combine_in_place(
+    op: SetOp,
+    words: &mut [u64],
+    b: Bitmap,
+    other: &[u64],
+    o: Bitmap,
+) -> Result<Bitmap, Refused>
+    ensures { Changes (beside other.now o (combining op)) words.old b result words.new }
+{
+    storage::check_two(words, b, other, o)?;
+    let last = needed(op, b.count, &other[..o.count]);
+    let end = pairs::end_of(op, b.count, last);
+    if end > words.len() {
+        return Err(Refused(Refusal::NoSpace, b));
+    }
+    put(op, words, b.count, &other[..last], end);
+    Ok(Bitmap {
         count: arch::nonzero_len(&words[..end]),
         ..b
     })
+}
+
+// The members of both bitmaps, in place; drops trailing zero words.
+pub fn and(words: &mut [u64], b: Bitmap, other: &[u64], o: Bitmap) -> Result<Bitmap, Refused>
+    ensures { Changes (beside other.now o (combining And)) words.old b result words.new }
+{
+    combine_in_place(SetOp::And, words, b, other, o)
 }
 
 // The members of the first bitmap that are not in the second, in place; drops trailing zero words.
-pub fn andnot(words: &mut [u64], b: Bitmap, other: &[u64], o: Bitmap) -> Change
+pub fn andnot(words: &mut [u64], b: Bitmap, other: &[u64], o: Bitmap) -> Result<Bitmap, Refused>
     ensures { Changes (beside other.now o (combining AndNot)) words.old b result words.new }
 {
-    let n = b.count;
-    let m = o.count;
-    match storage::check_two(words, b, other, o) {
-        Guard::Stop(e) => return Change::Refused(e, b),
-        Guard::Pass => {}
-    }
-    put(SetOp::AndNot, words, n, &other[..m], n);
-    Change::Done(Bitmap {
-        count: arch::nonzero_len(&words[..n]),
-        ..b
-    })
+    combine_in_place(SetOp::AndNot, words, b, other, o)
 }
 
-// The members of either bitmap, in place; grows to the longer and drops nothing.
-pub fn or(words: &mut [u64], b: Bitmap, other: &[u64], o: Bitmap) -> Change
+// The members of either bitmap, in place; grows to the longer and drops nothing, so it shares `put` alone with the others.
+pub fn or(words: &mut [u64], b: Bitmap, other: &[u64], o: Bitmap) -> Result<Bitmap, Refused>
     ensures { Changes (beside other.now o uniting) words.old b result words.new }
 {
-    let n = b.count;
-    let m = o.count;
-    match storage::check_two(words, b, other, o) {
-        Guard::Stop(e) => return Change::Refused(e, b),
-        Guard::Pass => {}
-    }
-    let end = word::max(n, m);
+    storage::check_two(words, b, other, o)?;
+    let end = b.count.max(o.count);
     if end > words.len() {
-        return Change::Refused(Refusal::NoSpace, b);
+        return Err(Refused(Refusal::NoSpace, b));
     }
-    put(SetOp::Or, words, n, &other[..m], end);
-    Change::Done(Bitmap { count: end, ..b })
+    put(SetOp::Or, words, b.count, &other[..o.count], end);
+    Ok(Bitmap { count: end, ..b })
 }
 
 // The members of one bitmap only, in place; drops trailing zero words. Zero words at the other's end need no space.
-pub fn xor(words: &mut [u64], b: Bitmap, other: &[u64], o: Bitmap) -> Change
+pub fn xor(words: &mut [u64], b: Bitmap, other: &[u64], o: Bitmap) -> Result<Bitmap, Refused>
     ensures { Changes (beside other.now o (combining Xor)) words.old b result words.new }
 {
-    let n = b.count;
-    let m = o.count;
-    match storage::check_two(words, b, other, o) {
-        Guard::Stop(e) => return Change::Refused(e, b),
-        Guard::Pass => {}
-    }
-    let last = arch::nonzero_len(&other[..m]);
-    let end = word::max(n, last);
-    if end > words.len() {
-        return Change::Refused(Refusal::NoSpace, b);
-    }
-    put(SetOp::Xor, words, n, &other[..last], end);
-    Change::Done(Bitmap {
-        count: arch::nonzero_len(&words[..end]),
-        ..b
-    })
+    combine_in_place(SetOp::Xor, words, b, other, o)
 }

@@ -2,30 +2,30 @@
 use mathlib.Core.Path.{◌≡◌, refl, sym, ap, ap₂, ◌∙◌, subst}
 use mathlib.Core.Bool.{Bool, false, ◌&&◌, ◌||◌}
 use mathlib.Core.List.{List, ◌++◌}
-use Prim.Native.Nat.{ℕ, ◌+◌, ◌-◌, ◌*◌, ◌/◌, ◌%◌, ◌^◌, ◌≤◌, ◌<◌, max}
+use Prim.Native.Nat.{ℕ, ◌+◌, ◌-◌, ◌*◌, ◌/◌, ◌%◌, ◌^◌, ◌≤◌, ◌<◌, min, max}
 use native.Mathlib.Omega.{arith}
-use lib.ListN.{length, get_or, set, take, drop, length-set}
-use lib.Seq.{get_or-set_other}
+use lib.ListN.{length, get_or, take, drop}
+use lib.Seq.{get_or-take, length-take-le}
 use lib.Dec.{leb, ltb}
 use borrow.Author.Tests.{lt-ltb, le-ltb, le-leb, lt-leb}
 use Rattle.word.specs.Sets.{choose}
 use Rattle.word.specs.Places.{bit, words_of}
-use Rattle.word.proofs.Cases.{by_lt, by_eq, or-false}
+use Rattle.word.proofs.Cases.{by_lt, or-false}
 use Rattle.word.proofs.Lists.{Fit}
-use Rattle.word.proofs.Sweep.{get_d_set}
+use Rattle.word.proofs.Sweep.{Swept, part_swept}
 use Rattle.arch.specs.Scans.{nonzero_len, filled}
 use Rattle.storage.specs.Stores.{Bits, with_count, view, held, beside, words_for, zeroed, Changes}
 use Rattle.storage.specs.Guards.{Passed}
 use Rattle.storage.specs.declared.Bitmap.{Bitmap}
 use Rattle.storage.specs.declared.Refusal.TheVariants.{NoSpace}
-use Rattle.storage.specs.declared.Change.TheVariants.{Done, Refused}
 use Rattle.storage.proofs.Checks.{beside_ok, within_ok, within_no}
 use Rattle.storage.proofs.Views.{view-count, view_in, view_out, view-whole}
 use Rattle.storage.proofs.Stores.{Stored, changes_done, changes-refused}
 use Rattle.storage.proofs.Grown.{grown_members, grown-part, part-trimmed, part-trimmed-length}
 use Rattle.shifts.specs.Shifts.{moved_up}
 use Rattle.shapes.specs.Shapes.{cut_at, truncated, truncating, resizing, joined, appending}
-use Rattle.shape.specs.Kernels.{Copied}
+use Rattle.storage.specs.Refusals.{refusing}
+use Rattle.std.specs.Prelude.{Ok}
 
 -- what is cleared from k on, below e, of the numbers below e
 cut_at_lem : (k e i : ℕ) (t : Bool) → i < e → choose (leb k i && ltb i e) false t ≡ ltb i k && t
@@ -56,14 +56,14 @@ module _ (ws : List ℕ) (b : Bitmap) (k : ℕ) (f : Fit ws) (p : Passed ws b) w
       part-trimmed-length ws part b.count g (cut_at k (held ws b)) f p.inside (is part ep) (view-count ws b.count) (λ i l. cut_at_lem k (64 * b.count) i ((held ws b).members i) l)
 
   pub truncate_changes : (part : List ℕ) (r : ℕ) → part ≡ filled k (64 * b.count) false (take b.count ws)
-      → r ≡ nonzero_len (take b.count (part ++ drop b.count ws)) → Changes (truncating k) ws b (Done (with_count b r)) (part ++ drop b.count ws)
+      → r ≡ nonzero_len (take b.count (part ++ drop b.count ws)) → Changes (truncating k) ws b (Ok (with_count b r)) (part ++ drop b.count ws)
   unfolding truncating
   truncate_changes part r ep er =
       changes_done (truncating k) ws b (part ++ drop b.count ws) (truncated k (held ws b)) r p refl (truncate_stored part ep) (er ∙ truncate_count part ep)
 
   -- ---- resized
 
-  need_is : k / 64 + (k % 64 + 63) / 64 ≡ words_for k
+  need_is : k / 64 + min 1 (k % 64) ≡ words_for k
   unfolding words_for
   need_is = omega arith
 
@@ -71,12 +71,12 @@ module _ (ws : List ℕ) (b : Bitmap) (k : ℕ) (f : Fit ws) (p : Passed ws b) w
   unfolding words_for
   low i l = omega arith
 
-  pub resize_refused : length ws < k / 64 + (k % 64 + 63) / 64 → Changes (resizing k) ws b (Refused NoSpace b) ws
+  pub resize_refused : (need : ℕ) → need ≡ k / 64 + min 1 (k % 64) → length ws < need → Changes (resizing k) ws b (refusing b NoSpace) ws
   unfolding resizing
-  resize_refused h = changes-refused (resizing k) ws b NoSpace p (within_no (length ws) _ (omega (arith, need_is)))
+  resize_refused need en h = changes-refused (resizing k) ws b NoSpace p (within_no (length ws) _ (omega (arith, need_is)))
 
-  pub resize_changes : (need m : ℕ) (z part : List ℕ) → need ≡ k / 64 + (k % 64 + 63) / 64 → need ≤ length ws → z ≡ zeroed b.count need ws → m ≡ max b.count need
-      → part ≡ filled k (64 * m) false (take m z) → Changes (resizing k) ws b (Done (with_count b need)) (part ++ drop m z)
+  pub resize_changes : (need m : ℕ) (z part : List ℕ) → need ≡ k / 64 + min 1 (k % 64) → need ≤ length ws → z ≡ zeroed b.count need ws → m ≡ max b.count need
+      → part ≡ filled k (64 * m) false (take m z) → Changes (resizing k) ws b (Ok (with_count b need)) (part ++ drop m z)
   unfolding resizing filled
   resize_changes need m z part en h ez em ep =
       changes_done (resizing k) ws b (part ++ drop m z) s need p (within_ok (length ws) s (omega (arith, need_is)))
@@ -104,16 +104,17 @@ module _ (ws os : List ℕ) (b o : Bitmap) (f : Fit ws) (fo : Fit os) (p : Passe
   count : (held ws b).count + (held os o).count ≡ b.count + o.count
   count = ap₂ (λ (x y : ℕ). x + y) (view-count ws b.count) (view-count os o.count)
 
-  pub append-refused : length ws < b.count + o.count → Changes (beside os o appending) ws b (Refused NoSpace b) ws
+  pub append-refused : length ws < b.count + o.count → Changes (beside os o appending) ws b (refusing b NoSpace) ws
   unfolding appending both
   append-refused h =
       changes-refused (beside os o appending) ws b NoSpace p
       (beside_ok os o appending (length ws) (held ws b) q ∙ within_no (length ws) both (omega (arith, count)))
 
-  pub append-changes : (r : ℕ) (ws' : List ℕ) → b.count + o.count ≤ length ws → Copied ws b.count os o.count ws' → r ≡ b.count + o.count
-      → Changes (beside os o appending) ws b (Done (with_count b r)) ws'
+  pub append-changes : (r : ℕ) (part : List ℕ) → b.count + o.count ≤ length ws → part ≡ take o.count os → r ≡ b.count + o.count
+      → Changes (beside os o appending) ws b (Ok (with_count b r))
+      (take b.count ws ++ (part ++ drop (b.count + o.count - b.count) (drop b.count ws)))
   unfolding appending both moved_up
-  append-changes r ws' h s er =
+  append-changes r part h ep er =
       changes_done (beside os o appending) ws b ws' both r p
       (beside_ok os o appending (length ws) (view ws n) q ∙ within_ok (length ws) both (omega (arith, count)))
       (record {
@@ -121,7 +122,7 @@ module _ (ws os : List ℕ) (b o : Bitmap) (f : Fit ws) (fo : Fit os) (p : Passe
         fits = λ k a.
             by_lt k n
             (λ c. subst (λ (x : ℕ). x < 2 ^ 64) (sym (s.below k c)) (f k))
-            (λ c. subst (λ (x : ℕ). get_or ws' x 0 < 2 ^ 64) (omega arith) (subst (λ (x : ℕ). x < 2 ^ 64) (sym (s.inside (k - n) (omega (arith, count)))) (fo (k - n))));
+            (λ c. subst (λ (x : ℕ). x < 2 ^ 64) (sym (second k c (omega (arith, count)))) (fo (k - n)));
         used = λ k j a l.
             by_lt k n
             (λ c.
@@ -130,7 +131,7 @@ module _ (ws os : List ℕ) (b o : Bitmap) (f : Fit ws) (fo : Fit os) (p : Passe
             (lt-leb (64 * (view ws n).count) (64 * k + j) (omega (arith, view-count ws n)))
             ∙ or-false ((view ws n).members (64 * k + j))))
             (λ c.
-            ap (λ (x : ℕ). bit (get_or ws' x 0) j) (omega arith) ∙ ap (λ (x : ℕ). bit x j) (s.inside (k - n) (omega (arith, count)))
+            ap (λ (x : ℕ). bit x j) (second k c (omega (arith, count)))
             ∙ sym (view_in os o.count (k - n) j (omega (arith, count)) l)
             ∙ ap (held os o).members (omega (arith, view-count ws n))
             ∙ sym (ap₂ (λ (t u : Bool). t || (u && (held os o).members (64 * k + j - 64 * (view ws n).count))) (view_out ws n (64 * k + j) (omega arith))
@@ -143,21 +144,11 @@ module _ (ws os : List ℕ) (b o : Bitmap) (f : Fit ws) (fo : Fit os) (p : Passe
       n : ℕ
       n = b.count
 
--- ---- what the loop copies
+      ws' : List ℕ
+      ws' = take b.count ws ++ (part ++ drop (b.count + o.count - b.count) (drop b.count ws))
 
-pub copied_none : (ws : List ℕ) (n : ℕ) (os : List ℕ) → Copied ws n os 0 ws
-copied_none ws n os = record { long = refl; inside = λ j l. absurd (omega arith); below = λ k l. refl; above = λ k l. refl }
+      s : Swept ws (λ k. get_or part (k - n) 0) n (n + o.count) ws'
+      s = part_swept ws part n (n + o.count) (omega arith) h (ap length ep ∙ length-take-le o.count os q.inside ∙ omega arith)
 
-pub copied_next : (ws : List ℕ) (n : ℕ) (os : List ℕ) (j : ℕ) (ws' : List ℕ) → Copied ws n os j ws' → n + j < length ws → Copied ws n os (j + 1) (set ws' (n + j) (get_or os j 0))
-copied_next ws n os j ws' c h = record {
-  long = length-set ws' (n + j) (get_or os j 0) ∙ c.long;
-  inside = λ t l.
-      by_eq t j
-      (λ e. get_d_set ws' (n + j) (n + t) (get_or os j 0) (omega (arith, c.long)) (omega arith) ∙ ap (λ (x : ℕ). get_or os x 0) (sym e))
-      (λ e. get_or-set_other ws' (n + j) (n + t) (get_or os j 0) 0 (omega arith) ∙ c.inside t (omega arith));
-  below = λ k l. get_or-set_other ws' (n + j) k (get_or os j 0) 0 (omega arith) ∙ c.below k l;
-  above = λ k l. get_or-set_other ws' (n + j) k (get_or os j 0) 0 (omega arith) ∙ c.above k (omega arith);
-}
-
-pub copied_to : (ws : List ℕ) (n : ℕ) (os : List ℕ) (j m : ℕ) (ws' : List ℕ) → Copied ws n os j ws' → j ≤ m → m ≤ j → Copied ws n os m ws'
-copied_to ws n os j m ws' c p q = record { long = c.long; inside = λ t l. c.inside t (omega arith); below = c.below; above = λ k l. c.above k (omega arith) }
+      second : (k : ℕ) → n ≤ k → k < n + o.count → get_or ws' k 0 ≡ get_or os (k - n) 0
+      second k c l = s.fresh k c l ∙ ap (λ (y : List ℕ). get_or y (k - n) 0) ep ∙ get_or-take o.count os (k - n) 0 (omega arith)

@@ -14,7 +14,6 @@ use Rattle.storage.specs.Stores.{with_count, view, held, flipped, zeroed, Change
 use Rattle.storage.specs.Guards.{Passed}
 use Rattle.storage.specs.declared.Bitmap.{Bitmap}
 use Rattle.storage.specs.declared.Refusal.TheVariants.{IndexOver, NoSpace}
-use Rattle.storage.specs.declared.Change.TheVariants.{Done, Refused}
 use Rattle.storage.proofs.Checks.{within_ok, within_no}
 use Rattle.storage.proofs.Views.{view-count}
 use Rattle.storage.proofs.Stores.{changes_done, changes-refused, keeps_changes}
@@ -22,16 +21,18 @@ use Rattle.storage.proofs.Grown.{grown_long, grown_fit, grown-kept, grown-at, fl
 use Rattle.shapes.specs.Shapes.{toggling, toggling_region}
 use Rattle.shape.specs.Kernels.{Flipped}
 use Rattle.shapes.proofs.Cases.{flipped_region, region_none, region-over, region-put}
+use Rattle.storage.specs.Refusals.{refusing}
+use Rattle.std.specs.Prelude.{Ok}
 
 -- ---- `toggle`
 
 module _ (ws : List ℕ) (b : Bitmap) (i : ℕ) (f : Fit ws) (p : Passed ws b) where
-  pub toggle-refused : length ws ≤ i / 64 → Changes (toggling i) ws b (Refused NoSpace b) ws
+  pub toggle-refused : length ws ≤ i / 64 → Changes (toggling i) ws b (refusing b NoSpace) ws
   unfolding toggling
   toggle-refused h = changes-refused (toggling i) ws b NoSpace p (within_no (length ws) _ (omega arith))
 
   pub toggle-changes : (z : List ℕ) (x r : ℕ) → i / 64 < length ws → z ≡ zeroed b.count (i / 64 + 1) ws → x ≡ single 64 (i % 64) → r ≡ max b.count (i / 64 + 1)
-      → Changes (toggling i) ws b (Done (with_count b r)) (set z (i / 64) (bit_xor (get_or z (i / 64) 0) x))
+      → Changes (toggling i) ws b (Ok (with_count b r)) (set z (i / 64) (bit_xor (get_or z (i / 64) 0) x))
   unfolding toggling
   toggle-changes z x r h ez ex er =
       changes_done (toggling i) ws b (set z (i / 64) (bit_xor (get_or z (i / 64) 0) x)) (flipped i (view ws n)) r p
@@ -44,23 +45,23 @@ module _ (ws : List ℕ) (b : Bitmap) (i : ℕ) (f : Fit ws) (p : Passed ws b) w
 -- ---- `toggle_region`
 
 module _ (ws : List ℕ) (b : Bitmap) (i k : ℕ) (f : Fit ws) (p : Passed ws b) where
-  pub region-nothing : k ≡ 0 → Changes (toggling_region i k) ws b (Done b) ws
+  pub region-nothing : k ≡ 0 → Changes (toggling_region i k) ws b (Ok b) ws
   region-nothing e = keeps_changes (toggling_region i k) ws b f p (region_none i k (length ws) (held ws b) e)
 
-  pub region_index_over : (k ≡ 0 → ⊥) → 2 ^ 64 < i + k → Changes (toggling_region i k) ws b (Refused IndexOver b) ws
+  pub region_index_over : (k ≡ 0 → ⊥) → 2 ^ 64 < i + k → Changes (toggling_region i k) ws b (refusing b IndexOver) ws
   region_index_over n h = changes-refused (toggling_region i k) ws b IndexOver p (region-over i k (length ws) (held ws b) n h)
 
   module _ (last : ℕ) (some : k ≡ 0 → ⊥) (e : last + 1 ≡ i + k) (low : last < 2 ^ 64) where
     word : (i + k - 1) / 64 ≡ last / 64
     word = ap (λ (x : ℕ). x / 64) (omega arith)
 
-    pub region_no_space : length ws ≤ last / 64 → Changes (toggling_region i k) ws b (Refused NoSpace b) ws
+    pub region_no_space : length ws ≤ last / 64 → Changes (toggling_region i k) ws b (refusing b NoSpace) ws
     region_no_space h =
         changes-refused (toggling_region i k) ws b NoSpace p
         (region-put i k (length ws) (held ws b) some (omega arith) ∙ within_no (length ws) (flipped_region i k (held ws b)) (omega (arith, word)))
 
     pub region-flipped : (z ws' : List ℕ) (r : ℕ) → last / 64 < length ws → z ≡ zeroed b.count (last / 64 + 1) ws → Flipped i (last + 1) z ws'
-        → r ≡ max b.count (last / 64 + 1) → Changes (toggling_region i k) ws b (Done (with_count b r)) ws'
+        → r ≡ max b.count (last / 64 + 1) → Changes (toggling_region i k) ws b (Ok (with_count b r)) ws'
     region-flipped z ws' r h ez s er =
         changes_done (toggling_region i k) ws b ws' (flipped_region i k (view ws n)) r p
         (region-put i k (length ws) (view ws n) some (omega arith)

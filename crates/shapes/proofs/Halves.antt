@@ -6,7 +6,7 @@ use Prim.Native.Nat.{ℕ, ◌<◌}
 use native.Mathlib.Omega.{arith}
 use lib.ListN.{length}
 use Rattle.word.proofs.Cases.{by_lt}
-use Rattle.storage.specs.Refusals.{number_of}
+use Rattle.storage.specs.Refusals.{number_of, refusing}
 use Rattle.storage.specs.Stores.{Bits, Bounded, Outcome, refused, done, no_words, space_of, checked, held, within, store, and_then}
 use Rattle.storage.specs.Guards.{Passed}
 use Rattle.storage.specs.Promises.{Guarded}
@@ -17,10 +17,8 @@ use Rattle.storage.proofs.Checks.{within_ok, within_no}
 use Rattle.storage.proofs.Outcomes.{by_outcome}
 use Rattle.storage.proofs.Views.{view-count, bounded_view}
 use Rattle.storage.proofs.Promises.{guarded, stored}
-use Rattle.shapes.specs.Shapes.{lowered, truncated, tail_outcome, head_outcome, split_answer, split_number, split_head, split_tail}
+use Rattle.shapes.specs.Shapes.{lowered, truncated, tail_outcome, head_outcome, split_answer, split_number, split_head, split_tail, Split}
 use Rattle.shapes.specs.Promises.{LoweredBy, TruncatedTo, SplitKept, Halves, SplitMeans, SplitOffMeans, SplitKeeps}
-use Rattle.shapes.specs.declared.Split.{Split}
-use Rattle.shapes.specs.declared.Split.TheVariants.{Refused}
 use Rattle.shapes.proofs.Promises.{lowers_by, bounded_lowered, truncates_to, bounded_truncated}
 
 module _ (at : ℕ) (ws : List ℕ) (b : Bitmap) (ts : List ℕ) where
@@ -93,5 +91,5 @@ split_keeps at ws b ts r ws' ts' s p =
     by_outcome (tail_outcome at ws b ts)
     (λ t q. absurd (omega (arith, ap split_number s.answers, ap (λ (o : Outcome). split_number (answered at ws b ts o)) q)))
     (λ e q.
-    let a : r ≡ Refused e b = s.answers ∙ ap (answered at ws b ts) q in
+    let a : r ≡ refusing b e = s.answers ∙ ap (answered at ws b ts) q in
     (ap split_head a, ap split_tail a, s.head ∙ ap (first at ws b ts) q, s.tail ∙ ap (second at ws b ts) q))

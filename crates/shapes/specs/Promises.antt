@@ -3,8 +3,7 @@ use Rattle.std.specs.Prelude.{ℕ, suc, ◌+◌, ◌-◌, ◌*◌, ◌/◌, ◌^
 use Rattle.storage.specs.Stores.{Bits, Bounded, Space, no_words, space_of, held}
 use Rattle.storage.specs.Promises.{LeastCount, GuardedBoth, Meets, Unchanged, Never, Lacks, Kept, Made, MeetsExactly}
 use Rattle.storage.specs.declared.Bitmap.{Bitmap}
-use Rattle.shapes.specs.Shapes.{toggling, toggling_region, raising, lowering, truncating, resizing, appending, split_number, split_head, split_tail, Splits}
-use Rattle.shapes.specs.declared.Split.{Split}
+use Rattle.shapes.specs.Shapes.{toggling, toggling_region, raising, lowering, truncating, resizing, appending, split_number, split_head, split_tail, Split, Splits}
 
 -- k > 0 numbers, those from i on, below i + k, flip and no others; the words reach to the last
 pub record FlippedFrom (i k : ℕ) (b s : Bits) : Type 0 where

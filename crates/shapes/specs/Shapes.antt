@@ -1,13 +1,12 @@
 -- The calls of shape.rs, on sets and counts (01, "Words that enter and leave use"). Shifts here are `Bitmap`'s.
-use Rattle.std.specs.Prelude.{ℕ, ◌+◌, ◌-◌, ◌*◌, max, ◌≡◌, ◌&&◌, ◌||◌, List, ltb, eqb}
+use Rattle.std.specs.Prelude.{ℕ, ◌+◌, ◌-◌, ◌*◌, max, ◌≡◌, ◌&&◌, ◌||◌, Result, Ok, Err, List, ltb, eqb}
 use Rattle.word.specs.Sets.{choose, xorb, top_below}
-use Rattle.storage.specs.Refusals.{number_of}
+use Rattle.storage.specs.Refusals.{number_of, refusing}
 use Rattle.storage.specs.Stores.{Bits, Outcome, refused, done, Op, with_count, no_words, space_of, checked, view, held, within, up_to, flipped, in_region, passes, words_for, trimmed, store, and_then}
 use Rattle.storage.specs.declared.Bitmap.{Bitmap}
 use Rattle.storage.specs.declared.Refusal.TheVariants.{IndexOver}
+use Rattle.storage.specs.declared.Refused.{Refused}
 use Rattle.shifts.specs.Shifts.{moved_up, moved_down}
-use Rattle.shapes.specs.declared.Split.{Split}
-use Rattle.shapes.specs.declared.Split.TheVariants.{Done, Refused}
 
 -- one past the greatest member; 0 where there is none
 abbrev pub top_of : Bits → ℕ
@@ -69,23 +68,27 @@ unfoldable pub head_outcome : ℕ → List ℕ → Bitmap → List ℕ → Outco
 unfolding tail_outcome truncated and_then view
 head_outcome at ws b ts = and_then (tail_outcome at ws b ts) (λ t. done (truncated at (held ws b)))
 
+-- what `split_off` answers: the records of head and tail, or why not and the old record
+abbrev pub Split : Type 0
+Split = Result (Bitmap × Bitmap) Refused
+
 unfoldable pub split_answer : Outcome → Outcome → Bitmap → Split
-split_answer (refused e) t b = Refused e b
-split_answer (done h) (refused e) b = Refused e b
-split_answer (done h) (done t) b = Done (with_count b h.count) (with_count no_words t.count)
+split_answer (refused e) t b = refusing b e
+split_answer (done h) (refused e) b = refusing b e
+split_answer (done h) (done t) b = Ok (with_count b h.count, with_count no_words t.count)
 
 -- of an answer its number, 0 for done, the head's record and the tail's count, 0 where it is refused
 abbrev pub split_number : Split → ℕ
-split_number (Done h t) = 0
-split_number (Refused e b) = number_of e
+split_number (Ok halves) = 0
+split_number (Err r) = number_of r.0
 
 abbrev pub split_head : Split → Bitmap
-split_head (Done h t) = h
-split_head (Refused e b) = b
+split_head (Ok halves) = halves.0
+split_head (Err r) = r.1
 
 abbrev pub split_tail : Split → ℕ
-split_tail (Done h t) = t.count
-split_tail (Refused e b) = 0
+split_tail (Ok halves) = halves.1.count
+split_tail (Err r) = 0
 
 -- a call that splits the bitmap b of the store ws at a bit: it answers r, leaves ws' and puts the tail into ts, which becomes ts'
 pub record Splits (at : ℕ) (ws : List ℕ) (b : Bitmap) (ts : List ℕ) (r : Split) (ws' ts' : List ℕ) : Type 0 where

@@ -32,12 +32,12 @@ use Rattle.editions.specs.Meaning.{AtRecord, Newer, Fails, Applies, not-sheet, u
 use Rattle.sheet.specs.Paper.{IsEdition}
 use Rattle.sheet.specs.Reads.{edition_of, latest, is_edition, fitting, Course, stopped, went, course, read_answer, read_store, Reads, reading_number, reading_record, reading_count}
 use Rattle.sheet.specs.Promises.{Passes, Stops, no_edition, old_stopped, result_stopped, Gets, stops, applies, accepted, NamesNewer, MadeResult, ReadingMeans, ReadsMean, SameAnswer, KeepsMeaning}
-use Rattle.sheet.specs.declared.Reading.{Reading}
 use Rattle.editions.proofs.Turns.{none_some, stop_next, stop_inj, next_inj, take-true, take-false}
 use Rattle.editions.proofs.Exact.{refusal_of, exact}
 use Rattle.editions.proofs.Editions.{any_two}
 use Rattle.sheet.proofs.Payloads.{asks-ranged}
 use Rattle.sheet.proofs.Effects.{KeptIn, effect_kept, step_stops}
+use Rattle.sheet.specs.Reads.{Reading}
 
 -- ---- 14, 1 and 2
 

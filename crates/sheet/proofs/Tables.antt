@@ -12,8 +12,8 @@ use borrow.Author.Tests.{le-leb, lt-leb}
 use Rattle.word.specs.Sets.{choose}
 use Rattle.sheet.specs.Kinds.{Row, table, bytes_in, size_by, size_in, known}
 use Rattle.sheet.specs.declared.Kind.{Kind}
-use Rattle.sheet.specs.declared.Known.{Known}
-use Rattle.sheet.specs.declared.Known.TheVariants.{Bytes, Newer}
+use Rattle.sheet.specs.Kinds.{Known}
+use Rattle.std.specs.Prelude.{Some, None}
 
 -- a fact of each number below a bound, from as many facts
 abbrev pub Below : (ℕ → Type 0) → ℕ → Type 0
@@ -37,7 +37,7 @@ pub zero-kind : (e : ℕ) → size_in e 0 ≡ none
 unfolding size_in
 zero-kind e = refl
 
-pub no_kind : (e k : ℕ) → k ≡ 0 → known (size_in e k) ≡ Newer
+pub no_kind : (e k : ℕ) → k ≡ 0 → known (size_in e k) ≡ None
 no_kind e k z = ap (λ (k : ℕ). known (size_in e k)) z ∙ ap known (zero-kind e)
 
 pub past_kinds : (e k : ℕ) → length table < k → size_in e k ≡ none
@@ -54,7 +54,7 @@ rows =
     kind_at 0 0 ∷ kind_at 4 1 ∷ kind_at 4 1 ∷ kind_at 9 1 ∷ kind_at 13 1 ∷ kind_at 5 1 ∷ kind_at 5 1 ∷ kind_at 5 1 ∷ kind_at 0 1 ∷ kind_at 8 2 ∷ kind_at 8 2 ∷ kind_at 8 2 ∷ []
 
 abbrev pub by_row : ℕ → Kind → Known
-by_row e r = choose (leb r.since e) (Bytes r.bytes) Newer
+by_row e r = choose (leb r.since e) (Some r.bytes) None
 
 -- it is the table of the definition, computed row by row
 abbrev from_rows : List Row → List Kind
@@ -69,7 +69,7 @@ from_row : (e : ℕ) (rs : List Row) (k : ℕ) → k < length rs → by_row e (g
 from_row e [] k l = absurd (omega arith)
 from_row e (r ∷ rs) zero l = by_test (leb r.since e)
   where
-    by_test : (t : Bool) → choose t (Bytes (bytes_in r)) Newer ≡ known (choose t (some (bytes_in r)) none)
+    by_test : (t : Bool) → choose t (Some (bytes_in r)) None ≡ known (choose t (some (bytes_in r)) none)
     by_test true = refl
     by_test false = refl
 from_row e (r ∷ rs) (suc k) l = from_row e rs k (omega arith)
@@ -80,8 +80,8 @@ unfolding size_in
 row_of e zero n l = absurd (n refl)
 row_of e (suc k) n l = ap (λ (ks : List Kind). by_row e (get_or ks (suc k) (kind_at 0 0))) rows_are ∙ from_row e table k (omega arith)
 
-pub row_newer : (e k : ℕ) → (k ≡ 0 → ⊥) → k ≤ length table → e < (get_or rows k (kind_at 0 0)).since → Newer ≡ known (size_in e k)
-row_newer e k n l h = sym (ap (λ (t : Bool). choose t (Bytes (get_or rows k (kind_at 0 0)).bytes) Newer) (lt-leb (get_or rows k (kind_at 0 0)).since e h)) ∙ row_of e k n l
+pub row_newer : (e k : ℕ) → (k ≡ 0 → ⊥) → k ≤ length table → e < (get_or rows k (kind_at 0 0)).since → None ≡ known (size_in e k)
+row_newer e k n l h = sym (ap (λ (t : Bool). choose t (Some (get_or rows k (kind_at 0 0)).bytes) None) (lt-leb (get_or rows k (kind_at 0 0)).since e h)) ∙ row_of e k n l
 
-pub row-bytes : (e k : ℕ) → (k ≡ 0 → ⊥) → k ≤ length table → (get_or rows k (kind_at 0 0)).since ≤ e → Bytes (get_or rows k (kind_at 0 0)).bytes ≡ known (size_in e k)
-row-bytes e k n l h = sym (ap (λ (t : Bool). choose t (Bytes (get_or rows k (kind_at 0 0)).bytes) Newer) (le-leb (get_or rows k (kind_at 0 0)).since e h)) ∙ row_of e k n l
+pub row-bytes : (e k : ℕ) → (k ≡ 0 → ⊥) → k ≤ length table → (get_or rows k (kind_at 0 0)).since ≤ e → Some (get_or rows k (kind_at 0 0)).bytes ≡ known (size_in e k)
+row-bytes e k n l h = sym (ap (λ (t : Bool). choose t (Some (get_or rows k (kind_at 0 0)).bytes) None) (le-leb (get_or rows k (kind_at 0 0)).since e h)) ∙ row_of e k n l

@@ -1,5 +1,5 @@
 -- The kinds of duty records (01, "The change sheet"): the table, what a payload asks for, and how an edit is laid out; both by the row.
-use Rattle.std.specs.Prelude.{ℕ, zero, suc, ◌+◌, ◌*◌, ◌-◌, ◌^◌, ◌/◌, ◌%◌, ◌&&◌, List, [], ◌∷◌, get_or, leb, eqb}
+use Rattle.std.specs.Prelude.{ℕ, zero, suc, ◌+◌, ◌*◌, ◌-◌, ◌^◌, ◌/◌, ◌%◌, ◌&&◌, List, [], ◌∷◌, get_or, leb, eqb, Some, None}
 use Rattle.std.proofs.Math.Option.{Option, none, some}
 use Rattle.std.proofs.Math.ListN.{get_elem?}
 use Rattle.word.specs.Sets.{choose, val}
@@ -8,8 +8,6 @@ use Rattle.storage.specs.Refusals.{number_of}
 use Rattle.storage.specs.declared.Refusal.TheVariants.{NewerKind}
 use Rattle.sheet.specs.Bytes.{number, bytes}
 use Rattle.sheet.specs.Layout.{Field, field, widths, packed, unpacked, in_range, InRange}
-use Rattle.sheet.specs.declared.Known.{Known}
-use Rattle.sheet.specs.declared.Known.TheVariants.{Bytes, Newer}
 use Rattle.sheet.specs.declared.Edit.{Edit}
 use Rattle.sheet.specs.declared.Edit.TheVariants.{Set, Unset, SetRegion, SetField, Shift, Rotate, Resize, Reverse, ToggleRegion, Open, Close}
 
@@ -95,19 +93,22 @@ unfoldable pub size_in : ℕ → ℕ → Option ℕ
 unfolding row_of bytes_in
 size_in edition kind = size_by edition (row_of kind)
 
--- the bytes, where a kind has some
+-- what is answered of a kind: its bytes, where it has some
+abbrev pub Known : Type 0
+Known = Rattle.std.specs.Prelude.Option ℕ
+
 abbrev pub known : Option ℕ → Known
-known none = Newer
-known (some n) = Bytes n
+known none = None
+known (some n) = Some n
 
 -- of that answer its number, 0 for a kind that is known, and its bytes, 0 where it is not
 abbrev pub known_number : Known → ℕ
-known_number (Bytes n) = 0
-known_number Newer = number_of NewerKind
+known_number (Some n) = 0
+known_number None = number_of NewerKind
 
 abbrev pub known_bytes : Known → ℕ
-known_bytes (Bytes n) = n
-known_bytes Newer = 0
+known_bytes (Some n) = n
+known_bytes None = 0
 
 abbrev pub parse_by : Option Row → ℕ → Option Edit
 parse_by none x = none

@@ -21,8 +21,8 @@ use Rattle.editions.specs.Meaning.{Asks, AtRecord, Newer, Applies, Accepted}
 use Rattle.sheet.specs.Reads.{edition_of, fitting, Reads, reading_number, reading_record, reading_count}
 use Rattle.sheet.specs.declared.Edit.{Edit}
 use Rattle.sheet.specs.declared.Edit.TheVariants.{Set, Unset, SetRegion, SetField, Shift, Rotate, Resize, Reverse, ToggleRegion, Open, Close}
-use Rattle.sheet.specs.declared.Known.{Known}
-use Rattle.sheet.specs.declared.Reading.{Reading}
+use Rattle.sheet.specs.Kinds.{Known}
+use Rattle.sheet.specs.Reads.{Reading}
 
 -- what each edit makes of a bitmap, as sets of numbers: direction false is left, true is right; no numbers and no digits change nothing
 abbrev pub Does : Edit → Bits → Bits → Type 0

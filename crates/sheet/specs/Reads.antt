@@ -1,5 +1,5 @@
 -- A reading into a store: what each edit does to a bitmap, what is answered, and what every word of the result store is afterwards.
-use Rattle.std.specs.Prelude.{ℕ, ◌≡◌, Bool, ◌&&◌, List, length, leb}
+use Rattle.std.specs.Prelude.{ℕ, ◌≡◌, Bool, ◌&&◌, List, length, leb, Result, Ok, Err}
 use Rattle.word.specs.Sets.{choose}
 use Rattle.storage.specs.Refusals.{number_of}
 use Rattle.storage.specs.Stores.{Bits, Outcome, refused, done, Space, Op, no_words, with_count, space_of, checked, view, held, written, zeroed}
@@ -14,9 +14,8 @@ use Rattle.gap.specs.Gaps.{opening, closing}
 use Rattle.sheet.specs.Kinds.{size_in, rule_of}
 use Rattle.editions.specs.Reader.{Edition, Turn, stop, next, Answer, refused, done, read}
 use Rattle.sheet.specs.declared.Edit.{Edit}
+use Rattle.sheet.specs.declared.ReadError.{ReadError}
 use Rattle.sheet.specs.declared.Edit.TheVariants.{Set, Unset, SetRegion, SetField, Shift, Rotate, Resize, Reverse, ToggleRegion, Open, Close}
-use Rattle.sheet.specs.declared.Reading.{Reading}
-use Rattle.sheet.specs.declared.Reading.TheVariants.{Done, Refused}
 
 -- what an edit does: the step that its kind names
 unfoldable pub step : Edit → Op
@@ -63,10 +62,14 @@ course n sheet ws b res =
     let answer = went (read (edition_of (space_of res) n) sheet (fitting (space_of res) (held ws b))) in
     choose (is_edition n) (checked ws b stopped (checked res no_words stopped answer)) (stopped NoEdition)
 
+-- what a reading answers: the records read and the new bitmap's record, or why it is refused and its record's number
+abbrev pub Reading : Type 0
+Reading = Result (ℕ × Bitmap) ReadError
+
 abbrev pub read_answer : Course → Reading
-read_answer (stopped e) = Refused e 0
-read_answer (went (refused e k)) = Refused e k
-read_answer (went (done k s)) = Done k (with_count no_words s.count)
+read_answer (stopped e) = Err (e, 0)
+read_answer (went (refused e k)) = Err (e, k)
+read_answer (went (done k s)) = Ok (k, with_count no_words s.count)
 
 -- the result store: all zero where the sheet is refused, else the bitmap's words and zeros past its count
 abbrev pub read_store : Course → List ℕ → List ℕ
@@ -81,13 +84,13 @@ pub record Reads (n : ℕ) (sheet ws : List ℕ) (b : Bitmap) (res : List ℕ) (
 
 -- of an answer its number, 0 for done, its record, and the word count, 0 where it is refused
 abbrev pub reading_number : Reading → ℕ
-reading_number (Done k b) = 0
-reading_number (Refused e k) = number_of e
+reading_number (Ok (k, b)) = 0
+reading_number (Err e) = number_of e.0
 
 abbrev pub reading_record : Reading → ℕ
-reading_record (Done k b) = k
-reading_record (Refused e k) = k
+reading_record (Ok (k, b)) = k
+reading_record (Err e) = e.1
 
 abbrev pub reading_count : Reading → ℕ
-reading_count (Done k b) = b.count
-reading_count (Refused e k) = 0
+reading_count (Ok (k, b)) = b.count
+reading_count (Err e) = 0

@@ -4,7 +4,7 @@
 ghost use Rattle.std.specs.Prelude.{◌≡◌};
 ghost use Rattle.sheet.specs.Kinds.{size_in, known};
 
-use storage::{Bitmap, Refusal};
+use storage::{Bitmap, Refusal, Refused};
 
 // The first two bytes of a sheet.
 pub const LETTERS: [u8; 2] = *b"NS";
@@ -34,7 +34,7 @@ pub const AT_39: usize = 1 << 39;
 pub const AT_63: usize = 1 << 63;
 
 // A kind of duty record: the bytes of its payload, and the first edition that has it.
-#[derive(Clone, Copy)]
+#[derive(Clone, Copy, Debug, PartialEq, Eq)]
 pub struct Kind {
     pub bytes: usize,
     pub since: usize,
@@ -60,7 +60,7 @@ pub const KINDS: [Kind; 12] = [
 ];
 
 // What a duty record asks for, with the fields of its kind. A direction is true for right.
-#[derive(Clone, Copy)]
+#[derive(Clone, Copy, Debug, PartialEq, Eq)]
 pub enum Edit {
     Set(usize),
     Unset(usize),
@@ -76,7 +76,7 @@ pub enum Edit {
 }
 
 // The fields that an addition is given; a kind uses its own. The flag is the value of `set_region`, or the direction.
-#[derive(Clone, Copy)]
+#[derive(Clone, Copy, Debug, PartialEq, Eq)]
 pub struct Fields {
     pub p: u32,
     pub k: u32,
@@ -86,41 +86,24 @@ pub struct Fields {
     pub size: usize,
 }
 
-// What a reading answers: the records read and the new bitmap's record, or the refusal and its record's number.
-#[derive(Clone, Copy)]
-pub enum Reading {
-    Done(usize, Bitmap),
-    Refused(Refusal, usize),
-}
-
-// What the writer answers: the sheet's length, or the refusal.
-#[derive(Clone, Copy)]
-pub enum Added {
-    Done(usize),
-    Refused(Refusal),
-}
-
-// What an edition knows of a kind: its payload's bytes.
-#[derive(Clone, Copy)]
-pub enum Known {
-    Bytes(usize),
-    Newer,
-}
+// Why a reading is refused, and the number of the record that it came to.
+#[derive(Clone, Copy, Debug, PartialEq, Eq)]
+pub struct ReadError(pub Refusal, pub usize);
 
 // The payload's bytes of a kind, in an edition that has it.
-pub fn payload_bytes(edition: usize, kind: usize) -> Known
+pub fn payload_bytes(edition: usize, kind: usize) -> Option<usize>
     ensures { result ≡ known (size_in edition kind) }
 {
     if kind == 0 {
-        return Known::Newer;
+        return None;
     }
     if kind >= 12 {
-        return Known::Newer;
+        return None;
     }
     let rows = KINDS;
     let row = rows[kind];
     if row.since > edition {
-        return Known::Newer;
+        return None;
     }
-    Known::Bytes(row.bytes)
+    Some(row.bytes)
 }

@@ -1,197 +1,167 @@
 // Writer calls on the buffer: number, length and every byte of it against those of the list, which alone writes a second buffer.
-use crate::scan::LOST;
-use crate::tally::Numbers;
-use crate::{scan, tally};
-use sheet::{Added, Fields};
-use std::io;
+ghost use Rattle.std.specs.Prelude.{◌≤◌};
 
-// The most bytes of a payload that is given, and the most places that a call is to change.
+use crate::scan::Scan;
+use crate::tally::{Case, Part};
+use sheet::Fields;
+use storage::Refusal;
+
+// The most bytes of a buffer and of a payload that is given, and the most places that a call is to change.
+const BUFFER: usize = 200_000;
+
 const PAYLOAD: usize = 65_600;
 
 const CHANGES: u64 = 16;
 
-// The numbers of a line after its part: duty, kind, p, k, flag, width, value and size; then what is right: number, length, and how many places change.
-const DUTY: usize = 95;
-
-const KIND: usize = 96;
-
-const P: usize = 97;
-
-const K: usize = 98;
-
-const FLAG: usize = 99;
-
-const WIDTH: usize = 100;
-
-const VALUE: usize = 101;
-
-const BYTES: usize = 102;
-
-const NUMBER: usize = 103;
-
-const GROWN: usize = 104;
-
-const PLACES: usize = 105;
-
 // Stands for a start, where an addition has its duty.
 const START: u64 = 2;
 
-fn said(a: Added) -> Numbers {
-    match a {
-        Added::Done(length) => Numbers {
-            number: 0,
-            record: 0,
-            count: length as u64,
-        },
-        Added::Refused(e) => Numbers {
-            number: e.number() as u64,
-            record: 0,
-            count: 0,
-        },
-    }
+// A number of document 01, and the length of the sheet.
+#[derive(Clone, Copy, PartialEq)]
+struct Answer {
+    number: u64,
+    length: u64,
 }
 
-// The bytes that a buffer holds at first, from a place on.
-fn fill(out: &mut [u8], from: usize, seed: u64) {
-    for k in from..out.len() {
-        out[k] = (((k % 256 * 3) as u64 + seed % 256) % 256) as u8;
-    }
-}
-
-fn same_bytes(a: &[u8], b: &[u8]) -> bool {
-    if a.len() != b.len() {
-        return false;
-    }
-    for k in 0..a.len() {
-        if a[k] != b[k] {
-            return false;
+impl From<Result<usize, Refusal>> for Answer {
+    fn from(added: Result<usize, Refusal>) -> Answer {
+        match added {
+            Ok(length) => Answer {
+                number: 0,
+                length: length as u64,
+            },
+            Err(why) => Answer {
+                number: u64::from(why.number()),
+                length: 0,
+            },
         }
     }
-    true
+}
+
+// A call as the list has it.
+#[derive(Clone, Copy)]
+enum Call {
+    Start,
+    Add {
+        duty: bool,
+        kind: usize,
+        fields: Fields,
+    },
+}
+
+impl Call {
+    fn read(scan: &mut Scan<'_>) -> Option<Call> {
+        let [duty, kind, p, k, flag, width, value, size] = scan.numbers::<8>()?;
+        if duty == START {
+            return Some(Call::Start);
+        }
+        Some(Call::Add {
+            duty: duty == 1,
+            kind: kind as usize,
+            fields: Fields {
+                p: (p % 4_294_967_296) as u32,
+                k: (k % 4_294_967_296) as u32,
+                flag: flag == 1,
+                width: width as usize,
+                value,
+                size: size as usize,
+            },
+        })
+    }
 }
 
 // The bytes of a buffer: from a place on those of the seed, then its first ones from the list.
-fn filled(s: &[u8], at: usize, counts: &[u64; 170], out: &mut [u8]) -> usize {
-    fill(out, counts[tally::FROM] as usize, counts[tally::SEED]);
-    let first = scan::bytes(s, at, out);
-    first.at
-}
-
-// A buffer: its size and seed, from where on the seed's bytes stand, the length of its sheet, and its first bytes.
-pub(crate) fn lend(s: &[u8], at: usize, memory: &mut [u8], counts: &mut [u64; 170]) -> usize {
-    let p = scan::numbers(s, at, counts, tally::SIZE, tally::CAPACITY);
-    let half = memory.len() / 2;
-    let size = tally::at_most(counts[tally::SIZE], half);
-    filled(s, p, counts, &mut memory[0..size]);
-    filled(s, p, counts, &mut memory[half..half + size])
-}
-
-// A place that a call is to change, and the bytes there.
-fn change(s: &[u8], at: usize, want: &mut [u8]) -> usize {
-    let place = scan::num(s, at);
-    if place.v > want.len() as u64 {
-        return LOST;
+fn filled(scan: &mut Scan<'_>, from: usize, seed: usize, out: &mut [u8]) -> Option<()> {
+    for (k, byte) in out.iter_mut().enumerate().skip(from) {
+        *byte = ((k % 256 * 3 + seed % 256) % 256) as u8;
     }
-    let from = place.v as usize;
-    let b = scan::bytes(s, place.at, &mut want[from..]);
-    b.at
+    scan.bytes(out)?;
+    Some(())
 }
 
-fn changes(s: &[u8], at: usize, n: u64, want: &mut [u8]) -> usize {
-    let mut p = at;
-    if n > CHANGES {
-        return LOST;
+// How many bytes of a buffer are lent, and the length of its sheet.
+#[derive(Clone, Copy)]
+struct Lent {
+    size: usize,
+    length: u64,
+    ghost has_room: { size ≤ 200000 },
+}
+
+// The buffer, and the bytes that it should have.
+#[derive(Drop)]
+pub struct Buffer {
+    bytes: [u8; BUFFER],
+    wanted: [u8; BUFFER],
+    lent: Lent,
+}
+
+impl Buffer {
+    pub fn new() -> Buffer {
+        Buffer {
+            bytes: [0; BUFFER],
+            wanted: [0; BUFFER],
+            lent: Lent { size: 0, length: 0 },
+        }
     }
-    for turn in 0..n {
-        p = change(s, p, want);
+
+    // A buffer: its size and seed, from where on the seed's bytes stand, the length of its sheet, and its first bytes.
+    pub fn lend(&mut self, scan: &mut Scan<'_>) -> Option<()> {
+        let [size, seed, from, length] = scan.numbers::<4>()?;
+        let (size, seed, from) = (size as usize, seed as usize, from as usize);
+        if size > BUFFER {
+            return None;
+        }
+        self.lent = Lent { size, length };
+        let mut again = *scan;
+        filled(&mut again, from, seed, &mut self.wanted[..size])?;
+        filled(scan, from, seed, &mut self.bytes[..size])
     }
-    p
-}
 
-fn fields(counts: &[u64; 170]) -> Fields {
-    Fields {
-        p: (counts[P] % 4_294_967_296) as u32,
-        k: (counts[K] % 4_294_967_296) as u32,
-        flag: counts[FLAG] == 1,
-        width: counts[WIDTH] as usize,
-        value: counts[VALUE],
-        size: counts[BYTES] as usize,
+    // The sheet; none where a writer call was told of a longer one than the buffer.
+    pub fn sheet(&self) -> Option<&[u8]> {
+        self.bytes.get(..self.lent.length as usize)
     }
-}
 
-fn added(counts: &[u64; 170], payload: &[u8], buffer: &mut [u8]) -> Added {
-    let length = counts[tally::LENGTH] as usize;
-    let duty = counts[DUTY] == 1;
-    writer::add(
-        buffer,
-        length,
-        duty,
-        counts[KIND] as usize,
-        fields(counts),
-        payload,
-    )
-}
-
-// The call that the list asks for.
-fn asked(counts: &[u64; 170], payload: &[u8], buffer: &mut [u8]) -> Added {
-    if counts[DUTY] == START {
-        return writer::start(buffer);
+    // The places that a call is to change, and the bytes there.
+    fn change(&mut self, scan: &mut Scan<'_>, places: u64) -> Option<()> {
+        if places > CHANGES {
+            return None;
+        }
+        for _ in 0..places {
+            let place = scan.number()?;
+            scan.bytes(self.wanted[..self.lent.size].get_mut(place as usize..)?)?;
+        }
+        Some(())
     }
-    added(counts, payload, buffer)
-}
 
-// What a call answered and the buffer against what is right.
-fn compared(
-    rt: &impl Print,
-    got: Numbers,
-    memory: &[u8],
-    counts: &mut [u64; 170],
-) -> io::Result<()> {
-    let half = memory.len() / 2;
-    let size = tally::at_most(counts[tally::SIZE], half);
-    let same = same_bytes(&memory[0..size], &memory[half..half + size]);
-    let number = counts[NUMBER];
-    let answer = tally::same(got, number, 0, counts[GROWN]);
-    tally::case(rt, counts, number, answer, same)?;
-    if number == 0 {
-        counts[tally::LENGTH] = counts[GROWN];
+    fn answer(&mut self, call: Call, payload: &[u8]) -> Answer {
+        let Lent { size, length } = self.lent;
+        let buffer = &mut self.bytes[..size];
+        Answer::from(match call {
+            Call::Start => writer::start(buffer),
+            Call::Add { duty, kind, fields } => {
+                writer::add(buffer, length as usize, duty, kind, fields, payload)
+            }
+        })
     }
-    Ok(())
-}
 
-// What the list says of a call: its answer, and the changes, made in the second buffer.
-fn judge(
-    rt: &impl Print,
-    s: &[u8],
-    at: usize,
-    got: Numbers,
-    memory: &mut [u8],
-    counts: &mut [u64; 170],
-) -> io::Result<usize> {
-    let p = scan::numbers(s, at, counts, NUMBER, tally::OLD);
-    let half = memory.len() / 2;
-    let size = tally::at_most(counts[tally::SIZE], half);
-    let after = changes(s, p, counts[PLACES], &mut memory[half..half + size]);
-    if after != LOST {
-        compared(rt, got, memory, counts)?;
+    // A call, and what it answers and leaves against what is right.
+    pub fn call(&mut self, scan: &mut Scan<'_>) -> Option<Case> {
+        let mut payload = [0u8; PAYLOAD];
+        let part = Part::from(scan.number()?);
+        let call = Call::read(scan)?;
+        let n = scan.bytes(&mut payload)?;
+        let [number, length, places] = scan.numbers::<3>()?;
+        self.change(scan, places)?;
+        let same_answer = self.answer(call, &payload[..n]) == Answer { number, length };
+        let same_bytes = self.bytes[..self.lent.size] == self.wanted[..self.lent.size];
+        if number == 0 {
+            self.lent.length = length;
+        }
+        Some(Case {
+            part,
+            number,
+            agrees: same_answer && same_bytes,
+        })
     }
-    Ok(after)
-}
-
-// A start or an addition.
-pub(crate) fn call(
-    rt: &impl Print,
-    s: &[u8],
-    at: usize,
-    memory: &mut [u8],
-    counts: &mut [u64; 170],
-) -> io::Result<usize> {
-    let mut payload: [u8; 65600] = [0; 65600];
-    let p = scan::numbers(s, at, counts, tally::PART, NUMBER);
-    let body = scan::bytes(s, p, &mut payload);
-    let n = tally::at_most(body.v, PAYLOAD);
-    let half = memory.len() / 2;
-    let size = tally::at_most(counts[tally::SIZE], half);
-    let got = said(asked(counts, &payload[0..n], &mut memory[0..size]));
-    judge(rt, s, body.at, got, memory, counts)
 }

@@ -7,101 +7,98 @@ mod readings;
 mod scan;
 mod tally;
 
-use crate::scan::LOST;
+use crate::calls::Buffer;
+use crate::readings::Stores;
+use crate::scan::Scan;
+use crate::tally::{Case, Tally};
 use std::io;
 use std::io::Read;
 
-// The place after a line's end.
-fn line_end(s: &[u8], at: usize) -> usize {
-    scan::past(s, scan::past(s, at, scan::STOP), scan::LINE_END)
+// The bytes that no list has.
+const MOST: usize = 1_048_576;
+
+// What a line tells: a case, what the next ones work on, or the number of the last line.
+#[derive(Clone, Copy)]
+enum Line {
+    Case(Case),
+    Lent,
+    Last(u64),
 }
 
-// The last line: its own number, and nothing after it.
-fn last(s: &[u8], at: usize, counts: &mut [u64; 170]) -> usize {
-    let n = scan::num(s, at);
-    if n.v == counts[tally::LINE] {
-        if line_end(s, n.at) == s.len() {
-            tally::more(counts, tally::WHOLE);
-            return n.at;
+// Where the replay stands.
+#[derive(Drop)]
+struct Desk {
+    buffer: Buffer,
+    stores: Stores,
+}
+
+impl Desk {
+    // A line, by its letter: one of the hexadecimal digits.
+    fn line(&mut self, scan: &mut Scan<'_>) -> Option<Line> {
+        match scan.number()? {
+            0xa => Some(Line::Case(self.buffer.call(scan)?)),
+            0xb => {
+                self.buffer.lend(scan)?;
+                Some(Line::Lent)
+            }
+            0xc => {
+                self.stores = Stores::read(scan)?;
+                Some(Line::Lent)
+            }
+            0xe => Some(Line::Case(self.stores.reading(scan, self.buffer.sheet()?)?)),
+            0xf => Some(Line::Last(scan.number()?)),
+            _ => None,
         }
     }
-    LOST
 }
 
-// A line, by its letter: one of the hexadecimal digits.
-fn line(
-    rt: &impl Print,
-    s: &[u8],
-    at: usize,
-    memory: &mut [u8],
-    counts: &mut [u64; 170],
-) -> io::Result<usize> {
-    let first = scan::num(s, at);
-    let letter = first.v;
-    match letter {
-        0xa => calls::call(rt, s, first.at, memory, counts),
-        0xb => Ok(calls::lend(s, first.at, memory, counts)),
-        0xc => Ok(readings::old(s, first.at, counts)),
-        0xe => readings::edition(rt, s, first.at, memory, counts),
-        0xf => Ok(last(s, first.at, counts)),
-        _ => Ok(LOST),
-    }
-}
-
-// The place after a line, where all that it tells of has room.
-fn next(s: &[u8], at: usize, counts: &[u64; 170]) -> usize {
-    if tally::fits(counts) {
-        return line_end(s, at);
-    }
-    LOST
-}
-
-// Every line, up to one that can't be read; each takes a byte or more.
-fn lines(
-    rt: &impl Print,
-    s: &[u8],
-    memory: &mut [u8; 400000],
-    counts: &mut [u64; 170],
-) -> io::Result<()> {
-    let mut at: usize = 0;
-    for turn in 0..s.len() {
-        if at >= s.len() {
-            return Ok(());
-        }
-        tally::more(counts, tally::LINE);
-        at = next(s, line(rt, s, at, memory, counts)?, counts);
+fn one(rt: &impl Print, line: u64, case: Case, tally: &mut Tally) -> io::Result<()> {
+    tally.add(case);
+    if !case.agrees {
+        let number = case.number;
+        println!(rt; "line {line}: another answer than number {number}")?;
     }
     Ok(())
 }
 
-fn too_long(rt: &impl Print) -> io::Result<()> {
-    rt.write_all(b"the list is too long\n")
-}
-
-// The list is the first n bytes; where it fills them all, some may be missing. The memory is the buffer, and as many bytes that it should have.
-fn replay(rt: &impl Print, s: &[u8], n: usize) -> io::Result<()> {
-    let mut memory: [u8; 400000] = [0; 400000];
-    let mut counts: [u64; 170] = [0; 170];
-    if n >= s.len() {
-        return too_long(rt);
+// Every line: the one from which on the list can't be read, none where it is whole.
+fn lines(rt: &impl Print, list: &[u8], tally: &mut Tally) -> io::Result<Option<u64>> {
+    let mut desk = Desk {
+        buffer: Buffer::new(),
+        stores: Stores::new(),
+    };
+    let mut last = 0u64;
+    let mut whole = false;
+    for bytes in list.split_inclusive(|byte| *byte == b'\n') {
+        if whole {
+            return Ok(Some(last));
+        }
+        last = last.saturating_add(1);
+        let mut scan = Scan::of(bytes);
+        match desk.line(&mut scan) {
+            Some(Line::Case(case)) => one(rt, last, case, tally)?,
+            Some(Line::Lent) => {}
+            Some(Line::Last(number)) if number == last => whole = true,
+            _ => return Ok(Some(last)),
+        }
+        if !scan.is_at_end() {
+            return Ok(Some(last));
+        }
     }
-    lines(rt, &s[0..n], &mut memory, &mut counts)?;
-    tally::report(rt, &counts)
-}
-
-// Reads until the input fills its place or ends: how many bytes there are then.
-fn load(rt: &impl Input, input: &mut [u8; 1048576]) -> io::Result<usize> {
-    let mut to = &mut input[..];
-    let n = io::copy(&mut rt.reader().take(1_048_576), &mut to)?;
-    Ok(n as usize)
-}
-
-fn run(rt: &impl Print, input: &[u8; 1048576], n: usize) -> io::Result<()> {
-    replay(rt, input, n)
+    Ok(if whole { None } else { Some(last) })
 }
 
 fn main(rt: HostRuntime) -> io::Result<()> {
-    let mut input: [u8; 1048576] = [0; 1048576];
-    let n = load(&rt, &mut input)?;
-    run(&rt, &input, n)
+    let mut list = Vec::new(rt.alloc());
+    rt.reader().take(MOST as u64).read_to_end(&mut list)?;
+    if list.len() == MOST {
+        return println!(rt; "the list is too long");
+    }
+    let mut tally = Tally::default();
+    let unread = lines(&rt, &list, &mut tally)?;
+    tally.report(&rt)?;
+    if let Some(line) = unread {
+        println!(rt; "the list can't be read from line {line} on")?;
+    }
+    Ok(())
 }

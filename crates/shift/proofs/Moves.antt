@@ -5,7 +5,7 @@ use mathlib.Core.List.{List}
 use Prim.Native.Nat.{ℕ, ◌+◌, ◌-◌, ◌*◌, ◌/◌, ◌%◌, ◌^◌, ◌≤◌, ◌<◌}
 use native.Mathlib.Omega.{arith}
 use borrow.Author.Tests.{lt-ltb, le-ltb}
-use lib.ListN.{length, get_or, set, length-set}
+use lib.ListN.{length, get_or, set}
 use Rattle.word.specs.Sets.{choose}
 use Rattle.word.specs.Places.{bit, word_of, member, words_of}
 use Rattle.word.specs.Words.{funneled, pair_bit}
@@ -62,10 +62,6 @@ fill_is old ws ws' s a e b d w f z c =
         (λ q. filled_in b d 0 ws i (omega (arith, w.long)) p q ∙ z i p q)
         (λ q. filled_above b d 0 ws i q ∙ w.fresh i ((c i l).1 q).0 ((c i l).1 q).1))
 
--- a store and a fill keep the length
-pub length_after_lem : (old ws ws' : List ℕ) (i v a e : ℕ) → length ws ≡ length old → ws' ≡ filled_words a e 0 (set ws i v) → length ws' ≡ length old
-length_after_lem old ws ws' i v a e l f = ap length f ∙ length-filled_words a e 0 (set ws i v) ∙ length-set ws i v ∙ l
-
 -- ---- moved up
 
 module _ (ws : List ℕ) (fit : Fit ws) (k : ℕ) where
@@ -92,24 +88,23 @@ module _ (ws : List ℕ) (fit : Fit ws) (k : ℕ) where
   pub left_none : (i : ℕ) → i < k / 64 → 0 ≡ word_of left i
   left_none i h = none_is left i (λ j l. moved_in k (member ws) (64 * i + j) (omega arith))
 
-  -- one turn of the walk, from the top down
-  pub left_step : (ws' : List ℕ) (i v : ℕ) → Swept ws (word_of left) (i + 1) (length ws) ws' → k / 64 < i → i < length ws
-      → v ≡ funneled 64 (get_or ws' (i - k / 64 - 1) 0) (get_or ws' (i - k / 64) 0) (64 - k % 64) (k % 64)
-      → Swept ws (word_of left) (i - 1 + 1) (length ws) (set ws' i v)
+  -- one turn of the walk, from the top down: word i - 1
+  pub left_step : (ws' : List ℕ) (i v : ℕ) → Swept ws (word_of left) i (length ws) ws' → k / 64 + 1 < i → i ≤ length ws
+      → v ≡ funneled 64 (get_or ws' (i - 1 - k / 64 - 1) 0) (get_or ws' (i - 1 - k / 64) 0) (64 - k % 64) (k % 64)
+      → Swept ws (word_of left) (i - 1) (length ws) (set ws' (i - 1) v)
   left_step ws' i v s h l e =
-      sweep_to ws (word_of left) i (length ws) (i - 1 + 1) (length ws) (set ws' i v)
-      (sweep_down ws (word_of left) i (length ws) ws' v s (omega (arith, s.long)) l
+      sweep_down ws (word_of left) (i - 1) (length ws) ws' v (sweep_to ws (word_of left) i (length ws) (i - 1 + 1) (length ws) ws' s (omega arith) refl)
+      (omega (arith, s.long)) (omega arith)
       (e
-      ∙ ap₂ (λ (x y : ℕ). funneled 64 x y (64 - k % 64) (k % 64)) (s.below (i - k / 64 - 1) (omega arith)) (s.below (i - k / 64) (omega arith))
-      ∙ left_word i h))
-      (omega arith) refl
+      ∙ ap₂ (λ (x y : ℕ). funneled 64 x y (64 - k % 64) (k % 64)) (s.below (i - 1 - k / 64 - 1) (omega arith)) (s.below (i - 1 - k / 64) (omega arith))
+      ∙ left_word (i - 1) (omega arith))
 
   -- the last turn, whose word has nothing below it, and the words that nothing moves into
-  pub left-last : (ws1 ws2 : List ℕ) (i v : ℕ) → Swept ws (word_of left) (i + 1) (length ws) ws1 → k / 64 ≡ i → i < length ws
+  pub left-last : (ws1 ws2 : List ℕ) (i v : ℕ) → Swept ws (word_of left) i (length ws) ws1 → i ≡ k / 64 + 1 → i ≤ length ws
       → v ≡ funneled 64 0 (get_or ws1 0 0) (64 - k % 64) (k % 64) → ws2 ≡ filled_words 0 (k / 64) 0 (set ws1 (k / 64) v) → ws2 ≡ words_of left (length ws)
   left-last ws1 ws2 i v s q l e f =
       fill_is ws (set ws1 (k / 64) v) ws2 left (k / 64) (length ws) 0 (k / 64)
-      (sweep_down ws (word_of left) (k / 64) (length ws) ws1 v (sweep_to ws (word_of left) (i + 1) (length ws) (k / 64 + 1) (length ws) ws1 s (omega arith) refl)
+      (sweep_down ws (word_of left) (k / 64) (length ws) ws1 v (sweep_to ws (word_of left) i (length ws) (k / 64 + 1) (length ws) ws1 s q refl)
       (omega (arith, s.long)) (omega arith)
       (e ∙ ap (λ (y : ℕ). funneled 64 0 y (64 - k % 64) (k % 64)) (s.below 0 (omega arith)) ∙ left_first))
       f (λ m a b. left_none m b) (λ m a. ((λ b. absurd (omega arith)), (λ b. (b, a))))

@@ -65,25 +65,24 @@ module _ (ws : List ℕ) (fit : Fit ws) (k : ℕ) where
       high : (i : ℕ) → i < length ws → m ≤ i → get_or (turned_words m ws) i 0 ≡ get_or ws (i - m) 0
       high i l p = ap (λ (x : ℕ). get_or (turned_words m ws) x 0) {y = m + (i - m)} (omega arith) ∙ turned_high ws m h (i - m) (omega arith)
 
-  -- by odd bits: one turn of the walk, from the top down
-  pub up_step : (ws' : List ℕ) (i v : ℕ) → k < 64 → Swept ws (word_of turned) (i + 1) (length ws) ws' → 0 < i → i < length ws
-      → v ≡ funneled 64 (get_or ws' (i - 1) 0) (get_or ws' i 0) (64 - k) k → Swept ws (word_of turned) (i - 1 + 1) (length ws) (set ws' i v)
+  -- by odd bits: one turn of the walk, from the top down: word i - 1
+  pub up_step : (ws' : List ℕ) (i v : ℕ) → k < 64 → Swept ws (word_of turned) i (length ws) ws' → 1 < i → i ≤ length ws
+      → v ≡ funneled 64 (get_or ws' (i - 1 - 1) 0) (get_or ws' (i - 1) 0) (64 - k) k → Swept ws (word_of turned) (i - 1) (length ws) (set ws' (i - 1) v)
   up_step ws' i v h s p l e =
-      sweep_to ws (word_of turned) i (length ws) (i - 1 + 1) (length ws) (set ws' i v)
-      (sweep_down ws (word_of turned) i (length ws) ws' v s (omega (arith, s.long)) l
+      sweep_down ws (word_of turned) (i - 1) (length ws) ws' v (sweep_to ws (word_of turned) i (length ws) (i - 1 + 1) (length ws) ws' s (omega arith) refl)
+      (omega (arith, s.long)) (omega arith)
       (e
-      ∙ ap₂ (λ (x y : ℕ). funneled 64 x y (64 - k) k) (s.below (i - 1) (omega arith)) (s.below i (omega arith))
-      ∙ funneled_is (get_or ws (i - 1) 0) (get_or ws i 0) (64 - k) k turned i (fit (i - 1)) (omega arith)
-      (λ j r. from_turn i j (i - 1) (64 - k + j) (omega arith) (omega arith) l (omega arith) (inl (omega arith)))
-      (λ j t r. from_turn i j i (j - k) l (omega arith) l t (inl (omega arith)))))
-      (omega arith) refl
+      ∙ ap₂ (λ (x y : ℕ). funneled 64 x y (64 - k) k) (s.below (i - 1 - 1) (omega arith)) (s.below (i - 1) (omega arith))
+      ∙ funneled_is (get_or ws (i - 1 - 1) 0) (get_or ws (i - 1) 0) (64 - k) k turned (i - 1) (fit (i - 1 - 1)) (omega arith)
+      (λ j r. from_turn (i - 1) j (i - 1 - 1) (64 - k + j) (omega arith) (omega arith) (omega arith) (omega arith) (inl (omega arith)))
+      (λ j t r. from_turn (i - 1) j (i - 1) (j - k) (omega arith) (omega arith) (omega arith) t (inl (omega arith))))
 
   -- the last turn, whose word stands above the old last one
-  pub up_last : (ws' : List ℕ) (i v : ℕ) → k < 64 → Swept ws (word_of turned) (i + 1) (length ws) ws' → i ≡ 0 → 0 < length ws
+  pub up_last : (ws' : List ℕ) (i v : ℕ) → k < 64 → Swept ws (word_of turned) i (length ws) ws' → i ≡ 1 → 0 < length ws
       → v ≡ funneled 64 (get_or ws (length ws - 1) 0) (get_or ws' 0 0) (64 - k) k → set ws' 0 v ≡ words_of turned (length ws)
   up_last ws' i v h s q l e =
       swept_all ws turned (set ws' 0 v)
-      (sweep_down ws (word_of turned) 0 (length ws) ws' v (sweep_to ws (word_of turned) (i + 1) (length ws) (0 + 1) (length ws) ws' s (omega arith) refl)
+      (sweep_down ws (word_of turned) 0 (length ws) ws' v (sweep_to ws (word_of turned) i (length ws) (0 + 1) (length ws) ws' s q refl)
       (omega (arith, s.long)) l
       (e
       ∙ ap (λ (y : ℕ). funneled 64 (get_or ws (length ws - 1) 0) y (64 - k) k) (s.below 0 (omega arith))

@@ -1,10 +1,11 @@
 // Shifts and rotations of the words in use, within their length, in place. Whole words, odd bits and what these leave of 64 are worked out ahead of
 // the walk, and a step makes one word of two neighbours; where there are no odd bits, `moves` moves the words.
-#![tactic(auto)]
+#![tactic(auto, using(crate::proofs::Guards::part_of_store))]
 
-ghost use Rattle.std.specs.Prelude.{◌≡◌, ◌+◌, ◌*◌, ◌<◌, length};
+ghost use Rattle.std.specs.Prelude.{◌≡◌, ℕ, ◌+◌, ◌*◌, ◌<◌, Bool, length};
+ghost use Rattle.std.specs.Fn.{FnOnceReturnsAtMut};
 ghost use Rattle.word.specs.Places.{member, words_of};
-ghost use Rattle.storage.specs.Stores.{Changes};
+ghost use Rattle.storage.specs.Stores.{Op, Changes};
 ghost use Rattle.shifts.specs.Shifts.{
   moved_up,
   moved_down,
@@ -16,8 +17,9 @@ ghost use Rattle.shifts.specs.Shifts.{
   rotating_right,
 };
 ghost use Rattle.shifts.specs.Steps.{stepped};
+ghost use Rattle.shift.specs.Kernels.{LeavesWords, KeepsCount};
 
-use storage::{Bitmap, Change, Guard};
+use storage::{Bitmap, Refused};
 
 // One step: the pair's 64 bits from place `down` up, lo below hi. A walk to the left comes down by what its odd bits leave of 64, one to the right
 // by the odd bits, and works both amounts out once.
@@ -48,16 +50,14 @@ pub fn left_words(words: &mut [u64], k: usize)
         return;
     }
     // From the top down, so that each word is read before it is overwritten.
-    let mut i = n - 1;
-    while i > whole {
+    for i in (whole + 1..n).rev() {
         words[i] = step(words[i - whole - 1], words[i - whole], down, up);
-        i -= 1;
     }
     words[whole] = step(0, words[0], down, up);
     arch::fill_words(words, 0, whole, 0);
 }
 
-// Bit i goes to i - k; bits below k are lost.
+// Bit i goes to i - k; bits below k are lost. It is no one function with `left_words`: order, neighbours, edges and fill would all be arguments.
 pub fn right_words(words: &mut [u64], k: usize)
     ensures { words.new ≡ words_of (moved_down k (member words.old)) (length words.old) }
 {
@@ -76,39 +76,42 @@ pub fn right_words(words: &mut [u64], k: usize)
     }
     // From the bottom up, so that each word is read before it is overwritten.
     let last = n - whole - 1;
-    let mut i = 0;
-    while i < last {
+    for i in 0..last {
         words[i] = step(words[i + whole], words[i + whole + 1], down, up);
-        i += 1;
     }
     words[last] = step(words[n - 1], 0, down, up);
     arch::fill_words(words, last + 1, n, 0);
 }
 
-// Moves every bit k up; keeps the count.
-pub fn shift_left(words: &mut [u64], b: Bitmap, k: usize) -> Change
-    ensures { Changes (shifting_left k) words.old b result words.new }
+// A move of the words in use within their length; keeps the count.
+fn keep_count<F: FnOnce(&mut [u64])>(
+    words: &mut [u64],
+    b: Bitmap,
+    kernel: F,
+) -> Result<Bitmap, Refused>
+    requires { F.IsAlwaysCallable kernel }
+    ensures { (op : Op) (f : ℕ → (ℕ → Bool) → ℕ → Bool)
+        → LeavesWords (λ ws ws'. FnOnceReturnsAtMut F.FnOnce kernel ws tt ws') f → KeepsCount op f
+        → Changes op words.old b result words.new }
 {
     let n = b.count;
-    match storage::check(words, b) {
-        Guard::Stop(e) => return Change::Refused(e, b),
-        Guard::Pass => {}
-    }
-    left_words(&mut words[..n], k);
-    Change::Done(b)
+    storage::check(words, b)?;
+    kernel(&mut words[..n]);
+    Ok(b)
+}
+
+// Moves every bit k up; keeps the count.
+pub fn shift_left(words: &mut [u64], b: Bitmap, k: usize) -> Result<Bitmap, Refused>
+    ensures { Changes (shifting_left k) words.old b result words.new }
+{
+    keep_count(words, b, |part| left_words(part, k))
 }
 
 // Moves every bit k down; keeps the count.
-pub fn shift_right(words: &mut [u64], b: Bitmap, k: usize) -> Change
+pub fn shift_right(words: &mut [u64], b: Bitmap, k: usize) -> Result<Bitmap, Refused>
     ensures { Changes (shifting_right k) words.old b result words.new }
 {
-    let n = b.count;
-    match storage::check(words, b) {
-        Guard::Stop(e) => return Change::Refused(e, b),
-        Guard::Pass => {}
-    }
-    right_words(&mut words[..n], k);
-    Change::Done(b)
+    keep_count(words, b, |part| right_words(part, k))
 }
 
 // Each bit goes `up` places up, within its word or into the next; those that pass the end go to the start.
@@ -121,12 +124,12 @@ fn turn_up(words: &mut [u64], up: usize)
         return;
     }
     let down = 64 - up;
-    // From the top down, so that each word is read before it is overwritten; the first word needs the old last one.
-    let mut i = words.len() - 1;
-    let last = words[i];
-    while i > 0 {
+    // From the top down, so that each word is read before it is overwritten; the first word needs the old last one. Over `iter_mut`, with the old
+    // neighbour carried along, one word is made at a time: that takes 1.3 times as long here and 2.1 times as long in `turn_down`.
+    let n = words.len();
+    let last = words[n - 1];
+    for i in (1..n).rev() {
         words[i] = step(words[i - 1], words[i], down, up);
-        i -= 1;
     }
     words[0] = step(last, words[0], down, up);
 }
@@ -144,10 +147,8 @@ fn turn_down(words: &mut [u64], down: usize)
     // From the bottom up, so that each word is read before it is overwritten; the last word needs the old first one.
     let end = words.len() - 1;
     let first = words[0];
-    let mut i = 0;
-    while i < end {
+    for i in 0..end {
         words[i] = step(words[i], words[i + 1], down, up);
-        i += 1;
     }
     words[end] = step(words[end], first, down, up);
 }
@@ -164,7 +165,7 @@ pub fn turn_left(words: &mut [u64], k: usize)
     turn_up(words, k % 64);
 }
 
-// Bit i goes to i - k, counted on from the end past the start.
+// Bit i goes to i - k, counted on from the end past the start. As a turn to the left by what is left of the length, a small k takes 1.3 times as long.
 pub fn turn_right(words: &mut [u64], k: usize)
     ensures { words.new
         ≡ words_of (turned_down (64 * length words.old) k (member words.old)) (length words.old) }
@@ -179,27 +180,15 @@ pub fn turn_right(words: &mut [u64], k: usize)
 }
 
 // Rotates every bit k up within the length; keeps the count.
-pub fn rotate_left(words: &mut [u64], b: Bitmap, k: usize) -> Change
+pub fn rotate_left(words: &mut [u64], b: Bitmap, k: usize) -> Result<Bitmap, Refused>
     ensures { Changes (rotating_left k) words.old b result words.new }
 {
-    let n = b.count;
-    match storage::check(words, b) {
-        Guard::Stop(e) => return Change::Refused(e, b),
-        Guard::Pass => {}
-    }
-    turn_left(&mut words[..n], k);
-    Change::Done(b)
+    keep_count(words, b, |part| turn_left(part, k))
 }
 
 // Rotates every bit k down within the length; keeps the count.
-pub fn rotate_right(words: &mut [u64], b: Bitmap, k: usize) -> Change
+pub fn rotate_right(words: &mut [u64], b: Bitmap, k: usize) -> Result<Bitmap, Refused>
     ensures { Changes (rotating_right k) words.old b result words.new }
 {
-    let n = b.count;
-    match storage::check(words, b) {
-        Guard::Stop(e) => return Change::Refused(e, b),
-        Guard::Pass => {}
-    }
-    turn_right(&mut words[..n], k);
-    Change::Done(b)
+    keep_count(words, b, |part| turn_right(part, k))
 }

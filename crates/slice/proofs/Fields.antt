@@ -20,9 +20,9 @@ use Rattle.word.proofs.Words.{bit-low_mask, low_mask-lt, from_place}
 use Rattle.word.proofs.Lists.{Fit, fit_part, member-at}
 use Rattle.storage.specs.Stores.{Bits, view}
 use Rattle.storage.specs.declared.Refusal.TheVariants.{WidthOver}
-use Rattle.storage.specs.declared.Field.{Field}
 use Rattle.storage.proofs.Views.{view_in, view-part}
 use Rattle.slice.specs.Slices.{field_at}
+use Rattle.std.specs.Prelude.{Ok, Err}
 
 -- ---- one bit
 
@@ -64,19 +64,19 @@ low_digits x width p h lt f =
     (λ m. ap (λ (b : Bool). p j && b) (lt-ltb j width m) ∙ and-keep (p j) ∙ sym (bit-pack width p j m))
     (λ m. ap (λ (b : Bool). p j && b) (le-ltb j width m) ∙ and-false (p j) ∙ sym (bit_past (pack width p) width j (pack-lt width p) m)))
 
-pub field-wide : (i width : ℕ) (b : Bits) → 64 < width → Field.Refused WidthOver ≡ field_at i width b
+pub field-wide : (i width : ℕ) (b : Bits) → 64 < width → Err WidthOver ≡ field_at i width b
 unfolding field_at
-field-wide i width b h = sym (ap (λ (t : Bool). choose t (Field.Refused WidthOver) (Field.Is (pack width (λ j. b.members (i + j))))) (lt-ltb 64 width h))
+field-wide i width b h = sym (ap (λ (t : Bool). choose t (Err WidthOver) (Ok (pack width (λ j. b.members (i + j))))) (lt-ltb 64 width h))
 
 pub field_is : (ws : List ℕ) (n i width lo hi x mask : ℕ) → Fit ws → n ≤ length ws → width ≤ 64
     → lo ≡ get_or (take n ws) (i / 64) 0 → hi ≡ get_or (take n ws) (i / 64 + 1) 0 → x ≡ funneled 64 lo hi (i % 64) (64 - i % 64) → mask ≡ low_mask 64 width
-    → Field.Is (bit_and x mask) ≡ field_at i width (view ws n)
+    → Ok (bit_and x mask) ≡ field_at i width (view ws n)
 unfolding field_at
 field_is ws n i width lo hi x mask f h wide el eh ex em =
-    ap Field.Is
+    ap Ok
     (ap₂ bit_and (ex ∙ ap₂ (λ (a b : ℕ). funneled 64 a b (i % 64) (64 - i % 64)) el eh) em
     ∙ low_digits y width (λ j. (view ws n).members (i + j)) wide at.fits digit)
-    ∙ sym (ap (λ (t : Bool). choose t (Field.Refused WidthOver) (Field.Is (pack width (λ j. (view ws n).members (i + j))))) (le-ltb 64 width wide))
+    ∙ sym (ap (λ (t : Bool). choose t (Err WidthOver) (Ok (pack width (λ j. (view ws n).members (i + j))))) (le-ltb 64 width wide))
   where
     part : List ℕ
     part = take n ws

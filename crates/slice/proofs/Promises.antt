@@ -13,24 +13,24 @@ use Rattle.word.proofs.Cases.{by_lt, by_eq, and-false}
 use Rattle.word.proofs.Places.{bit_past, bit-pack, pack-lt}
 use Rattle.word.proofs.Sets.{top}
 use Rattle.arch.specs.Scans.{nonzero_len}
-use Rattle.storage.specs.Refusals.{number_of, field_number, field_value, truth_number, truth_value}
+use Rattle.storage.specs.Refusals.{number_of, answer_number, amount_value, truth_value}
 use Rattle.storage.specs.Stores.{Bits, Bounded, Outcome, refused, done}
 use Rattle.storage.specs.Promises.{HandsNone, Tests}
 use Rattle.storage.specs.declared.Refusal.{Refusal}
 use Rattle.storage.specs.declared.Refusal.TheVariants.{WidthOver, PastLength}
-use Rattle.storage.specs.declared.Field.{Field}
-use Rattle.storage.specs.declared.Truth.{Truth}
 use Rattle.storage.proofs.Outcomes.{same, never, which}
-use Rattle.storage.proofs.Promises.{field-call, truth-call, both_means, tests}
+use Rattle.storage.proofs.Promises.{amount-call, truth-call, both_means, tests}
 use Rattle.slice.specs.Slices.{front_part, equal, field_at, with_field, setting_field_inside}
 use Rattle.slice.specs.Promises.{GetMeans, FieldDigits, GetFieldMeans, EqMeans, EqualWords, FieldWritten, FieldRefused, SetFieldStrict, TrimmedMeans}
 use Rattle.slice.proofs.Equals.{equal_of_same, same_of_equal, same_of_front, front_of_same, length_front, zero-past}
+use Rattle.storage.specs.Refusals.{Amount}
+use Rattle.std.specs.Prelude.{Ok, Err}
 
 -- ---- what a call answers, from what it makes of a bitmap
 
 pub get_means : GetMeans
 get_means i =
-    truth-call (λ s. Truth.Is (s.members i)) (λ b. Tests (b.members i ≡ true))
+    truth-call (λ s. Ok (s.members i)) (λ b. Tests (b.members i ≡ true))
     (λ b bounded. tests (b.members i ≡ true) (b.members i) (λ e. e) (λ e. e))
 
 -- ---- equality
@@ -40,30 +40,30 @@ equal_words ws os n m hn hm f g = (front_of_same ws os n m hn hm f g, same_of_fr
 
 pub eq_means : EqMeans
 eq_means =
-    both_means Truth.Refused (λ s t. Truth.Is (equal s t)) (λ r. HandsNone (truth_number r) (truth_value r))
-    (λ b o r. Tests ((i : ℕ) → b.members i ≡ o.members i) (truth_number r) (truth_value r)) (λ e. (refl, refl))
+    both_means Err (λ s t. Ok (equal s t)) (λ r. HandsNone (answer_number r) (truth_value r))
+    (λ b o r. Tests ((i : ℕ) → b.members i ≡ o.members i) (answer_number r) (truth_value r)) (λ e. (refl, refl))
     (λ b o bb bo. tests ((i : ℕ) → b.members i ≡ o.members i) (equal b o) (same_of_equal b o bb bo) (equal_of_same b o))
 
 -- ---- fields
 
-field-digits : (i width : ℕ) (b : Bits) → FieldDigits i width b (field_number (field_at i width b)) (field_value (field_at i width b))
+field-digits : (i width : ℕ) (b : Bits) → FieldDigits i width b (answer_number (field_at i width b)) (amount_value (field_at i width b))
 unfolding field_at
 field-digits i width b =
     by_lt 64 width
-    (λ h. subst is (sym (ap (λ (t : Bool). choose t (Field.Refused WidthOver) (Field.Is (pack width s))) (lt-ltb 64 width h))) (inr (refl, refl, h)))
+    (λ h. subst is (sym (ap (λ (t : Bool). choose t (Err WidthOver) (Ok (pack width s))) (lt-ltb 64 width h))) (inr (refl, refl, h)))
     (λ h.
-    subst is (sym (ap (λ (t : Bool). choose t (Field.Refused WidthOver) (Field.Is (pack width s))) (le-ltb 64 width h)))
+    subst is (sym (ap (λ (t : Bool). choose t (Err WidthOver) (Ok (pack width s))) (le-ltb 64 width h)))
     (inl (refl, h, bit-pack width s, λ j l. bit_past (pack width s) width j (pack-lt width s) l)))
   where
-    is : Field → Type 0
-    is a = FieldDigits i width b (field_number a) (field_value a)
+    is : Amount → Type 0
+    is a = FieldDigits i width b (answer_number a) (amount_value a)
 
     s : ℕ → Bool
     s j = b.members (i + j)
 
 pub get_field_means : GetFieldMeans
 get_field_means i width =
-    field-call (field_at i width) (FieldDigits i width) (λ b bounded. field-digits i width b)
+    amount-call (field_at i width) (FieldDigits i width) (λ b bounded. field-digits i width b)
 
 module _ (i value width : ℕ) (b : Bits) where
   written_inside : 0 < width → width ≤ 64 → i + width ≤ 64 * b.count → FieldWritten i value width b (with_field i value width b)

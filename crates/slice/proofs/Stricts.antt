@@ -23,11 +23,12 @@ use Rattle.storage.specs.Stores.{refused, done, view, Changes}
 use Rattle.storage.specs.Guards.{Passed}
 use Rattle.storage.specs.declared.Bitmap.{Bitmap}
 use Rattle.storage.specs.declared.Refusal.TheVariants.{WidthOver, PastLength}
-use Rattle.storage.specs.declared.Change.TheVariants.{Done, Refused}
 use Rattle.storage.proofs.Views.{view_in}
 use Rattle.storage.proofs.Stores.{Stored, changes-refused, changes_done}
 use Rattle.slice.specs.Slices.{with_field, setting_field_inside}
 use Rattle.slice.specs.Kernels.{overlaid}
+use Rattle.storage.specs.Refusals.{refusing}
+use Rattle.std.specs.Prelude.{Ok}
 
 -- ---- a word overlaid
 
@@ -244,13 +245,13 @@ module _ (ws : List ℕ) (b : Bitmap) (i value width : ℕ) (p : Passed ws b) wh
   unfolding setting_field_inside view
   setting_in pos wide h = rw (le-ltb 64 width wide, ne_eqb width 0 (omega arith), le-ltb (64 * b.count) (i + width) h)
 
-  pub refused-wide : 64 < width → Changes (setting_field_inside i value width) ws b (Refused WidthOver b) ws
+  pub refused-wide : 64 < width → Changes (setting_field_inside i value width) ws b (refusing b WidthOver) ws
   refused-wide h = changes-refused (setting_field_inside i value width) ws b WidthOver p (setting-wide h)
 
-  pub refused-past : 0 < width → width ≤ 64 → 64 * b.count < i + width → Changes (setting_field_inside i value width) ws b (Refused PastLength b) ws
+  pub refused-past : 0 < width → width ≤ 64 → 64 * b.count < i + width → Changes (setting_field_inside i value width) ws b (refusing b PastLength) ws
   refused-past pos wide h = changes-refused (setting_field_inside i value width) ws b PastLength p (setting-past pos wide h)
 
-  pub done_none : Fit ws → width ≡ 0 → Changes (setting_field_inside i value width) ws b (Done b) ws
+  pub done_none : Fit ws → width ≡ 0 → Changes (setting_field_inside i value width) ws b (Ok b) ws
   unfolding view
   done_none f h =
       changes_done (setting_field_inside i value width) ws b ws (view ws b.count) b.count p (setting_none h)
@@ -265,14 +266,14 @@ module _ (ws : List ℕ) (b : Bitmap) (i value width : ℕ) (p : Passed ws b) wh
 
   -- the whole field is there
   module _ (f : Fit ws) (pos : 0 < width) (wide : width ≤ 64) (inside : i + width ≤ 64 * b.count) where
-    done_with : (ws' : List ℕ) → Stored ws b.count (with_field i value width (view ws b.count)) ws' → Changes (setting_field_inside i value width) ws b (Done b) ws'
+    done_with : (ws' : List ℕ) → Stored ws b.count (with_field i value width (view ws b.count)) ws' → Changes (setting_field_inside i value width) ws b (Ok b) ws'
     unfolding with_field view
     done_with ws' s =
         changes_done (setting_field_inside i value width) ws b ws' (with_field i value width (view ws b.count)) b.count p (setting_in pos wide inside) s refl
 
     pub done_one : (ws' : List ℕ) (mask : ℕ) → i % 64 + width ≤ 64 → mask ≡ low_mask 64 width
         → ws' ≡ set ws (i / 64) (overlaid (get_or ws (i / 64) 0) (value * 2 ^ (i % 64) % 2 ^ 64) (mask * 2 ^ (i % 64) % 2 ^ 64))
-        → Changes (setting_field_inside i value width) ws b (Done b) ws'
+        → Changes (setting_field_inside i value width) ws b (Ok b) ws'
     done_one ws' mask end em e =
         done_with ws'
         (field-one ws b.count i value width ws' f (omega arith) p.inside end
@@ -281,7 +282,7 @@ module _ (ws : List ℕ) (b : Bitmap) (i value width : ℕ) (p : Passed ws b) wh
     pub done_two : (ws1 ws' : List ℕ) (mask high : ℕ) → 64 < i % 64 + width → mask ≡ low_mask 64 width → high ≡ low_mask 64 (width - (64 - i % 64))
         → ws1 ≡ set ws (i / 64) (overlaid (get_or ws (i / 64) 0) (value * 2 ^ (i % 64) % 2 ^ 64) (mask * 2 ^ (i % 64) % 2 ^ 64))
         → ws' ≡ set ws1 (i / 64 + 1) (overlaid (get_or ws1 (i / 64 + 1) 0) (value / 2 ^ (64 - i % 64)) high)
-        → Changes (setting_field_inside i value width) ws b (Done b) ws'
+        → Changes (setting_field_inside i value width) ws b (Ok b) ws'
     done_two ws1 ws' mask high over em eh e1 e2 =
         done_with ws'
         (field_two ws b.count i value width ws1 ws' f (omega arith) p.inside over wide

@@ -1,16 +1,16 @@
 -- What the definitions promise, in words of their own. Each is proved in proofs/Promises, `SetFieldStrictExact` in proofs/Once.
-use Rattle.std.specs.Prelude.{ℕ, suc, ◌+◌, ◌*◌, ◌^◌, ◌≤◌, ◌<◌, ◌≡◌, true, false, List, ◌↔◌, ◌⊎◌, length, get_or, take}
+use Rattle.std.specs.Prelude.{ℕ, suc, ◌+◌, ◌*◌, ◌^◌, ◌≤◌, ◌<◌, ◌≡◌, true, false, List, ◌↔◌, ◌⊎◌, length, get_or, take, Ok, Err}
 use Rattle.word.specs.Places.{bit}
-use Rattle.storage.specs.Refusals.{truth_number, truth_value}
+use Rattle.storage.specs.Refusals.{answer_number, truth_value}
 use Rattle.storage.specs.Stores.{Bits, view, held, reading_both}
-use Rattle.storage.specs.Promises.{GuardedBoth, HandsNone, Tests, FieldCall, TruthCall, Meets, MeetsExactly}
+use Rattle.storage.specs.Promises.{GuardedBoth, HandsNone, Tests, AmountCall, TruthCall, Meets, MeetsExactly}
 use Rattle.storage.specs.declared.Bitmap.{Bitmap}
-use Rattle.storage.specs.declared.Truth.{Truth}
 use Rattle.slice.specs.Slices.{front_part, equal, field_at, setting_field_inside}
+use Rattle.storage.specs.Refusals.{Truth}
 
 -- `get`: 1 exactly where i is a member
 abbrev pub GetMeans : Type 0
-GetMeans = (i : ℕ) → TruthCall (λ s. Truth.Is (s.members i)) (λ b. Tests (b.members i ≡ true))
+GetMeans = (i : ℕ) → TruthCall (λ s. Ok (s.members i)) (λ b. Tests (b.members i ≡ true))
 
 -- every digit, and 3 exactly over 64 digits
 abbrev pub FieldDigits : ℕ → ℕ → Bits → ℕ → ℕ → Type 0
@@ -20,13 +20,13 @@ FieldDigits i width b x v =
 
 -- `get_field`
 abbrev pub GetFieldMeans : Type 0
-GetFieldMeans = (i width : ℕ) → FieldCall (field_at i width) (FieldDigits i width)
+GetFieldMeans = (i width : ℕ) → AmountCall (field_at i width) (FieldDigits i width)
 
 -- `eq`: the second store after the first; 1 exactly where every number is a member of both or of neither
 abbrev pub EqMeans : Type 0
 EqMeans =
-    (ws : List ℕ) (b : Bitmap) (os : List ℕ) (o : Bitmap) (r : Truth) → r ≡ reading_both ws b os o Truth.Refused (λ s t. Truth.Is (equal s t))
-    → let x = truth_number r in
+    (ws : List ℕ) (b : Bitmap) (os : List ℕ) (o : Bitmap) (r : Truth) → r ≡ reading_both ws b os o Err (λ s t. Ok (equal s t))
+    → let x = answer_number r in
     let v = truth_value r in
     GuardedBoth ws b os o (HandsNone x v) (Tests ((i : ℕ) → (held ws b).members i ≡ (held os o).members i) x v)
 

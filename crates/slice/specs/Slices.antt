@@ -1,12 +1,12 @@
 -- Reading, fields and equality within the words in use, on sets.
-use Rattle.std.specs.Prelude.{ℕ, ◌+◌, ◌-◌, ◌*◌, Bool, ◌&&◌, List, ltb, leb, eqb, take}
+use Rattle.std.specs.Prelude.{ℕ, ◌+◌, ◌-◌, ◌*◌, Bool, ◌&&◌, List, ltb, leb, eqb, take, Ok, Err}
 use Rattle.word.specs.Sets.{choose}
 use Rattle.word.specs.Places.{bit, pack}
 use Rattle.arch.specs.Scans.{nonzero_len}
 use Rattle.pairs.specs.declared.SetOp.TheVariants.{Xor}
 use Rattle.storage.specs.Stores.{Bits, refused, done, Op, size, combined}
 use Rattle.storage.specs.declared.Refusal.TheVariants.{WidthOver, PastLength}
-use Rattle.storage.specs.declared.Field.{Field}
+use Rattle.storage.specs.Refusals.{Amount}
 
 -- the front part of the words, up to the last nonzero one
 unfoldable pub front_part : List ℕ → List ℕ
@@ -17,8 +17,8 @@ unfoldable pub equal : Bits → Bits → Bool
 equal b o = eqb (size (combined Xor b o)) 0
 
 -- the number whose binary digit j is i + j's membership; 3 over 64 digits
-unfoldable pub field_at : ℕ → ℕ → Bits → Field
-field_at i width b = choose (ltb 64 width) (Field.Refused WidthOver) (Field.Is (pack width (λ j. b.members (i + j))))
+unfoldable pub field_at : ℕ → ℕ → Bits → Amount
+field_at i width b = choose (ltb 64 width) (Err WidthOver) (Ok (pack width (λ j. b.members (i + j))))
 
 -- the numbers from i on, below i + width, become the digits of value
 unfoldable pub with_field : ℕ → ℕ → ℕ → Bits → Bits

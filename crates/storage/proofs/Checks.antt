@@ -7,14 +7,14 @@ use native.Mathlib.Omega.{arith}
 use lib.ListN.{length}
 use borrow.Author.Tests.{lt-ltb, le-ltb}
 use Rattle.word.proofs.Cases.{by_lt, zero_one}
-use Rattle.storage.specs.Refusals.{number_of}
+use Rattle.std.specs.Prelude.{Result, Ok, Err, ⊤, IsErr, IsErrAnd}
+use Rattle.storage.specs.Refusals.{number_of, Guard, passing, refusing}
 use Rattle.storage.specs.Stores.{Bits, refused, done, Space, Op, with_count, store_limit, checked, held, reading, reading_both, beside, within}
 use Rattle.storage.specs.Guards.{most_words, Stopped, long, over, Passed, PassedTwo, PassedThree}
 use Rattle.storage.specs.declared.Bitmap.{Bitmap}
 use Rattle.storage.specs.declared.Refusal.{Refusal}
 use Rattle.storage.specs.declared.Refusal.TheVariants.{StoreTooLong, CountOverStore, NoSpace}
-use Rattle.storage.specs.declared.Guard.{Guard}
-use Rattle.storage.specs.declared.Guard.TheVariants.{Pass, Stop}
+use Rattle.storage.specs.declared.Refused.{Refused}
 
 module _ {A : Type 0} (ws : List ℕ) (b : Bitmap) (refuse : Refusal → A) (a : A) where
   pub checked_ok : Passed ws b → checked ws b refuse a ≡ a
@@ -66,59 +66,110 @@ by_guard {P} ws b stop pass = go (which_way ws b)
 
 -- ---- what the guards tell
 
-never : (e : Refusal) → Stop e ≡ Pass → ⊥
-never e p = zero_one cc
-
-module _ (ws : List ℕ) (b : Bitmap) (next : Guard) where
-  -- a guard that looks at one store and then at others
-  pub passed_then : Pass ≡ checked ws b Stop next → Passed ws b × (Pass ≡ next)
-  passed_then p = by_guard ws b (λ e s. absurd (never e (sym (p ∙ s _ Stop next)))) (λ q. (q, p ∙ checked_ok ws b Stop next q))
-
-  pub stopped_then : {A : Type 0} (e : Refusal) (refuse : Refusal → A) (a : A) → Stop e ≡ checked ws b Stop next → (Stop e ≡ next → a ≡ refuse e)
-      → checked ws b refuse a ≡ refuse e
-  stopped_then e refuse a p rest =
+-- a guard that has looked at one store, and gives back the record r where it stops
+module _ (ws : List ℕ) (b r : Bitmap) (next : Guard) where
+  pub passed_then : (u : ⊤) → Ok u ≡ checked ws b (refusing r) next → Passed ws b × (Ok u ≡ next)
+  passed_then u p =
       by_guard ws b
-      (λ d s. let q : Stop e ≡ Stop d = p ∙ s _ Stop next in s _ refuse a ∙ ap refuse (cc))
-      (λ q. checked_ok ws b refuse a q ∙ rest (p ∙ checked_ok ws b Stop next q))
+      (λ e s. let q : Ok u ≡ refusing r e = p ∙ s Guard (refusing r) next in zero_one cc)
+      (λ q. (q, p ∙ checked_ok ws b (refusing r) next q))
 
-pub passed : (ws : List ℕ) (b : Bitmap) → Pass ≡ checked ws b Stop Pass → Passed ws b
-passed ws b p = (passed_then ws b Pass p).0
+  pub stopped_then : {A : Type 0} (e : Refused) (refuse : Refusal → A) (a : A) → Err e ≡ checked ws b (refusing r) next
+      → (Err e ≡ next → a ≡ refuse e.0) → checked ws b refuse a ≡ refuse e.0
+  stopped_then {A} e refuse a p rest =
+      by_guard ws b
+      (λ d s. let q : Err e ≡ refusing r d = p ∙ s Guard (refusing r) next in s A refuse a ∙ ap refuse (cc))
+      (λ q. checked_ok ws b refuse a q ∙ rest (p ∙ checked_ok ws b (refusing r) next q))
 
-pub stopped : {A : Type 0} (ws : List ℕ) (b : Bitmap) (e : Refusal) (refuse : Refusal → A) (a : A) → Stop e ≡ checked ws b Stop Pass → checked ws b refuse a ≡ refuse e
-stopped ws b e refuse a p = stopped_then ws b Pass e refuse a p (λ q. absurd (never e q))
+  -- it stops, or its answer is that of the others
+  pub guard_stops : (e : Refused) → Err e ≡ checked ws b (refusing r) passing → Err e ≡ checked ws b (refusing r) next
+  guard_stops e p =
+      by_guard ws b
+      (λ d s. p ∙ s Guard (refusing r) passing ∙ sym (s Guard (refusing r) next))
+      (λ q. let t : Err e ≡ passing = p ∙ checked_ok ws b (refusing r) passing q in zero_one cc)
+
+  pub guard_goes_on : (u : ⊤) (g : Guard) → Ok u ≡ checked ws b (refusing r) passing → g ≡ next → g ≡ checked ws b (refusing r) next
+  guard_goes_on u g p q =
+      by_guard ws b
+      (λ e s. let t : Ok u ≡ refusing r e = p ∙ s Guard (refusing r) passing in zero_one cc)
+      (λ t. q ∙ sym (checked_ok ws b (refusing r) next t))
+
+module _ (ws : List ℕ) (b : Bitmap) where
+  pub passed : {u : ⊤} → Ok u ≡ checked ws b (refusing b) passing → Passed ws b
+  passed {u} p = (passed_then ws b b passing u p).0
+
+  pub stopped : {A : Type 0} (e : Refused) (refuse : Refusal → A) (a : A) → Err e ≡ checked ws b (refusing b) passing → checked ws b refuse a ≡ refuse e.0
+  stopped e refuse a p = stopped_then ws b b passing e refuse a p (λ q. zero_one cc)
+
+  -- what a stopped guard gives back
+  pub gave_back : (r : Bitmap) (e : Refused) → Err e ≡ checked ws b (refusing r) passing → e.1 ≡ r
+  gave_back r e p =
+      by_guard ws b
+      (λ d s. let q : Err e ≡ refusing r d = p ∙ s Guard (refusing r) passing in cc)
+      (λ q. let t : Err e ≡ passing = p ∙ checked_ok ws b (refusing r) passing q in zero_one cc)
+
+  -- another record given back
+  pub stops_giving : (r : Bitmap) (e : Refused) → Err e ≡ checked ws b (refusing b) passing → refusing r e.0 ≡ checked ws b (refusing r) passing
+  stops_giving r e p = sym (stopped e (refusing r) passing p)
+
+  pub passes_giving : (r : Bitmap) (u : ⊤) → Ok u ≡ checked ws b (refusing b) passing → passing ≡ checked ws b (refusing r) passing
+  passes_giving r u p = sym (checked_ok ws b (refusing r) passing (passed p))
 
 -- ---- of two stores, and of three
 
--- a guard that has looked at the first: it stops, or its answer is that of the others
-module _ (ws : List ℕ) (b : Bitmap) (next : Guard) where
-  pub guard_stops : (e : Refusal) → Stop e ≡ checked ws b Stop Pass → Stop e ≡ checked ws b Stop next
-  guard_stops e p = sym (stopped ws b e Stop next p)
+module _ (ws : List ℕ) (b : Bitmap) (os : List ℕ) (o r : Bitmap) where
+  passed_after : (u : ⊤) → Ok u ≡ checked ws b (refusing r) (checked os o (refusing r) passing) → PassedTwo ws b os o
+  passed_after u p =
+      let q = passed_then ws b r (checked os o (refusing r) passing) u p in
+      record { own = q.0; other = (passed_then os o r passing u q.1).0 }
 
-  pub guard_goes_on : {g : Guard} → Pass ≡ checked ws b Stop Pass → g ≡ next → g ≡ checked ws b Stop next
-  guard_goes_on p q = q ∙ sym (checked_ok ws b Stop next (passed ws b p))
+  stopped_after : {A : Type 0} (e : Refused) (refuse : Refusal → A) (a : A) → Err e ≡ checked ws b (refusing r) (checked os o (refusing r) passing)
+      → checked ws b refuse (checked os o refuse a) ≡ refuse e.0
+  stopped_after e refuse a p =
+      stopped_then ws b r (checked os o (refusing r) passing) e refuse (checked os o refuse a) p
+      (λ q. stopped_then os o r passing e refuse a q (λ t. zero_one cc))
 
 module _ (ws : List ℕ) (b : Bitmap) (os : List ℕ) (o : Bitmap) where
-  pub passed_two : Pass ≡ checked ws b Stop (checked os o Stop Pass) → PassedTwo ws b os o
-  passed_two p =
-      let q = passed_then ws b (checked os o Stop Pass) p in
-      record { own = q.0; other = passed os o q.1 }
+  pub passed_two : {u : ⊤} → Ok u ≡ checked ws b (refusing b) (checked os o (refusing b) passing) → PassedTwo ws b os o
+  passed_two {u} p = passed_after ws b os o b u p
 
-  pub stopped_two : {A : Type 0} (e : Refusal) (refuse : Refusal → A) (a : A) → Stop e ≡ checked ws b Stop (checked os o Stop Pass)
-      → checked ws b refuse (checked os o refuse a) ≡ refuse e
-  stopped_two e refuse a p = stopped_then ws b (checked os o Stop Pass) e refuse (checked os o refuse a) p (λ q. stopped os o e refuse a q)
+  pub stopped_two : {A : Type 0} (e : Refused) (refuse : Refusal → A) (a : A) → Err e ≡ checked ws b (refusing b) (checked os o (refusing b) passing)
+      → checked ws b refuse (checked os o refuse a) ≡ refuse e.0
+  stopped_two e refuse a p = stopped_after ws b os o b e refuse a p
+
+  pub stops_giving_two : (r : Bitmap) (e : Refused) → Err e ≡ checked ws b (refusing b) (checked os o (refusing b) passing)
+      → refusing r e.0 ≡ checked ws b (refusing r) (checked os o (refusing r) passing)
+  stops_giving_two r e p = sym (stopped_two e (refusing r) passing p)
+
+  pub passes_giving_two : (r : Bitmap) (u : ⊤) → Ok u ≡ checked ws b (refusing b) (checked os o (refusing b) passing)
+      → passing ≡ checked ws b (refusing r) (checked os o (refusing r) passing)
+  passes_giving_two r u p =
+      let q = passed_after ws b os o b u p in
+      sym (checked_ok ws b (refusing r) (checked os o (refusing r) passing) q.own ∙ checked_ok os o (refusing r) passing q.other)
+
+  pub gave_back_two : (e : Refused) → Err e ≡ checked ws b (refusing b) (checked os o (refusing b) passing) → e.1 ≡ b
+  gave_back_two e p =
+      let q : Err e ≡ refusing b e.0 = p ∙ stopped_two e (refusing b) passing p in
+      cc
 
 module _ (ws : List ℕ) (b : Bitmap) (ls : List ℕ) (l : Bitmap) (rs : List ℕ) (r : Bitmap) where
-  pub passed_three : Pass ≡ checked ws b Stop (checked ls l Stop (checked rs r Stop Pass)) → PassedThree ws b ls l rs r
-  passed_three p =
-      let q = passed_then ws b (checked ls l Stop (checked rs r Stop Pass)) p in
-      let t = passed_two ls l rs r q.1 in
+  pub passed_three : {u : ⊤} → Ok u ≡ checked ws b (refusing b) (checked ls l (refusing b) (checked rs r (refusing b) passing)) → PassedThree ws b ls l rs r
+  passed_three {u} p =
+      let q = passed_then ws b b (checked ls l (refusing b) (checked rs r (refusing b) passing)) u p in
+      let t = passed_after ls l rs r b u q.1 in
       record { own = q.0; left = t.own; right = t.other }
 
-  pub stopped_three : {A : Type 0} (e : Refusal) (refuse : Refusal → A) (a : A) → Stop e ≡ checked ws b Stop (checked ls l Stop (checked rs r Stop Pass))
-      → checked ws b refuse (checked ls l refuse (checked rs r refuse a)) ≡ refuse e
+  pub stopped_three : {A : Type 0} (e : Refused) (refuse : Refusal → A) (a : A)
+      → Err e ≡ checked ws b (refusing b) (checked ls l (refusing b) (checked rs r (refusing b) passing))
+      → checked ws b refuse (checked ls l refuse (checked rs r refuse a)) ≡ refuse e.0
   stopped_three e refuse a p =
-      stopped_then ws b (checked ls l Stop (checked rs r Stop Pass)) e refuse (checked ls l refuse (checked rs r refuse a)) p
-      (λ q. stopped_two ls l rs r e refuse a q)
+      stopped_then ws b b (checked ls l (refusing b) (checked rs r (refusing b) passing)) e refuse (checked ls l refuse (checked rs r refuse a)) p
+      (λ q. stopped_after ls l rs r b e refuse a q)
+
+-- what `?` hands on of an error
+pub raised : {A E : Type 0} {r : Result A E} {e : E} → IsErr r × IsErrAnd r (λ x. x ≡ e) → r ≡ Err e
+raised {r = Ok a} (p, q) = absurd q
+raised {r = Err d} (p, q) = ap Err q
 
 -- ---- calls that only read
 
@@ -130,19 +181,23 @@ reading_ok ws b refuse f p = checked_ok ws b refuse (f (held ws b)) p
 pub reading_is : {A : Type 0} (ws : List ℕ) (b : Bitmap) (refuse : Refusal → A) (f : Bits → A) (a : A) → Passed ws b → a ≡ f (held ws b) → a ≡ reading ws b refuse f
 reading_is ws b refuse f a p q = q ∙ sym (reading_ok ws b refuse f p)
 
-pub reading_stopped : {A : Type 0} (ws : List ℕ) (b : Bitmap) (e : Refusal) (refuse : Refusal → A) (f : Bits → A) → Stop e ≡ checked ws b Stop Pass
-    → reading ws b refuse f ≡ refuse e
+pub reading_stopped : {A : Type 0} (ws : List ℕ) (b : Bitmap) (e : Refused) (refuse : Refusal → A) (f : Bits → A)
+    → Err e ≡ checked ws b (refusing b) passing → reading ws b refuse f ≡ refuse e.0
 unfolding reading
 reading_stopped ws b e refuse f p = stopped ws b e refuse (f (held ws b)) p
+
+pub reading_raised : {A : Type 0} (ws : List ℕ) (b : Bitmap) (f : Bits → Result A Refusal) {r : Result A Refusal} {e : Refused}
+    → IsErr r × IsErrAnd r (λ x. x ≡ e.0) → Err e ≡ checked ws b (refusing b) passing → r ≡ reading ws b Err f
+reading_raised ws b f {r} {e} q p = raised q ∙ sym (reading_stopped ws b e Err f p)
 
 -- and what an answer tells its caller: a refusal is the store's, and any other answer is of a store that passed
 module _ {A : Type 0} (ws : List ℕ) (b : Bitmap) (refuse : Refusal → A) (f : Bits → A) where
   pub told-refused : (e : Refusal) → ((d : Refusal) → refuse e ≡ refuse d → e ≡ d) → ((b : Bits) → refuse e ≡ f b → ⊥) → refuse e ≡ reading ws b refuse f
-      → Stop e ≡ checked ws b Stop Pass
+      → refusing b e ≡ checked ws b (refusing b) passing
   unfolding reading
   told-refused e one none q =
       by_guard ws b
-      (λ d s. ap Stop (one d (q ∙ s _ refuse (f (held ws b)))) ∙ sym (s _ Stop Pass))
+      (λ d s. ap (refusing b) (one d (q ∙ s _ refuse (f (held ws b)))) ∙ sym (s _ (refusing b) passing))
       (λ p. absurd (none (held ws b) (q ∙ checked_ok ws b refuse (f (held ws b)) p)))
 
   pub told : (a : A) → ((e : Refusal) → a ≡ refuse e → ⊥) → a ≡ reading ws b refuse f → Passed ws b × (a ≡ f (held ws b))
@@ -158,9 +213,13 @@ module _ {A : Type 0} (ws : List ℕ) (b : Bitmap) (os : List ℕ) (o : Bitmap) 
   unfolding reading_both
   both_ok p = reading_ok ws b refuse (λ s. reading os o refuse (f s)) p.own ∙ reading_ok os o refuse (f (held ws b)) p.other
 
-  pub both_stopped : (e : Refusal) → Stop e ≡ checked ws b Stop (checked os o Stop Pass) → reading_both ws b os o refuse f ≡ refuse e
+  pub both_stopped : (e : Refused) → Err e ≡ checked ws b (refusing b) (checked os o (refusing b) passing) → reading_both ws b os o refuse f ≡ refuse e.0
   unfolding reading_both reading
   both_stopped e p = stopped_two ws b os o e refuse (f (held ws b) (held os o)) p
+
+pub both_raised : {A : Type 0} (ws : List ℕ) (b : Bitmap) (os : List ℕ) (o : Bitmap) (f : Bits → Bits → Result A Refusal) {r : Result A Refusal} {e : Refused}
+    → IsErr r × IsErrAnd r (λ x. x ≡ e.0) → Err e ≡ checked ws b (refusing b) (checked os o (refusing b) passing) → r ≡ reading_both ws b os o Err f
+both_raised ws b os o f {r} {e} q p = raised q ∙ sym (both_stopped ws b os o Err f e p)
 
 -- ---- a second store
 

@@ -31,7 +31,8 @@ use Rattle.storage.specs.Promises.{MadeOf}
 use Rattle.storage.specs.declared.Bitmap.{Bitmap}
 use Rattle.storage.specs.declared.Refusal.{Refusal}
 use Rattle.storage.specs.declared.Refusal.TheVariants.{NoSpace}
-use Rattle.storage.specs.declared.Change.TheVariants.{Done, Refused}
+use Rattle.std.specs.Prelude.{Ok}
+use Rattle.storage.specs.Refusals.{refusing}
 use Rattle.storage.proofs.Checks.{both_ok, within_ok, within_no}
 use Rattle.storage.proofs.Views.{view-count, view_in, view-at, view_out, view-part, bounded_view}
 use Rattle.storage.proofs.Stores.{leaves_refused, leaves_done, length-zeroed, zeroed_in, zeroed_out}
@@ -191,7 +192,7 @@ zeroed-put made ws w ws' n m h p e = record {
 -- a call that comes to the first m words of a list, past which it has only 0: they are put, and 0 where words fall out of use
 module _ (made ws : List ℕ) (b : Bitmap) (m : ℕ) where
   pub put_leaves : (u : ℕ) (ws' : List ℕ) → Fit made → nonzero_len made ≤ m → m ≤ length ws → u ≡ max b.count m → Put (λ k. get_or made k 0) 0 u ws ws'
-      → Leaves (within (length ws) (view made m)) ws b (Done (with_count b m)) ws'
+      → Leaves (within (length ws) (view made m)) ws b (Ok (with_count b m)) ws'
   unfolding view
   put_leaves u ws' fit z h e p =
       leaves_done (within_ok (length ws) (view made m) h)
@@ -207,6 +208,6 @@ module _ (made ws : List ℕ) (b : Bitmap) (m : ℕ) where
       used : (k : ℕ) → k < u → get_or ws' k 0 ≡ get_or made k 0
       used k l = p.fresh k (omega arith) l
 
-  pub put_lacks : length ws < m → Leaves (within (length ws) (view made m)) ws b (Refused NoSpace b) ws
+  pub put_lacks : length ws < m → Leaves (within (length ws) (view made m)) ws b (refusing b NoSpace) ws
   unfolding view
   put_lacks h = leaves_refused (within_no (length ws) (view made m) h)

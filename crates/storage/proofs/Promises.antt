@@ -16,30 +16,23 @@ use Rattle.word.proofs.Lists.{determined, at_place, member-at}
 use Rattle.pairs.specs.Pairs.{table_of}
 use Rattle.pairs.specs.declared.SetOp.TheVariants.{Or}
 use Rattle.pairs.proofs.Promises.{table_means}
-use Rattle.storage.specs.Refusals.{last_number, number_of, change_number, change_record, guard_number, found_number, found_flag, found_value}
-use Rattle.storage.specs.Refusals.{amount_number, amount_value, field_number, field_value, truth_number, truth_value}
+use Rattle.storage.specs.Refusals.{last_number, number_of, Found, Amount, Truth, Change, Guard, passing, refusing, change_number, change_record, answer_number}
+use Rattle.storage.specs.Refusals.{found_flag, found_value, amount_value, truth_value}
 use Rattle.storage.specs.Stores.{Bits, Bounded, Outcome, refused, done, Space, Op, no_words, with_count, space_of, checked, view, held, beside}
 use Rattle.storage.specs.Stores.{reading, reading_both, combined, written, answer, store, outcome, Leaves, found_below, next_from, size}
 use Rattle.storage.specs.Stores.{words_for}
 use Rattle.storage.specs.Guards.{Stopped, Passed}
-use Rattle.storage.specs.Promises.{EachNumberOnce, Guarded, CheckMeans, GuardedBoth, CheckTwoMeans}
+use Rattle.storage.specs.Promises.{EachNumberOnce, Guarded, CheckMeans, Stops, GuardedBoth, CheckTwoMeans}
 use Rattle.storage.specs.Promises.{CheckThreeMeans, RefusalKeeps, ZeroWordsMean, WordsAndSets, SpaceRules, WrittenMeans, SpaceExact}
 use Rattle.storage.specs.Promises.{TrimmedCountMeans, CombinedMeans, UnitedMeans, SizeMeans, PlacesMean, HandsNone, FindsNone}
-use Rattle.storage.specs.Promises.{AnswersTell, Tests, Finds, NextMember, NextFromMeans, ReadingsMean, RecordsMean, AmountCall, FieldCall, TruthCall, FoundCall, Meets}
+use Rattle.storage.specs.Promises.{AnswersTell, Tests, Finds, NextMember, NextFromMeans, ReadingsMean, RecordsMean, AmountCall, TruthCall, FoundCall, Meets}
 use Rattle.storage.specs.Promises.{Kept, Made, Ends, EndsAs, ChangeMeans, MakeMeans, BesideMeans, OneEnd, Exactly, MeetsExactly, OnceExact}
 use Rattle.storage.specs.Promises.{Determines, DeterminesBeside, Chains}
+use Rattle.std.specs.Prelude.{Some, None, Ok, Err}
 use Rattle.storage.specs.declared.Bitmap.{Bitmap}
 use Rattle.storage.specs.declared.Refusal.{Refusal}
 use Rattle.storage.specs.declared.Refusal.TheVariants.{StoreTooLong, CountOverStore, WidthOver, IndexOver, PastLength, NoSpace, NotList}
 use Rattle.storage.specs.declared.Refusal.TheVariants.{NotAscii, NotSheet, CutRecord, BytesRemain, BadPayload, NewerKind, NoEdition, BadStyle, NumberOver}
-use Rattle.storage.specs.declared.Found.{Found}
-use Rattle.storage.specs.declared.Found.TheVariants.{At, Nothing}
-use Rattle.storage.specs.declared.Amount.{Amount}
-use Rattle.storage.specs.declared.Field.{Field}
-use Rattle.storage.specs.declared.Truth.{Truth}
-use Rattle.storage.specs.declared.Guard.TheVariants.{Pass, Stop}
-use Rattle.storage.specs.declared.Change.{Change}
-use Rattle.storage.specs.declared.Change.TheVariants.{Done}
 use Rattle.storage.proofs.Checks.{checked_ok, which_way, refuses, passed_as, within_ok, within_no}
 use Rattle.storage.proofs.Outcomes.{by_outcome, let_pass, same, never, which}
 use Rattle.storage.proofs.Views.{view-count, view_in, bounded_view}
@@ -117,18 +110,25 @@ guarded ws b refuse a No Rest stop rest r q = record {
 pub guarded_map : {ws : List ℕ} {b : Bitmap} {No : ℕ → Type 0} {P Q : Type 0} → (Passed ws b → P → Q) → Guarded ws b No P → Guarded ws b No Q
 guarded_map f g = record { stop = g.stop; rest = λ p. f p (g.rest p) }
 
+pub check_gives : (r : Bitmap) (ws : List ℕ) (b : Bitmap) (g : Guard) → g ≡ checked ws b (refusing r) passing → Guarded ws b (Stops g r) (change_number g ≡ 0)
+check_gives r ws b = guarded ws b (refusing r) passing (λ g k. Stops g r k) (λ g. change_number g ≡ 0) (λ e. (refl, refl)) (λ p. refl)
+
 pub check_means : CheckMeans
-check_means ws b = guarded ws b Stop Pass (λ r k. guard_number r ≡ k) (λ r. guard_number r ≡ 0) (λ e. refl) (λ p. refl) (checked ws b Stop Pass) refl
+check_means ws b = check_gives b ws b _ refl
+
+check_two_gives : (r : Bitmap) (ws : List ℕ) (b : Bitmap) (os : List ℕ) (o : Bitmap) (g : Guard)
+    → g ≡ checked ws b (refusing r) (checked os o (refusing r) passing) → GuardedBoth ws b os o (Stops g r) (change_number g ≡ 0)
+check_two_gives r ws b os o =
+    guarded ws b (refusing r) (checked os o (refusing r) passing) (λ g k. Stops g r k) (λ g. Guarded os o (Stops g r) (change_number g ≡ 0)) (λ e. (refl, refl))
+    (λ p. check_gives r os o _ refl)
 
 pub check_two_means : CheckTwoMeans
-check_two_means ws b os o =
-    guarded ws b Stop (checked os o Stop Pass) (λ r k. guard_number r ≡ k) (λ r. Guarded os o (λ k. guard_number r ≡ k) (guard_number r ≡ 0)) (λ e. refl)
-    (λ p. check_means os o) _ refl
+check_two_means ws b os o = check_two_gives b ws b os o _ refl
 
 pub check_three_means : CheckThreeMeans
 check_three_means ws b ls l rs r =
-    guarded ws b Stop (checked ls l Stop (checked rs r Stop Pass)) (λ g k. guard_number g ≡ k)
-    (λ g. GuardedBoth ls l rs r (λ k. guard_number g ≡ k) (guard_number g ≡ 0)) (λ e. refl) (λ p. check_two_means ls l rs r) _ refl
+    guarded ws b (refusing b) (checked ls l (refusing b) (checked rs r (refusing b) passing)) (λ g k. Stops g b k)
+    (λ g. GuardedBoth ls l rs r (Stops g b) (change_number g ≡ 0)) (λ e. (refl, refl)) (λ p. check_two_gives b ls l rs r _ refl) _ refl
 
 -- a call that only reads: what holds of its answer for every bitmap holds of it here
 pub reading_means : {A : Type 0} (refuse : Refusal → A) (f : Bits → A) (No : A → ℕ → Type 0) (Rest : Bits → A → Type 0)
@@ -158,42 +158,36 @@ pub records_mean : RecordsMean
 records_mean = record { none = refl; made = λ b n. refl; kept = λ b. refl; alone = λ n. refl }
 
 -- a test whose truth value is true exactly where P holds
-pub tests : (P : Type 0) (t : Bool) → (t ≡ true → P) → (P → t ≡ true) → Tests P (truth_number (Truth.Is t)) (truth_value (Truth.Is t))
+pub tests : (P : Type 0) (t : Bool) → (t ≡ true → P) → (P → t ≡ true) → Tests P (answer_number (Ok t)) (truth_value (Ok t))
 tests P true f g = (refl, inl (refl, f refl))
 tests P false f g = (refl, inr (refl, λ p. let e : false ≡ true = g p in zero_one cc))
 
-pub amount-call : (f : Bits → Amount) (Rest : Bits → ℕ → ℕ → Type 0) → ((b : Bits) → Bounded b → Rest b (amount_number (f b)) (amount_value (f b))) → AmountCall f Rest
+pub amount-call : (f : Bits → Amount) (Rest : Bits → ℕ → ℕ → Type 0) → ((b : Bits) → Bounded b → Rest b (answer_number (f b)) (amount_value (f b))) → AmountCall f Rest
 amount-call f Rest =
-    reading_means Amount.Refused f (λ r. HandsNone (amount_number r) (amount_value r)) (λ b r. Rest b (amount_number r) (amount_value r)) (λ e. (refl, refl))
+    reading_means Err f (λ r. HandsNone (answer_number r) (amount_value r)) (λ b r. Rest b (answer_number r) (amount_value r)) (λ e. (refl, refl))
 
-pub field-call : (f : Bits → Field) (Rest : Bits → ℕ → ℕ → Type 0) → ((b : Bits) → Bounded b → Rest b (field_number (f b)) (field_value (f b))) → FieldCall f Rest
-field-call f Rest =
-    reading_means Field.Refused f (λ r. HandsNone (field_number r) (field_value r)) (λ b r. Rest b (field_number r) (field_value r)) (λ e. (refl, refl))
-
-pub truth-call : (f : Bits → Truth) (Rest : Bits → ℕ → ℕ → Type 0) → ((b : Bits) → Bounded b → Rest b (truth_number (f b)) (truth_value (f b))) → TruthCall f Rest
+pub truth-call : (f : Bits → Truth) (Rest : Bits → ℕ → ℕ → Type 0) → ((b : Bits) → Bounded b → Rest b (answer_number (f b)) (truth_value (f b))) → TruthCall f Rest
 truth-call f Rest =
-    reading_means Truth.Refused f (λ r. HandsNone (truth_number r) (truth_value r)) (λ b r. Rest b (truth_number r) (truth_value r)) (λ e. (refl, refl))
+    reading_means Err f (λ r. HandsNone (answer_number r) (truth_value r)) (λ b r. Rest b (answer_number r) (truth_value r)) (λ e. (refl, refl))
 
 pub found-call : (f : Bits → Found) (Rest : Bits → ℕ → ℕ → ℕ → Type 0)
-    → ((b : Bits) → Bounded b → Rest b (found_number (f b)) (found_flag (f b)) (found_value (f b))) → FoundCall f Rest
+    → ((b : Bits) → Bounded b → Rest b (answer_number (f b)) (found_flag (f b)) (found_value (f b))) → FoundCall f Rest
 found-call f Rest =
-    reading_means Found.Refused f (λ r. FindsNone (found_number r) (found_flag r) (found_value r))
-    (λ b r. Rest b (found_number r) (found_flag r) (found_value r)) (λ e. (refl, refl, refl))
+    reading_means Err f (λ r. FindsNone (answer_number r) (found_flag r) (found_value r))
+    (λ b r. Rest b (answer_number r) (found_flag r) (found_value r)) (λ e. (refl, refl, refl))
 
 pub answers_tell : AnswersTell
 answers_tell = record {
   place = λ p. (refl, refl, refl);
   no_place = (refl, refl, refl);
   number = λ n. (refl, refl);
-  field = λ v. (refl, refl);
   holds = (refl, refl);
   fails = (refl, refl);
   change = λ b. (refl, refl);
   pass = refl;
-  stop = λ e. refl;
+  stop = λ e b. (refl, refl);
   no_found = λ e. (refl, refl, refl);
   no_number = λ e. (refl, refl);
-  no_field = λ e. (refl, refl);
   no_truth = λ e. (refl, refl);
   no_change = λ e b. (refl, refl);
 }
@@ -250,7 +244,7 @@ leaves_kept o ws ws' b r e l q = record {
   words = l.leaves ∙ ap (λ (x : Outcome). store x ws b.count) q;
 }
   where
-    a : r ≡ Change.Refused e b
+    a : r ≡ refusing b e
     a = l.answers ∙ ap (λ (x : Outcome). answer x b) q
 
 keeps : (o : Outcome) (ws ws' : List ℕ) (b : Bitmap) (r : Change) → Leaves o ws b r ws' → 0 < change_number r → (change_record r ≡ b) × (ws' ≡ ws)
@@ -288,7 +282,7 @@ leaves_made : (o : Outcome) (ws ws' : List ℕ) (b : Bitmap) (r : Change) (s : B
     → b.count ≤ length ws → s.count ≤ length ws → Bounded s → rule s → Made rule b.count ws (change_number r) (change_record r).count ws'
 unfolding answer store
 leaves_made o ws ws' b r s rule l q h k bound holds =
-    let a : r ≡ Done (with_count b s.count) = l.answers ∙ ap (λ (x : Outcome). answer x b) q in
+    let a : r ≡ Ok (with_count b s.count) = l.answers ∙ ap (λ (x : Outcome). answer x b) q in
     stored rule b.count ws ws' s _ _ h k bound holds (ap change_number a) (ap (λ (x : Change). (change_record x).count) a)
     (l.leaves ∙ ap (λ (x : Outcome). store x ws b.count) q)
 
@@ -490,9 +484,9 @@ pub next-member : NextFromMeans
 unfolding next_from found_below
 next-member b bounded i =
     by_lt p e
-    (λ h. subst is (sym (ap (λ (t : Bool). choose t (At p) Nothing) (lt-ltb p e h))) (refl, inl (refl, (r.from, r.here (omega arith), r.under))))
+    (λ h. subst is (sym (ap (λ (t : Bool). choose t there none) (lt-ltb p e h))) (refl, inl (refl, (r.from, r.here (omega arith), r.under))))
     (λ h.
-    subst is (sym (ap (λ (t : Bool). choose t (At p) Nothing) (le-ltb p e h)))
+    subst is (sym (ap (λ (t : Bool). choose t there none) (le-ltb p e h)))
     (refl, inr (refl, refl, λ q l. by_lt q e (λ m. r.under q l (omega arith)) (λ m. bounded.past q m))))
   where
     e : ℕ
@@ -501,11 +495,17 @@ next-member b bounded i =
     p : ℕ
     p = least_from b.members i (e - i)
 
+    there : Found
+    there = Ok (Some p)
+
+    none : Found
+    none = Ok None
+
     r : Least b.members i (i + (e - i)) p
     r = least b.members i (e - i)
 
     is : Found → Type 0
-    is a = NextMember b.members i (found_number a) (found_flag a) (found_value a)
+    is a = NextMember b.members i (answer_number a) (found_flag a) (found_value a)
 
 -- what is found, and what is not
 pub finds_at : (rule : ℕ → Type 0) (none : Type 0) (v : ℕ) → Finds rule none 0 1 v → rule v

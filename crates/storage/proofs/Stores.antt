@@ -21,10 +21,10 @@ use Rattle.storage.specs.Stores.{Bits, Bounded, Outcome, refused, done, Op, with
 use Rattle.storage.specs.Guards.{Passed}
 use Rattle.storage.specs.declared.Bitmap.{Bitmap}
 use Rattle.storage.specs.declared.Refusal.{Refusal}
-use Rattle.storage.specs.declared.Change.{Change}
-use Rattle.storage.specs.declared.Change.TheVariants.{Done, Refused}
-use Rattle.storage.specs.declared.Guard.TheVariants.{Pass, Stop}
-use Rattle.storage.proofs.Checks.{checked_ok, stopped, stopped_two}
+use Rattle.std.specs.Prelude.{Ok, Err, IsErr, IsErrAnd}
+use Rattle.storage.specs.declared.Refused.{Refused}
+use Rattle.storage.specs.Refusals.{Change, passing, refusing}
+use Rattle.storage.proofs.Checks.{checked_ok, stopped, stopped_two, gave_back, gave_back_two, raised}
 use Rattle.storage.proofs.Views.{view-count, view_in, view_out}
 
 -- ---- the store afterwards, by its words and their bits
@@ -157,16 +157,19 @@ grown-bit ws n e k j h l =
 
 -- ---- a call that is refused, and one that is done
 
-pub leaves_refused : {o : Outcome} {ws : List ℕ} {b : Bitmap} {e : Refusal} → o ≡ refused e → Leaves o ws b (Refused e b) ws
+pub leaves_refused : {o : Outcome} {ws : List ℕ} {b : Bitmap} {e : Refusal} → o ≡ refused e → Leaves o ws b (refusing b e) ws
 unfolding answer store
 leaves_refused {o} {ws} {b} {e} q =
     record { answers = ap (λ (x : Outcome). answer x b) (sym q); leaves = ap (λ (x : Outcome). store x ws b.count) (sym q) }
 
+abbrev changed_to : Bitmap → ℕ → Change
+changed_to b n = Ok (with_count b n)
+
 pub leaves_done : {o : Outcome} {ws ws' : List ℕ} {b : Bitmap} {s : Bits} {m : ℕ} → o ≡ done s → Stored ws b.count s ws' → m ≡ s.count
-    → Leaves o ws b (Done (with_count b m)) ws'
+    → Leaves o ws b (Ok (with_count b m)) ws'
 unfolding answer store
 leaves_done {o} {ws} {ws'} {b} {s} {m} q t e = record {
-  answers = ap (λ (k : ℕ). Done (with_count b k)) e ∙ ap (λ (x : Outcome). answer x b) (sym q);
+  answers = ap (λ (k : ℕ). changed_to b k) e ∙ ap (λ (x : Outcome). answer x b) (sym q);
   leaves = stored_written ws b.count s ws' t ∙ ap (λ (x : Outcome). store x ws b.count) (sym q);
 }
 
@@ -176,16 +179,22 @@ module _ (op : Op) (ws : List ℕ) (b : Bitmap) where
   outcome_ok p = checked_ok ws b refused (op (space_of ws) (held ws b)) p
 
   -- refused by 1 or 2
-  pub changes_stopped : (e : Refusal) → Stop e ≡ checked ws b Stop Pass → Changes op ws b (Refused e b) ws
+  pub changes_stopped : (e : Refused) → Err e ≡ checked ws b (refusing b) passing → Changes op ws b (Err e) ws
   unfolding outcome
-  changes_stopped e p = leaves_refused (stopped ws b e refused (op (space_of ws) (held ws b)) p)
+  changes_stopped e p =
+      let q : e ≡ (e.0, b) = ap (λ (r : Bitmap). (e.0, r)) (gave_back ws b b e p) in
+      subst (λ x. Leaves (checked ws b refused (op (space_of ws) (held ws b))) ws b (Err x) ws) (sym q)
+      (leaves_refused (stopped ws b e refused (op (space_of ws) (held ws b)) p))
+
+  pub changes_raised : {r : Change} {e : Refused} → IsErr r × IsErrAnd r (λ x. x ≡ e) → Err e ≡ checked ws b (refusing b) passing → Changes op ws b r ws
+  changes_raised {r} {e} q p = subst (λ (x : Change). Changes op ws b x ws) (sym (raised q)) (changes_stopped e p)
 
   -- refused by the operation
-  pub changes-refused : (e : Refusal) → Passed ws b → op (space_of ws) (held ws b) ≡ refused e → Changes op ws b (Refused e b) ws
+  pub changes-refused : (e : Refusal) → Passed ws b → op (space_of ws) (held ws b) ≡ refused e → Changes op ws b (refusing b e) ws
   changes-refused e p q = leaves_refused (outcome_ok p ∙ q)
 
   pub changes_done : (ws' : List ℕ) (s : Bits) (m : ℕ) → Passed ws b → op (space_of ws) (held ws b) ≡ done s
-      → Stored ws b.count s ws' → m ≡ s.count → Changes op ws b (Done (with_count b m)) ws'
+      → Stored ws b.count s ws' → m ≡ s.count → Changes op ws b (Ok (with_count b m)) ws'
   changes_done ws' s m p q t e = leaves_done (outcome_ok p ∙ q) t e
 
 -- two operations that come to the same on a store
@@ -196,7 +205,7 @@ changes-same op other ws ws' b r e h = subst (λ (o : Outcome). Leaves (checked 
 
 -- a call that changes nothing
 pub keeps_changes : (op : Op) (ws : List ℕ) (b : Bitmap) → Fit ws → Passed ws b → op (space_of ws) (held ws b) ≡ done (view ws b.count)
-    → Changes op ws b (Done b) ws
+    → Changes op ws b (Ok b) ws
 keeps_changes op ws b f p q =
     changes_done op ws b ws (view ws b.count) b.count p q
     (record {
@@ -231,7 +240,7 @@ part_stored ws ws' n f s h e q g = record {
 -- a call that keeps the count, by a kernel that leaves the words of g
 pub part-changes : (op : Op) (ws part : List ℕ) (b : Bitmap) (g : ℕ → Bool) (s : Bits) → Passed ws b
     → op (space_of ws) (held ws b) ≡ done s → s.count ≡ b.count → part ≡ words_of g (length (take b.count ws))
-    → ((i : ℕ) → i < 64 * b.count → g i ≡ s.members i) → Changes op ws b (Done b) (part ++ drop b.count ws)
+    → ((i : ℕ) → i < 64 * b.count → g i ≡ s.members i) → Changes op ws b (Ok b) (part ++ drop b.count ws)
 part-changes op ws part b g s p q e w h =
     changes_done op ws b (part ++ drop n ws) s n p q
     (part_stored ws (part ++ drop n ws) n g s p.inside
@@ -261,7 +270,14 @@ word_stored ws n k v s f h l e hv here there = record {
 }
 
 -- refused by the 1 or 2 of either store
-pub two_stopped : (op : Bits → Op) (ws os : List ℕ) (b o : Bitmap) (e : Refusal) → Stop e ≡ checked ws b Stop (checked os o Stop Pass)
-    → Changes (beside os o op) ws b (Refused e b) ws
+pub two_stopped : (op : Bits → Op) (ws os : List ℕ) (b o : Bitmap) (e : Refused) → Err e ≡ checked ws b (refusing b) (checked os o (refusing b) passing)
+    → Changes (beside os o op) ws b (Err e) ws
 unfolding outcome beside
-two_stopped op ws os b o e p = leaves_refused (stopped_two ws b os o e refused (op (held os o) (space_of ws) (held ws b)) p)
+two_stopped op ws os b o e p =
+    let q : e ≡ (e.0, b) = ap (λ (r : Bitmap). (e.0, r)) (gave_back_two ws b os o e p) in
+    subst (λ x. Leaves (checked ws b refused (beside os o op (space_of ws) (held ws b))) ws b (Err x) ws) (sym q)
+    (leaves_refused (stopped_two ws b os o e refused (op (held os o) (space_of ws) (held ws b)) p))
+
+pub two_raised : (op : Bits → Op) (ws os : List ℕ) (b o : Bitmap) {r : Change} {e : Refused} → IsErr r × IsErrAnd r (λ x. x ≡ e)
+    → Err e ≡ checked ws b (refusing b) (checked os o (refusing b) passing) → Changes (beside os o op) ws b r ws
+two_raised op ws os b o {r} {e} q p = subst (λ (x : Change). Changes (beside os o op) ws b x ws) (sym (raised q)) (two_stopped op ws os b o e p)

@@ -1,26 +1,18 @@
 -- What the definitions promise, in words of their own. Each is proved in proofs/Promises.
-use Rattle.std.specs.Prelude.{ℕ, suc, ◌+◌, ◌*◌, ◌≤◌, ◌<◌, ◌^◌, max, ◌≡◌, Bool, true, false, List, ◌↔◌, ◌⊎◌, length, get_or}
+use Rattle.std.specs.Prelude.{ℕ, suc, ◌+◌, ◌*◌, ◌≤◌, ◌<◌, ◌^◌, max, ◌≡◌, Bool, true, false, List, ◌↔◌, ◌⊎◌, length, get_or, Some, None, Ok, Err, ⊤}
 use Rattle.word.specs.Sets.{Counted}
 use Rattle.word.specs.Places.{member}
 use Rattle.pairs.specs.Promises.{ComesIn}
 use Rattle.pairs.specs.declared.SetOp.{SetOp}
 use Rattle.pairs.specs.declared.SetOp.TheVariants.{Or}
 use Rattle.storage.specs.Guards.{most_words, Stopped, Passed}
-use Rattle.storage.specs.Refusals.{last_number, number_of, found_number, found_flag, found_value, amount_number, amount_value, field_number}
-use Rattle.storage.specs.Refusals.{field_value, truth_number, truth_value, change_number, change_record, guard_number}
+use Rattle.storage.specs.Refusals.{last_number, number_of, Found, Amount, Truth, Change, Guard, passing, refusing, answer_number, found_flag, found_value}
+use Rattle.storage.specs.Refusals.{amount_value, truth_value, change_number, change_record}
 use Rattle.storage.specs.Stores.{Bits, Bounded, Outcome, refused, done, Space, Op, with_count, no_words, bitmap_of, checked, view}
 use Rattle.storage.specs.Stores.{beside, reading, reading_both, size, combined, next_from, within, up_to, in_region, passes, words_for, trimmed_count, trimmed}
 use Rattle.storage.specs.Stores.{written, zeroed, Changes, Makes}
 use Rattle.storage.specs.declared.Bitmap.{Bitmap}
 use Rattle.storage.specs.declared.Refusal.{Refusal}
-use Rattle.storage.specs.declared.Change.{Change}
-use Rattle.storage.specs.declared.Change.TheVariants.{Done}
-use Rattle.storage.specs.declared.Found.{Found}
-use Rattle.storage.specs.declared.Found.TheVariants.{At, Nothing}
-use Rattle.storage.specs.declared.Amount.{Amount}
-use Rattle.storage.specs.declared.Field.{Field}
-use Rattle.storage.specs.declared.Truth.{Truth}
-use Rattle.storage.specs.declared.Guard.TheVariants.{Pass, Stop}
 
 -- the record of no words, and one with another count
 pub record RecordsMean : Type 0 where
@@ -40,9 +32,21 @@ pub record Guarded (ws : List ℕ) (b : Bitmap) (No : ℕ → Type 0) (Rest : Ty
   pub stop : (k : ℕ) → Stopped ws b k → No k
   pub rest : Passed ws b → Rest
 
+-- a guard that stops gives back the record b
+abbrev pub GivesBack : Bitmap → Guard → Type 0
+GivesBack b (Ok a) = ⊤
+GivesBack b (Err r) = r.1 ≡ b
+
+-- a guard stops with k and gives back the record b
+abbrev pub Stops : Guard → Bitmap → ℕ → Type 0
+Stops g b k = (change_number g ≡ k) × GivesBack b g
+
 -- `check`
 abbrev pub CheckMeans : Type 0
-CheckMeans = (ws : List ℕ) (b : Bitmap) → Guarded ws b (λ k. guard_number (checked ws b Stop Pass) ≡ k) (guard_number (checked ws b Stop Pass) ≡ 0)
+CheckMeans =
+    (ws : List ℕ) (b : Bitmap)
+    → let g : Guard = checked ws b (refusing b) passing in
+    Guarded ws b (Stops g b) (change_number g ≡ 0)
 
 -- of two stores, the first one's first
 abbrev pub GuardedBoth : List ℕ → Bitmap → List ℕ → Bitmap → (ℕ → Type 0) → Type 0 → Type 0
@@ -52,14 +56,14 @@ GuardedBoth ws b os o No Rest = Guarded ws b No (Guarded os o No Rest)
 abbrev pub CheckTwoMeans : Type 0
 CheckTwoMeans =
     (ws : List ℕ) (b : Bitmap) (os : List ℕ) (o : Bitmap)
-    → let r = checked ws b Stop (checked os o Stop Pass) in
-    GuardedBoth ws b os o (λ k. guard_number r ≡ k) (guard_number r ≡ 0)
+    → let g : Guard = checked ws b (refusing b) (checked os o (refusing b) passing) in
+    GuardedBoth ws b os o (Stops g b) (change_number g ≡ 0)
 
 abbrev pub CheckThreeMeans : Type 0
 CheckThreeMeans =
     (ws : List ℕ) (b : Bitmap) (ls : List ℕ) (l : Bitmap) (rs : List ℕ) (r : Bitmap)
-    → let g = checked ws b Stop (checked ls l Stop (checked rs r Stop Pass)) in
-    Guarded ws b (λ k. guard_number g ≡ k) (GuardedBoth ls l rs r (λ k. guard_number g ≡ k) (guard_number g ≡ 0))
+    → let g : Guard = checked ws b (refusing b) (checked ls l (refusing b) (checked rs r (refusing b) passing)) in
+    Guarded ws b (Stops g b) (GuardedBoth ls l rs r (Stops g b) (change_number g ≡ 0))
 
 -- demand 1: whatever the operation, a call whose number is not 0 returns the old record and leaves every word
 abbrev pub RefusalKeeps : Type 0
@@ -155,20 +159,18 @@ FindsNone x f v k = (x ≡ k) × (f ≡ 0) × (v ≡ 0)
 
 -- what is told of each answer: 0 and its value, or its number and 0
 pub record AnswersTell : Type 0 where
-  pub place : (p : ℕ) → (found_number (At p) ≡ 0) × (found_flag (At p) ≡ 1) × (found_value (At p) ≡ p)
-  pub no_place : FindsNone (found_number Nothing) (found_flag Nothing) (found_value Nothing) 0
-  pub number : (n : ℕ) → (amount_number (Amount.Is n) ≡ 0) × (amount_value (Amount.Is n) ≡ n)
-  pub field : (v : ℕ) → (field_number (Field.Is v) ≡ 0) × (field_value (Field.Is v) ≡ v)
-  pub holds : (truth_number (Truth.Is true) ≡ 0) × (truth_value (Truth.Is true) ≡ 1)
-  pub fails : (truth_number (Truth.Is false) ≡ 0) × (truth_value (Truth.Is false) ≡ 0)
-  pub change : (b : Bitmap) → (change_number (Done b) ≡ 0) × (change_record (Done b) ≡ b)
-  pub pass : guard_number Pass ≡ 0
-  pub stop : (e : Refusal) → guard_number (Stop e) ≡ number_of e
-  pub no_found : (e : Refusal) → FindsNone (found_number (Found.Refused e)) (found_flag (Found.Refused e)) (found_value (Found.Refused e)) (number_of e)
-  pub no_number : (e : Refusal) → HandsNone (amount_number (Amount.Refused e)) (amount_value (Amount.Refused e)) (number_of e)
-  pub no_field : (e : Refusal) → HandsNone (field_number (Field.Refused e)) (field_value (Field.Refused e)) (number_of e)
-  pub no_truth : (e : Refusal) → HandsNone (truth_number (Truth.Refused e)) (truth_value (Truth.Refused e)) (number_of e)
-  pub no_change : (e : Refusal) (b : Bitmap) → (change_number (Change.Refused e b) ≡ number_of e) × (change_record (Change.Refused e b) ≡ b)
+  pub place : (p : ℕ) → let r : Found = Ok (Some p) in (answer_number r ≡ 0) × (found_flag r ≡ 1) × (found_value r ≡ p)
+  pub no_place : let r : Found = Ok None in FindsNone (answer_number r) (found_flag r) (found_value r) 0
+  pub number : (n : ℕ) → let r : Amount = Ok n in (answer_number r ≡ 0) × (amount_value r ≡ n)
+  pub holds : let r : Truth = Ok true in (answer_number r ≡ 0) × (truth_value r ≡ 1)
+  pub fails : let r : Truth = Ok false in (answer_number r ≡ 0) × (truth_value r ≡ 0)
+  pub change : (b : Bitmap) → let r : Change = Ok b in (change_number r ≡ 0) × (change_record r ≡ b)
+  pub pass : let g : Guard = passing in change_number g ≡ 0
+  pub stop : (e : Refusal) (b : Bitmap) → let g : Guard = refusing b e in Stops g b (number_of e)
+  pub no_found : (e : Refusal) → let r : Found = Err e in FindsNone (answer_number r) (found_flag r) (found_value r) (number_of e)
+  pub no_number : (e : Refusal) → let r : Amount = Err e in HandsNone (answer_number r) (amount_value r) (number_of e)
+  pub no_truth : (e : Refusal) → let r : Truth = Err e in HandsNone (answer_number r) (truth_value r) (number_of e)
+  pub no_change : (e : Refusal) (b : Bitmap) → let r : Change = refusing b e in (change_number r ≡ number_of e) × (change_record r ≡ b)
 
 -- a number of which the rule holds
 abbrev pub Hands : (ℕ → Type 0) → ℕ → ℕ → Type 0
@@ -191,7 +193,7 @@ abbrev pub NextFromMeans : Type 0
 NextFromMeans =
     (b : Bits) → Bounded b → (i : ℕ)
     → let r = next_from b i in
-    NextMember b.members i (found_number r) (found_flag r) (found_value r)
+    NextMember b.members i (answer_number r) (found_flag r) (found_value r)
 
 -- a call that only reads, whatever it answers: 1 and 2 of the store, then what holds of its answer for every bitmap; so of two bitmaps
 pub record ReadingsMean : Type 1 where
@@ -207,29 +209,22 @@ pub record ReadingsMean : Type 1 where
 
 abbrev pub AmountCall : (Bits → Amount) → (Bits → ℕ → ℕ → Type 0) → Type 0
 AmountCall f Rest =
-    (ws : List ℕ) (b : Bitmap) (r : Amount) → r ≡ reading ws b Amount.Refused f
-    → let x = amount_number r in
+    (ws : List ℕ) (b : Bitmap) (r : Amount) → r ≡ reading ws b Err f
+    → let x = answer_number r in
     let v = amount_value r in
-    Guarded ws b (HandsNone x v) (Rest (view ws b.count) x v)
-
-abbrev pub FieldCall : (Bits → Field) → (Bits → ℕ → ℕ → Type 0) → Type 0
-FieldCall f Rest =
-    (ws : List ℕ) (b : Bitmap) (r : Field) → r ≡ reading ws b Field.Refused f
-    → let x = field_number r in
-    let v = field_value r in
     Guarded ws b (HandsNone x v) (Rest (view ws b.count) x v)
 
 abbrev pub TruthCall : (Bits → Truth) → (Bits → ℕ → ℕ → Type 0) → Type 0
 TruthCall f Rest =
-    (ws : List ℕ) (b : Bitmap) (r : Truth) → r ≡ reading ws b Truth.Refused f
-    → let x = truth_number r in
+    (ws : List ℕ) (b : Bitmap) (r : Truth) → r ≡ reading ws b Err f
+    → let x = answer_number r in
     let v = truth_value r in
     Guarded ws b (HandsNone x v) (Rest (view ws b.count) x v)
 
 abbrev pub FoundCall : (Bits → Found) → (Bits → ℕ → ℕ → ℕ → Type 0) → Type 0
 FoundCall f Rest =
-    (ws : List ℕ) (b : Bitmap) (r : Found) → r ≡ reading ws b Found.Refused f
-    → let x = found_number r in
+    (ws : List ℕ) (b : Bitmap) (r : Found) → r ≡ reading ws b Err f
+    → let x = answer_number r in
     let t = found_flag r in
     let v = found_value r in
     Guarded ws b (FindsNone x t v) (Rest (view ws b.count) x t v)

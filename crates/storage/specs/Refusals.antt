@@ -1,19 +1,11 @@
--- The fourteen numbers of document 01 and those of later requests, and what a changing call answers in its terms.
-use Rattle.std.specs.Prelude.{ℕ}
+-- The fourteen numbers of document 01 and those of later requests, and what calls answer, told in numbers.
+use Rattle.std.specs.Prelude.{ℕ, Bool, Option, Some, None, Result, Ok, Err, ⊤}
 use Rattle.word.specs.Sets.{val}
 use Rattle.storage.specs.declared.Bitmap.{Bitmap}
 use Rattle.storage.specs.declared.Refusal.{Refusal}
+use Rattle.storage.specs.declared.Refused.{Refused}
 use Rattle.storage.specs.declared.Refusal.TheVariants.{StoreTooLong, CountOverStore, WidthOver, IndexOver, PastLength, NoSpace, NotList}
 use Rattle.storage.specs.declared.Refusal.TheVariants.{NotAscii, NotSheet, CutRecord, BytesRemain, BadPayload, NewerKind, NoEdition, BadStyle, NumberOver}
-use Rattle.storage.specs.declared.Change.{Change}
-use Rattle.storage.specs.declared.Change.TheVariants.{Done}
-use Rattle.storage.specs.declared.Found.{Found}
-use Rattle.storage.specs.declared.Found.TheVariants.{At, Nothing}
-use Rattle.storage.specs.declared.Amount.{Amount}
-use Rattle.storage.specs.declared.Field.{Field}
-use Rattle.storage.specs.declared.Truth.{Truth}
-use Rattle.storage.specs.declared.Guard.{Guard}
-use Rattle.storage.specs.declared.Guard.TheVariants.{Pass, Stop}
 
 -- the numbers are 1 to this one
 abbrev pub last_number : ℕ
@@ -37,55 +29,59 @@ number_of NoEdition = 14
 number_of BadStyle = 15
 number_of NumberOver = 16
 
+-- what calls answer, or why they are refused: a place that is searched for, a count or a field, a test; of two stores that they pass
+abbrev pub Found : Type 0
+Found = Result (Option ℕ) Refusal
+
+abbrev pub Amount : Type 0
+Amount = Result ℕ Refusal
+
+abbrev pub Truth : Type 0
+Truth = Result Bool Refusal
+
+-- a change answers the new record, or why not and the old one; a guard has nothing to answer where it lets pass
+abbrev pub Change : Type 0
+Change = Result Bitmap Refused
+
+abbrev pub Guard : Type 0
+Guard = Result ⊤ Refused
+
+abbrev pub passing : Guard
+passing = Ok tt
+
+-- a refusal, and the record as it was
+abbrev pub refusing : {A : Type 0} → Bitmap → Refusal → Result A Refused
+refusing b e = Err (e, b)
+
 -- of each answer its number, 0 for done, and its value, 0 where it is refused
-abbrev pub found_number : Found → ℕ
-found_number (At p) = 0
-found_number Nothing = 0
-found_number (Found.Refused e) = number_of e
+abbrev pub answer_number : {A : Type 0} → Result A Refusal → ℕ
+answer_number (Ok a) = 0
+answer_number (Err e) = number_of e
 
 -- 1 where something is found
 abbrev pub found_flag : Found → ℕ
-found_flag (At p) = 1
-found_flag Nothing = 0
-found_flag (Found.Refused e) = 0
+found_flag (Ok (Some p)) = 1
+found_flag (Ok None) = 0
+found_flag (Err e) = 0
 
 abbrev pub found_value : Found → ℕ
-found_value (At p) = p
-found_value Nothing = 0
-found_value (Found.Refused e) = 0
-
-abbrev pub amount_number : Amount → ℕ
-amount_number (Amount.Is n) = 0
-amount_number (Amount.Refused e) = number_of e
+found_value (Ok (Some p)) = p
+found_value (Ok None) = 0
+found_value (Err e) = 0
 
 abbrev pub amount_value : Amount → ℕ
-amount_value (Amount.Is n) = n
-amount_value (Amount.Refused e) = 0
-
-abbrev pub field_number : Field → ℕ
-field_number (Field.Is x) = 0
-field_number (Field.Refused e) = number_of e
-
-abbrev pub field_value : Field → ℕ
-field_value (Field.Is x) = x
-field_value (Field.Refused e) = 0
-
-abbrev pub truth_number : Truth → ℕ
-truth_number (Truth.Is t) = 0
-truth_number (Truth.Refused e) = number_of e
+amount_value (Ok n) = n
+amount_value (Err e) = 0
 
 abbrev pub truth_value : Truth → ℕ
-truth_value (Truth.Is t) = val t
-truth_value (Truth.Refused e) = 0
+truth_value (Ok t) = val t
+truth_value (Err e) = 0
 
-abbrev pub change_number : Change → ℕ
-change_number (Done b) = 0
-change_number (Change.Refused e b) = number_of e
+-- of a change or a guard its number, and the record of a change
+abbrev pub change_number : {A : Type 0} → Result A Refused → ℕ
+change_number (Ok a) = 0
+change_number (Err r) = number_of r.0
 
 abbrev pub change_record : Change → Bitmap
-change_record (Done b) = b
-change_record (Change.Refused e b) = b
-
-abbrev pub guard_number : Guard → ℕ
-guard_number Pass = 0
-guard_number (Stop e) = number_of e
+change_record (Ok b) = b
+change_record (Err r) = r.1

@@ -1,6 +1,6 @@
 -- What a call makes of a bitmap. Its meaning is a set of numbers and a word count; a call is an operation on those, and the words follow:
 -- word k in use is the set's, a word that falls out of use is 0, and a word outside both counts is as it was (01, "Words that enter and leave use").
-use Rattle.std.specs.Prelude.{ℕ, ◌+◌, ◌-◌, ◌*◌, ◌/◌, ◌^◌, ◌≤◌, max, ◌≡◌, Bool, false, ◌&&◌, List, length, get_or, ltb, leb, eqb}
+use Rattle.std.specs.Prelude.{ℕ, ◌+◌, ◌-◌, ◌*◌, ◌/◌, ◌^◌, ◌≤◌, max, ◌≡◌, Bool, false, ◌&&◌, List, length, get_or, ltb, leb, eqb, Some, None, Ok}
 use Rattle.word.specs.Sets.{choose, xorb, count_below, least_from, top_below}
 use Rattle.word.specs.Places.{word_of, member, tab_from}
 use Rattle.arch.specs.Scans.{filled_words}
@@ -9,10 +9,7 @@ use Rattle.pairs.specs.declared.SetOp.{SetOp}
 use Rattle.storage.specs.declared.Bitmap.{Bitmap}
 use Rattle.storage.specs.declared.Refusal.{Refusal}
 use Rattle.storage.specs.declared.Refusal.TheVariants.{StoreTooLong, CountOverStore, NoSpace}
-use Rattle.storage.specs.declared.Found.{Found}
-use Rattle.storage.specs.declared.Found.TheVariants.{At, Nothing}
-use Rattle.storage.specs.declared.Change.{Change}
-use Rattle.storage.specs.declared.Change.TheVariants.{Done, Refused}
+use Rattle.storage.specs.Refusals.{Found, Change, refusing}
 
 -- the meaning of a bitmap: its members, and the words in use
 pub record Bits : Type 0 where
@@ -96,7 +93,7 @@ combined op b o = record { members = λ i. table_of op (b.members i) (o.members 
 
 -- a place found below e, or nothing
 unfoldable pub found_below : ℕ → ℕ → Found
-found_below e p = choose (ltb p e) (At p) Nothing
+found_below e p = choose (ltb p e) (Ok (Some p)) (Ok None)
 
 -- the least member from i on
 unfoldable pub next_from : Bits → ℕ → Found
@@ -152,8 +149,8 @@ zeroed old new ws = filled_words old new 0 ws
 
 -- what is answered, and what is left in the store: a refusal returns the old record and leaves every word
 unfoldable pub answer : Outcome → Bitmap → Change
-answer (refused e) b = Refused e b
-answer (done s) b = Done (with_count b s.count)
+answer (refused e) b = refusing b e
+answer (done s) b = Ok (with_count b s.count)
 
 unfoldable pub store : Outcome → List ℕ → ℕ → List ℕ
 unfolding written

@@ -3,16 +3,15 @@
 // The types here are those that every crate above shares.
 #![tactic(auto)]
 
-ghost use Rattle.std.specs.Prelude.{◌≡◌};
-ghost use Rattle.storage.specs.Refusals.{number_of};
+ghost use Rattle.std.specs.Prelude.{◌≡◌, Ok};
+ghost use Rattle.storage.specs.Refusals.{number_of, passing, refusing};
 ghost use Rattle.storage.specs.Stores.{checked, zeroed};
-ghost use Rattle.storage.specs.declared.Guard.TheVariants.{Pass, Stop};
 
 // The most words that a store may have.
 pub const LIMIT: usize = 67_108_864;
 
 // A bitmap's record: the words in use, from the start of its store. A new one is made of an old one, as `Bitmap { count: n, ..b }`.
-#[derive(Clone, Copy)]
+#[derive(Clone, Copy, Debug, PartialEq, Eq)]
 pub struct Bitmap {
     pub count: usize,
 }
@@ -20,118 +19,71 @@ pub struct Bitmap {
 // The record of a bitmap that has no words yet: the only one that is made of nothing.
 pub const EMPTY: Bitmap = Bitmap { count: 0 };
 
-// Why a call is refused.
-#[derive(Clone, Copy)]
+// Why a call is refused, by the number of document 01 or of a later request.
+#[derive(Clone, Copy, Debug, PartialEq, Eq, Hash)]
 pub enum Refusal {
-    StoreTooLong,
-    CountOverStore,
-    WidthOver,
-    IndexOver,
-    PastLength,
-    NoSpace,
-    NotList,
-    NotAscii,
-    NotSheet,
-    CutRecord,
-    BytesRemain,
-    BadPayload,
-    NewerKind,
-    NoEdition,
-    BadStyle,
-    NumberOver,
+    StoreTooLong = 1,
+    CountOverStore = 2,
+    WidthOver = 3,
+    IndexOver = 4,
+    PastLength = 5,
+    NoSpace = 6,
+    NotList = 7,
+    NotAscii = 8,
+    NotSheet = 9,
+    CutRecord = 10,
+    BytesRemain = 11,
+    BadPayload = 12,
+    NewerKind = 13,
+    NoEdition = 14,
+    BadStyle = 15,
+    NumberOver = 16,
 }
 
 impl Refusal {
-    // The number of document 01, or of a later request.
+    // The number that the papers give it.
     pub fn number(self) -> u32
         ensures { result ≡ number_of self }
     {
-        match self {
-            Refusal::StoreTooLong => 1,
-            Refusal::CountOverStore => 2,
-            Refusal::WidthOver => 3,
-            Refusal::IndexOver => 4,
-            Refusal::PastLength => 5,
-            Refusal::NoSpace => 6,
-            Refusal::NotList => 7,
-            Refusal::NotAscii => 8,
-            Refusal::NotSheet => 9,
-            Refusal::CutRecord => 10,
-            Refusal::BytesRemain => 11,
-            Refusal::BadPayload => 12,
-            Refusal::NewerKind => 13,
-            Refusal::NoEdition => 14,
-            Refusal::BadStyle => 15,
-            Refusal::NumberOver => 16,
-        }
+        self as u32
     }
 }
 
-// What a changing call answers: the new record, or the refusal with the old one.
-#[derive(Clone, Copy)]
-pub enum Change {
-    Done(Bitmap),
-    Refused(Refusal, Bitmap),
-}
+// What a changing call answers in place of the new record: why it is refused, and the old record.
+#[derive(Clone, Copy, Debug, PartialEq, Eq)]
+pub struct Refused(pub Refusal, pub Bitmap);
 
-// What a search answers.
-#[derive(Clone, Copy)]
-pub enum Found {
-    At(usize),
-    Nothing,
-    Refused(Refusal),
-}
+// A reading call says only why.
+impl From<Refused> for Refusal {
+    ghost from_gives = { λ refused why. why ≡ refused.0 };
 
-// What a call answers that counts or measures.
-#[derive(Clone, Copy)]
-pub enum Amount {
-    Is(usize),
-    Refused(Refusal),
-}
-
-// What a call answers that reads a field.
-#[derive(Clone, Copy)]
-pub enum Field {
-    Is(u64),
-    Refused(Refusal),
-}
-
-// What a call answers that tests.
-#[derive(Clone, Copy)]
-pub enum Truth {
-    Is(bool),
-    Refused(Refusal),
-}
-
-// What is found of a store before a call's work.
-#[derive(Clone, Copy)]
-pub enum Guard {
-    Pass,
-    Stop(Refusal),
+    fn from(refused: Refused) -> Refusal {
+        refused.0
+    }
 }
 
 // Refuses a store over the limit, then a count over its store: what every call asks first.
-pub fn check(words: &[u64], b: Bitmap) -> Guard
-    ensures { result ≡ checked words.now b Stop Pass }
+pub fn check(words: &[u64], b: Bitmap) -> Result<(), Refused>
+    ensures { result ≡ checked words.now b (refusing b) passing }
 {
     if words.len() > LIMIT {
-        return Guard::Stop(Refusal::StoreTooLong);
+        return Err(Refused(Refusal::StoreTooLong, b));
     }
     if b.count > words.len() {
-        return Guard::Stop(Refusal::CountOverStore);
+        return Err(Refused(Refusal::CountOverStore, b));
     }
-    Guard::Pass
+    Ok(())
 }
 
-// The same of two stores, in their order.
-pub fn check_two(words: &[u64], b: Bitmap, other: &[u64], o: Bitmap) -> Guard
-    ensures { result ≡ checked words.now b Stop (checked other.now o Stop Pass) }
+// The same of two stores, in their order. The first record is the one that a change gives back.
+pub fn check_two(words: &[u64], b: Bitmap, other: &[u64], o: Bitmap) -> Result<(), Refused>
+    ensures { result ≡ checked words.now b (refusing b) (checked other.now o (refusing b) passing) }
 {
-    match check(words, b) {
-        Guard::Stop(e) => return Guard::Stop(e),
-        Guard::Pass => {}
+    check(words, b)?;
+    if let Err(Refused(why, _)) = check(other, o) {
+        return Err(Refused(why, b));
     }
-    check(other, o)
+    Ok(())
 }
 
 // The same of three.
@@ -142,14 +94,15 @@ pub fn check_three(
     l: Bitmap,
     right: &[u64],
     r: Bitmap,
-) -> Guard
-    ensures { result ≡ checked words.now b Stop (checked left.now l Stop (checked right.now r Stop Pass)) }
+) -> Result<(), Refused>
+    ensures { result
+        ≡ checked words.now b (refusing b) (checked left.now l (refusing b) (checked right.now r (refusing b) passing)) }
 {
-    match check(words, b) {
-        Guard::Stop(e) => return Guard::Stop(e),
-        Guard::Pass => {}
+    check(words, b)?;
+    if let Err(Refused(why, _)) = check_two(left, l, right, r) {
+        return Err(Refused(why, b));
     }
-    check_two(left, l, right, r)
+    Ok(())
 }
 
 // Zeroes the words between two counts, as far as the store has them.

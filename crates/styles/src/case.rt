@@ -1,202 +1,184 @@
 // One case: a call on memory that is filled as the line says, and what it answers and leaves compared with the line.
 ghost use Rattle.std.specs.Prelude.{◌≤◌};
 
+use std::{array, fmt};
 use storage::{Bitmap, EMPTY};
 use style::Style;
 use told::Told;
-use word::Word;
-
-// The numbers of a line: which part it belongs to, the style, capacity and count of the store; what is right, number and count or length; the size of
-// the buffer, how many bytes the line has, the words of the store before and after the call, and the bytes, eight a number.
-pub const PART: usize = 0;
-
-const FIRST: usize = 1;
-
-const JOINER: usize = 2;
-
-const BLANK: usize = 3;
-
-const SHORTEST: usize = 4;
-
-const CAPACITY: usize = 5;
-
-const COUNT: usize = 6;
-
-pub const NUMBER: usize = 7;
-
-const ANSWER: usize = 8;
-
-const SIZE: usize = 9;
-
-const LENGTH: usize = 10;
-
-const BEFORE: usize = 11;
-
-const AFTER: usize = 15;
-
-const BYTES: usize = 19;
 
 // The words of a store, and the bytes of a buffer or a text.
 const STORE: usize = 4;
 
 const BUFFER: usize = 2_048;
 
-// The parts: a text read, a set printed, a set printed and read back.
-const TEXT: u64 = 0;
+// The largest number of an answer.
+const NUMBERS: u64 = 16;
 
-const SET: u64 = 1;
-
-const ROUND_TRIP: u64 = 2;
-
-// What a case shows.
-pub const AGREES: u64 = 0;
-
-pub const OTHER_ANSWER: u64 = 1;
-
-pub const OTHER_MEMORY: u64 = 2;
-
-// A number, or the most that it may be.
-fn at_most(x: u64, most: usize) -> usize
-    ensures { result ≤ most }
-{
-    let n = x as usize;
-    if n < most { n } else { most }
+// What a case does.
+#[derive(Clone, Copy)]
+pub enum Part {
+    // A text is read,
+    Text,
+    // a set printed,
+    Set,
+    // a set printed and read back.
+    RoundTrip,
 }
 
-// Whether the line is a case that has room here, with exactly `count` numbers.
-pub(crate) fn sound(line: &[u64; 300], count: usize) -> bool {
-    line[PART] <= ROUND_TRIP
-        && line[BLANK] <= 1
-        && line[CAPACITY] <= STORE as u64
-        && line[NUMBER] <= 16
-        && line[SIZE] <= BUFFER as u64
-        && line[LENGTH] <= BUFFER as u64
-        && count == BYTES + (at_most(line[LENGTH], BUFFER) + 7) / 8
-}
+// A part that no case has.
+#[derive(Clone, Copy, Debug)]
+pub struct UnknownPart;
 
-fn style_of(line: &[u64; 300]) -> Style {
-    Style {
-        first: line[FIRST] as usize,
-        joiner: line[JOINER] as usize,
-        blank: line[BLANK] == 1,
-        shortest: line[SHORTEST] as usize,
-    }
-}
+impl TryFrom<u64> for Part {
+    type Error = UnknownPart;
 
-fn bitmap(count: usize) -> Bitmap {
-    Bitmap { count, ..EMPTY }
-}
-
-fn before(line: &[u64; 300]) -> [u64; 4] {
-    [
-        line[BEFORE],
-        line[BEFORE + 1],
-        line[BEFORE + 2],
-        line[BEFORE + 3],
-    ]
-}
-
-// Whether the words of the store are as the call should leave them.
-fn left(line: &[u64; 300], store: &[u64; 4]) -> bool {
-    store[0] == line[AFTER]
-        && store[1] == line[AFTER + 1]
-        && store[2] == line[AFTER + 2]
-        && store[3] == line[AFTER + 3]
-}
-
-// Byte k where the line has n: behind them a pattern of bytes that no text has.
-fn byte_of(line: &[u64; 300], n: usize, k: usize) -> u8 {
-    if k >= n {
-        return (128 + k % 128) as u8;
-    }
-    if k >= BUFFER {
-        return 0;
-    }
-    ((line[BYTES + k / 8] >> (56 - k % 8 * 8)) % 256) as u8
-}
-
-// The first n bytes of the line, and the pattern.
-fn bytes(line: &[u64; 300], n: usize) -> [u8; 2048] {
-    let mut out = [0u8; 2048];
-    for k in 0..BUFFER {
-        out[k] = byte_of(line, n, k);
-    }
-    out
-}
-
-// Whether the buffer has the bytes of the line, and behind them the pattern.
-fn left_bytes(line: &[u64; 300], out: &[u8; 2048]) -> bool {
-    let n = at_most(line[LENGTH], BUFFER);
-    for k in 0..BUFFER {
-        if out[k] != byte_of(line, n, k) {
-            return false;
+    fn try_from(part: u64) -> Result<Part, UnknownPart> {
+        match part {
+            0 => Ok(Part::Text),
+            1 => Ok(Part::Set),
+            2 => Ok(Part::RoundTrip),
+            _ => Err(UnknownPart),
         }
     }
-    true
 }
 
-// What an answer and the memory show.
-fn shown(line: &[u64; 300], got: Told, memory: bool) -> u64 {
-    if got.number as u64 != line[NUMBER] {
-        return OTHER_ANSWER;
+// How a case differs from its line.
+#[derive(Clone, Copy)]
+pub enum Mismatch {
+    Answer,
+    Memory,
+}
+
+impl fmt::Display for Mismatch {
+    fn fmt<W: fmt::Write>(&self, f: &mut fmt::Formatter<W>) -> fmt::Result {
+        f.write_str(match self {
+            Mismatch::Answer => "something else is answered",
+            Mismatch::Memory => "something else is left in memory",
+        })
     }
-    if got.value != line[ANSWER] {
-        return OTHER_ANSWER;
+}
+
+// What stands in byte k of a buffer before the call; no text has such a byte.
+fn unwritten(k: usize) -> u8 {
+    (128 + k % 128) as u8
+}
+
+// The part, style, capacity and count of the store, what is right, number and count or length; the size of the buffer, the length of the text, the words
+// of the store before and after the call, and the text, eight bytes a number.
+#[derive(Drop)]
+pub struct Case<'a> {
+    pub part: Part,
+    style: Style,
+    capacity: usize,
+    count: usize,
+    pub number: u64,
+    answer: u64,
+    size: usize,
+    length: usize,
+    before: [u64; STORE],
+    after: [u64; STORE],
+    text: &'a [u64],
+    ghost store_has_room: { capacity ≤ 4 },
+    ghost buffer_has_room: { size ≤ 2048 },
+    ghost text_has_room: { length ≤ 2048 },
+}
+
+impl<'a> Case<'a> {
+    // The case that has exactly these numbers, if there is one with room here.
+    pub fn of(numbers: &'a [u64]) -> Option<Case<'a>> {
+        let (&[part, first, joiner, blank, shortest], rest) = numbers.split_first_chunk::<5>()?;
+        let (&[capacity, count, number, answer, size, length], rest) = rest.split_first_chunk::<
+            6,
+        >()?;
+        let (&before, rest) = rest.split_first_chunk::<STORE>()?;
+        let (&after, text) = rest.split_first_chunk::<STORE>()?;
+        let (capacity, size, length) = (capacity as usize, size as usize, length as usize);
+        let fits = capacity <= STORE && size <= BUFFER && length <= BUFFER;
+        if blank > 1 || number > NUMBERS || !fits || text.len() != length.div_ceil(8) {
+            return None;
+        }
+        Some(Case {
+            part: Part::try_from(part).ok()?,
+            style: Style {
+                first: first as usize,
+                joiner: joiner as usize,
+                blank: blank == 1,
+                shortest: shortest as usize,
+            },
+            capacity,
+            count: count as usize,
+            number,
+            answer,
+            size,
+            length,
+            before,
+            after,
+            text,
+        })
     }
-    if memory { AGREES } else { OTHER_MEMORY }
-}
 
-fn reading(line: &[u64; 300]) -> u64 {
-    let mut store = before(line);
-    let n = at_most(line[LENGTH], BUFFER);
-    let capacity = at_most(line[CAPACITY], STORE);
-    let b = bitmap(line[COUNT] as usize);
-    let text = bytes(line, n);
-    let got = text::from_list(&mut store[0..capacity], b, &text[0..n], style_of(line));
-    shown(line, told::change(got), left(line, &store))
-}
-
-// Prints the set of the line into the first bytes of a buffer.
-fn printed(line: &[u64; 300], out: &mut [u8]) -> Told {
-    let store = before(line);
-    let capacity = at_most(line[CAPACITY], STORE);
-    let b = bitmap(line[COUNT] as usize);
-    told::amount(print::write_list(&store[0..capacity], b, out, style_of(line)))
-}
-
-fn printing(line: &[u64; 300]) -> u64 {
-    let mut out = bytes(line, 0);
-    let size = at_most(line[SIZE], BUFFER);
-    let got = printed(line, &mut out[0..size]);
-    shown(line, got, left_bytes(line, &out))
-}
-
-// Reads into a store of ones, all in use.
-fn read_back(line: &[u64; 300], text: &[u8]) -> u64 {
-    let mut store = [0u64; 4];
-    let capacity = at_most(line[CAPACITY], STORE);
-    let b = bitmap(capacity);
-    arch::fill_words(&mut store, 0, capacity, Word::ONES);
-    let got = text::from_list(&mut store[0..capacity], b, text, style_of(line));
-    shown(line, told::change(got), left(line, &store))
-}
-
-// Where the set is not printed, its number is the answer.
-fn round_trip(line: &[u64; 300]) -> u64 {
-    let mut out = bytes(line, 0);
-    let got = printed(line, &mut out);
-    if got.number != 0 {
-        return shown(line, got, true);
+    // A buffer with the text, and unwritten behind it.
+    fn written(&self) -> [u8; BUFFER] {
+        array::from_fn(|k| match self.text.get(k / 8) {
+            Some(word) if k < self.length => word.to_be_bytes()[k % 8],
+            _ => unwritten(k),
+        })
     }
-    let n = at_most(got.value, BUFFER);
-    read_back(line, &out[0..n])
-}
 
-pub(crate) fn replay(line: &[u64; 300]) -> u64 {
-    let part = line[PART];
-    match part {
-        TEXT => reading(line),
-        SET => printing(line),
-        _ => round_trip(line),
+    fn compare(&self, got: Told, same_memory: bool) -> Result<(), Mismatch> {
+        if u64::from(got.number) != self.number || got.value != self.answer {
+            Err(Mismatch::Answer)
+        } else if same_memory {
+            Ok(())
+        } else {
+            Err(Mismatch::Memory)
+        }
+    }
+
+    // Reads a text into a store of which so many words are in use.
+    fn read(&self, store: &mut [u64; STORE], count: usize, text: &[u8]) -> Result<(), Mismatch> {
+        let record = Bitmap { count, ..EMPTY };
+        let got = text::from_list(&mut store[..self.capacity], record, text, self.style);
+        self.compare(told::change(got), *store == self.after)
+    }
+
+    // Prints the set into a buffer.
+    fn print(&self, out: &mut [u8]) -> Told {
+        let record = Bitmap {
+            count: self.count,
+            ..EMPTY
+        };
+        told::amount(print::write_list(&self.before[..self.capacity], record, out, self.style))
+    }
+
+    fn printed(&self) -> Result<(), Mismatch> {
+        let mut out: [u8; BUFFER] = array::from_fn(unwritten);
+        let got = self.print(&mut out[..self.size]);
+        self.compare(got, out == self.written())
+    }
+
+    // Where the set is not printed, its number is the answer. It is read into a store of ones, all in use.
+    fn round_trip(&self) -> Result<(), Mismatch> {
+        let mut out: [u8; BUFFER] = array::from_fn(unwritten);
+        let got = self.print(&mut out);
+        if got.number != 0 {
+            return self.compare(got, true);
+        }
+        let n = BUFFER.min(got.value as usize);
+        let mut store = [0; STORE];
+        store[..self.capacity].fill(u64::MAX);
+        self.read(&mut store, self.capacity, &out[..n])
+    }
+
+    // Makes the call, and compares its answer and what it leaves.
+    pub fn replay(&self) -> Result<(), Mismatch> {
+        match self.part {
+            Part::Text => {
+                let mut store = self.before;
+                self.read(&mut store, self.count, &self.written()[..self.length])
+            }
+            Part::Set => self.printed(),
+            Part::RoundTrip => self.round_trip(),
+        }
     }
 }

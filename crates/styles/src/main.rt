@@ -3,93 +3,75 @@
 #![tactic(auto)]
 
 mod case;
-mod line;
+mod list;
 mod tally;
 
-use crate::line::{LOST, Line};
+use crate::case::Case;
+use crate::tally::{End, Tally};
 use std::io;
 use std::io::Read;
+
+// The bytes that no list has.
+const MOST: usize = 1_048_576;
 
 // Stands for a part on the last line, which has its own number and no more.
 const LAST: u64 = 15;
 
-// Replays a case.
-fn one(rt: &impl Print, numbers: &[u64; 300], counts: &mut [u64; 78]) -> io::Result<()> {
-    let part = numbers[case::PART];
-    let number = numbers[case::NUMBER];
-    let what = case::replay(numbers);
-    tally::case(counts, part, number);
-    if what != case::AGREES {
-        tally::mismatch(rt, counts, part, number, what == case::OTHER_ANSWER)?;
+// Replays the case of a line.
+fn one(rt: &impl Print, line: u64, case: &Case<'_>, tally: &mut Tally) -> io::Result<()> {
+    let number = case.number;
+    let shown = case.replay();
+    tally.add(case.part, number, shown.is_err());
+    if let Err(mismatch) = shown {
+        println!(rt; "line {line}: number {number} is right, and {mismatch}")?;
     }
     Ok(())
 }
 
-// How the list ended; no further line is read.
-fn ended(counts: &mut [u64; 78], how: u64) -> usize {
-    counts[tally::ENDED] = how;
-    LOST
-}
-
-// The place after a line; LOST where the list ends with it or it can't be read.
-fn taken(
-    rt: &impl Print,
-    l: Line,
-    end: usize,
-    numbers: &[u64; 300],
-    counts: &mut [u64; 78],
-) -> io::Result<usize> {
-    if l.count == 2 && numbers[0] == LAST && numbers[1] == counts[tally::LINE] {
-        if l.at == end {
-            return Ok(ended(counts, tally::WHOLE));
+// Every line, up to the last or one that can't be read: how many, and how the list ends.
+fn lines(
+    rt: &(impl Print + AllocGlobal),
+    list: &[u8],
+    tally: &mut Tally,
+) -> io::Result<(u64, End)> {
+    let mut numbers = Vec::new(rt.alloc());
+    let mut last = 0u64;
+    let mut end = End::Cut;
+    for line in list.split_inclusive(|byte| *byte == b'\n') {
+        if end == End::Whole {
+            return Ok((last, End::More));
         }
-        return Ok(ended(counts, tally::MORE));
-    }
-    if case::sound(numbers, l.count) {
-        one(rt, numbers, counts)?;
-        return Ok(l.at);
-    }
-    Ok(ended(counts, tally::UNREAD))
-}
-
-// Every line, up to the last or one that can't be read; each takes a byte or more.
-fn lines(rt: &impl Print, s: &[u8], counts: &mut [u64; 78]) -> io::Result<()> {
-    let mut numbers = [0u64; 300];
-    let mut at: usize = 0;
-    for turn in 0..s.len() {
-        if at >= s.len() {
-            return Ok(());
+        last = last.saturating_add(1);
+        let sound = list::read(line, &mut numbers)?;
+        if sound && numbers.as_slice() == [LAST, last].as_slice() {
+            end = End::Whole;
+        } else if sound && let Some(case) = Case::of(&numbers) {
+            one(rt, last, &case, tally)?;
+        } else {
+            return Ok((last, End::Unread));
         }
-        tally::more(counts, tally::LINE);
-        let l = line::read(s, at, &mut numbers);
-        at = taken(rt, l, s.len(), &numbers, counts)?;
     }
-    Ok(())
+    Ok((last, end))
 }
 
-// The list is the first n bytes; where it fills them all, some may be missing.
-fn replay(rt: &impl Print, s: &[u8], n: usize) -> io::Result<()> {
-    let mut counts = [0u64; 78];
-    if n >= s.len() {
-        return rt.write_all(b"the list is too long\n");
+// Nothing more where the list is whole.
+fn report(rt: &impl Print, last: u64, end: End) -> io::Result<()> {
+    match end {
+        End::Whole => Ok(()),
+        End::Cut => println!(rt; "the list is cut after line {last}"),
+        End::Unread => println!(rt; "line {last} can't be read"),
+        End::More => println!(rt; "the list goes on after its last line, {last}"),
     }
-    lines(rt, &s[0..n], &mut counts)?;
-    tally::report(rt, &counts)
-}
-
-// Reads until the input fills its place or ends: how many bytes there are then.
-fn load(rt: &impl Input, input: &mut [u8; 1048576]) -> io::Result<usize> {
-    let mut to = &mut input[..];
-    let n = io::copy(&mut rt.reader().take(1_048_576), &mut to)?;
-    Ok(n as usize)
-}
-
-fn run(rt: &impl Print, input: &[u8; 1048576], n: usize) -> io::Result<()> {
-    replay(rt, input, n)
 }
 
 fn main(rt: HostRuntime) -> io::Result<()> {
-    let mut input = [0u8; 1048576];
-    let n = load(&rt, &mut input)?;
-    run(&rt, &input, n)
+    let mut list = Vec::new(rt.alloc());
+    rt.reader().take(MOST as u64).read_to_end(&mut list)?;
+    if list.len() == MOST {
+        return println!(rt; "the list is too long");
+    }
+    let mut tally = Tally::default();
+    let (last, end) = lines(&rt, &list, &mut tally)?;
+    tally.report(&rt)?;
+    report(&rt, last, end)
 }

@@ -16,14 +16,13 @@ use Rattle.text.specs.Faults.{Written, digits}
 use Rattle.text.specs.Readings.{kind, too_large, NumberSoFar, Unread, Open, Closed, Left, Alone, From, Part, part, fresh, bit_of, value, unread, empty, ranged, token}
 use Rattle.text.specs.Readings.{by_joiner, by_kind, TextSoFar, reading, token_ends, after, next, reads, no_list, ranges, text_ends, parsed, parse}
 use Rattle.text.specs.declared.Kind.{Kind}
-use Rattle.text.specs.declared.Value.{Value}
-use Rattle.text.specs.declared.Value.TheVariants.{Of, Bad}
 use Rattle.text.specs.declared.Fault.{Fault}
 use Rattle.text.specs.declared.Fault.TheVariants.{Slip}
-use Rattle.text.specs.declared.Token.TheVariants.{Range as Ranging}
 use Rattle.text.proofs.Tokens.{reads_bad}
 use Rattle.text.proofs.Steps.{kind-digit, kind-blank, kind_joiner, kind-comma, kind_other, chosen, token-at, bit_of_lem}
 use Rattle.text.specs.declared.Kind.TheVariants.{Digit, Blank, Joiner, Comma, Other}
+use Rattle.text.specs.Readings.{Value}
+use Rattle.std.specs.Prelude.{Ok, Err, Some}
 
 -- ---- what a byte is
 
@@ -177,7 +176,7 @@ module _ (st : Style) (ok : Allowed st) where
       }
 
   -- a number of an allowed style is not too large
-  pub number_read : (rs : List Range) (l : Left) {t : List ℕ} {a : ℕ} → g.Numeral st t a → Kept rs l t (Of a)
+  pub number_read : (rs : List Range) (l : Left) {t : List ℕ} {a : ℕ} → g.Numeral st t a → Kept rs l t (Ok a)
   number_read rs l (g.number {a = a} b x y h) =
       written_read rs l (digits b x y) (bit_of_lem st.first (min too_large (a + st.first)) a (omega (arith, ok.first)) h)
 
@@ -208,7 +207,7 @@ module _ (st : Style) (ok : Allowed st) where
   comma-read rs p = next-at rs p comma (kind-comma st.joiner comma refl refl apart.comma refl)
 
   token-read : (rs : List Range) {t : List ℕ} {r : Range} → g.Token st t r
-      → (p : Part) × (reads st (reading rs fresh) t ≡ reading rs p) × (token st.first p ≡ Ranging r.low r.high)
+      → (p : Part) × (reads st (reading rs fresh) t ≡ reading rs p) × (token st.first p ≡ Ok (Some (r.low, r.high)))
   token-read rs (g.single {t = t} {a = a} x) =
       let q = number_read rs Alone x in
       (part Alone q.n, q.read, part-token Alone q.n q.is q.full)
@@ -246,7 +245,7 @@ module _ (st : Style) (ok : Allowed st) where
   complete x = list_read [] x
 
   -- digits that are no number of the style
-  pub no_number : {d : List ℕ} {v : ℕ} (f : Fault) → g.Digits d v → bit_of st.first (min too_large v) ≡ Bad f → parse st d ≡ no_list f
+  pub no_number : {d : List ℕ} {v : ℕ} (f : Fault) → g.Digits d v → bit_of st.first (min too_large v) ≡ Err f → parse st d ≡ no_list f
   unfolding parse parsed token empty value
   no_number f x e = ap (parsed st.first) (digits-read [] Alone x) ∙ ap (λ (z : Value). text_ends [] (ranged Alone z)) e
 

@@ -13,7 +13,6 @@ use Rattle.storage.specs.Refusals.{number_of, change_number}
 use Rattle.storage.specs.Guards.{Passed}
 use Rattle.storage.specs.Stores.{Bits, Bounded, Outcome, refused, done, held, answer, Changes}
 use Rattle.storage.specs.declared.Bitmap.{Bitmap}
-use Rattle.storage.specs.declared.Change.{Change}
 use Rattle.storage.specs.Promises.{Contained}
 use Rattle.storage.proofs.Checks.{within_ok, within_no}
 use Rattle.storage.proofs.Stores.{outcome_ok}
@@ -33,6 +32,7 @@ use Rattle.text.proofs.Grammar.{Fate, listed, slip, over, fate, correct, slip_co
 use Rattle.text.proofs.Refuses.{slips, huge_ones}
 use Rattle.text.proofs.Marks.{between_marks, between_in}
 use Rattle.text.proofs.Taken.{list_no_style, list-not-plain, list_is}
+use Rattle.storage.specs.Refusals.{Change}
 
 -- ---- the grammar
 

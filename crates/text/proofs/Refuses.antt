@@ -14,12 +14,11 @@ use Rattle.text.specs.Readings.{too_large, NumberSoFar, Unread, Left, Alone, Fro
 use Rattle.text.specs.Readings.{TextSoFar, bad, reading, token_ends, reads, no_list, text_ends, parsed, parse}
 use Rattle.text.specs.declared.Fault.{Fault}
 use Rattle.text.specs.declared.Fault.TheVariants.{Slip, Huge}
-use Rattle.text.specs.declared.Value.TheVariants.{Bad}
-use Rattle.text.specs.declared.Token.TheVariants.{Range as Ranging, Empty, NoRange}
 use Rattle.text.proofs.Steps.{ranged_bad, token_bad, token-empty, other, bit_below, bit-over}
 use Rattle.text.proofs.Tokens.{reads_bad}
 use Rattle.text.proofs.Accepts.{reads-append, reads-cons, blanks_none, Kept, written_read, number_read, part-token, past_joiner, comma-read, upto_comma}
 use Rattle.text.proofs.Numbers.{cut, any, Text, written, blank, slipped, text}
+use Rattle.std.specs.Prelude.{Ok, Err, Some, None}
 
 -- what is on either side of another byte
 pub free_left : {c : ℕ} (t : List ℕ) (d : ℕ) (u : List ℕ) → b.Free c (t ++ d ∷ u) → b.Free c t
@@ -36,22 +35,22 @@ module _ (st : Style) (ok : Allowed st) where
   -- it stops the reading, or it ends as no range, or it is blank
   data Fails (rs : List Range) (d : Fault) (t : List ℕ) : Type 0 where
     stops : reads st (reading rs fresh) t ≡ bad d → Fails rs d t
-    ends : (p : Part) → reads st (reading rs fresh) t ≡ reading rs p → token st.first p ≡ NoRange d → Fails rs d t
+    ends : (p : Part) → reads st (reading rs fresh) t ≡ reading rs p → token st.first p ≡ Err d → Fails rs d t
     blanks : d ≡ Slip → g.Blanks t → Fails rs d t
 
   -- a huge number is read as one, and one below the first as a slip
-  huge_read : (rs : List Range) (l : Left) {t : List ℕ} → b.Huge st t → Kept st ok rs l t (Bad Huge)
+  huge_read : (rs : List Range) (l : Left) {t : List ℕ} → b.Huge st t → Kept st ok rs l t (Err Huge)
   huge_read rs l (b.above {v = v} w h) = written_read st ok rs l w (bit-over st.first (min too_large v) (omega (arith, ok.first)) (omega (arith, ok.first)))
 
-  below_read : (rs : List Range) (l : Left) {t : List ℕ} {v : ℕ} → b.Written t v → v < st.first → Kept st ok rs l t (Bad Slip)
+  below_read : (rs : List Range) (l : Left) {t : List ℕ} {v : ℕ} → b.Written t v → v < st.first → Kept st ok rs l t (Err Slip)
   below_read rs l {v = v} w h = written_read st ok rs l w (bit_below st.first (min too_large v) (omega (arith, h)))
 
   -- a bad number without a joiner
-  single : (rs : List Range) (d : Fault) {t : List ℕ} → Kept st ok rs Alone t (Bad d) → Fails rs d t
+  single : (rs : List Range) (d : Fault) {t : List ℕ} → Kept st ok rs Alone t (Err d) → Fails rs d t
   single rs d k = ends (part Alone k.n) k.read (part-token st ok Alone k.n k.is k.full ∙ ranged_bad Alone d)
 
   -- a bad left number
-  left : (rs : List Range) (d : Fault) (t : List ℕ) (n : NumberSoFar) → reads st (reading rs fresh) t ≡ reading rs (part Alone n) → value st.first n ≡ Bad d
+  left : (rs : List Range) (d : Fault) (t : List ℕ) (n : NumberSoFar) → reads st (reading rs fresh) t ≡ reading rs (part Alone n) → value st.first n ≡ Err d
       → (u : List ℕ) → Fails rs d (t ++ st.joiner ∷ u)
   left rs d t n e f u = stops (past_joiner st ok rs t n e f u ∙ reads_bad st d u)
 
@@ -59,7 +58,7 @@ module _ (st : Style) (ok : Allowed st) where
   past : (rs : List Range) {t : List ℕ} {a : ℕ} → g.Numeral st t a → (u : List ℕ) → reads st (reading rs fresh) (t ++ st.joiner ∷ u) ≡ reads st (reading rs (part (From a) Unread)) u
   past rs {t} x u = let k = number_read st ok rs Alone x in past_joiner st ok rs t k.n k.read k.is u
 
-  right : (rs : List Range) (d : Fault) {t u : List ℕ} {a : ℕ} → g.Numeral st t a → Kept st ok rs (From a) u (Bad d) → Fails rs d (t ++ st.joiner ∷ u)
+  right : (rs : List Range) (d : Fault) {t u : List ℕ} {a : ℕ} → g.Numeral st t a → Kept st ok rs (From a) u (Err d) → Fails rs d (t ++ st.joiner ∷ u)
   right rs d {u = u} {a = a} x k =
       ends (part (From a) k.n) (past rs x u ∙ k.read) (part-token st ok (From a) k.n k.is k.full ∙ ranged_bad (From a) d)
 
@@ -94,7 +93,7 @@ module _ (st : Style) (ok : Allowed st) where
   none_fails rs f (b.right {a = a} x (b.below w h)) = right rs Slip x (below_read rs (From a) w h)
   none_fails rs f (b.falling {t = t} {u = u} {a = a} {b = c} x y h) =
       let k = number_read st ok rs (From a) y in
-      ends (part (From a) k.n) (past rs x u ∙ k.read) (part-token st ok (From a) k.n k.is k.full ∙ other (Ranging a c) (NoRange Slip) (lt-leb a c h))
+      ends (part (From a) k.n) (past rs x u ∙ k.read) (part-token st ok (From a) k.n k.is k.full ∙ other (Ok (Some (a, c))) (Err Slip) (lt-leb a c h))
 
   -- ---- a text with a bad token
 
@@ -117,7 +116,7 @@ module _ (st : Style) (ok : Allowed st) where
   at-end rs d (ends p e f) k = ap (parsed st.first) e ∙ ap (text_ends rs) f
   at-end rs d (blanks e x) (inl k) =
       ap (parsed st.first) (blanks_none st ok rs Alone x) ∙ ap (text_ends rs) (token-empty st.first fresh refl)
-      ∙ ap (λ (qs : List Range). text_ends qs Empty) k ∙ ap no_list (sym e)
+      ∙ ap (λ (qs : List Range). text_ends qs (Ok None)) k ∙ ap no_list (sym e)
   at-end rs d (blanks e x) (inr k) = absurd (k x)
 
   module _ (kind : List ℕ → Type 0) (d : Fault) (fails : (rs : List Range) (t : List ℕ) → b.Free comma t → kind t → Fails rs d t) where

@@ -1,13 +1,10 @@
 -- What a byte, a token's state and a token's end come to, where they are known by equations.
 use mathlib.Core.Path.{◌≡◌, refl, sym, ap, ap₂, ◌∙◌}
 use mathlib.Core.Bool.{Bool, true, false, ◌&&◌}
-use mathlib.Core.List.{List}
+use mathlib.Core.List.{List, [], ◌∷◌}
 use Prim.Native.Nat.{ℕ, zero, suc, ◌+◌, ◌-◌, ◌≤◌, ◌<◌}
 use native.Mathlib.Omega.{arith}
-use native.Mathlib.Numerals.{add-one}
 use lib.Dec.{leb, ltb, eqb, eqb-suc-zero}
-use lib.ListN.{length, get_or, drop, drop_of_length-le}
-use lib.Seq.{drop-cons}
 use borrow.Author.Tests.{lt-ltb, le-ltb, lt-leb, le-leb, leb-true, ne_eqb, eq-eqb}
 use Rattle.word.specs.Sets.{choose}
 use Rattle.word.proofs.Cases.{zero_one}
@@ -18,23 +15,24 @@ use Rattle.text.specs.Readings.{Go, Stop, by_digit, by_blank, by_joiner, by_kind
 use Rattle.text.specs.Kernels.{number_so_far, left_of, part_of}
 use Rattle.text.specs.declared.Kind.{Kind}
 use Rattle.text.specs.declared.Kind.TheVariants.{Digit, Blank, Joiner, Comma, Other}
-use Rattle.text.specs.declared.Value.{Value}
-use Rattle.text.specs.declared.Value.TheVariants.{Of, Bad}
 use Rattle.text.specs.declared.Fault.{Fault}
 use Rattle.text.specs.declared.Fault.TheVariants.{Slip, Huge}
 use Rattle.text.specs.declared.Part.{Part}
-use Rattle.text.specs.declared.Token.TheVariants.{Range as Ranging, Empty, NoRange}
+use Rattle.text.specs.Readings.{Value, Token}
+use Rattle.std.specs.Prelude.{Ok, Err, Some, None, slice_index}
+use Rattle.std.specs.Bool.{MatchBool}
+use Rattle.std.specs.Str.{IsAscii, IsNotAscii}
 
 pub step-at : (x : ℕ) (p : read.Part) {k k' : Kind} {l : Left} {n : NumberSoFar} → k ≡ k' → p.left ≡ l → p.number ≡ n → by_kind x p k ≡ by_kind x (record { left = l; number = n }) k'
 step-at x p e f g = λ i. by_kind x (record { left = f i; number = g i }) (e i)
 
 pub token-at : (x : ℕ) (p : read.Part) {l : Left} {v : Value} → empty p ≡ false → p.left ≡ l → value x p.number ≡ v → token x p ≡ ranged l v
 unfolding token
-token-at x p h e f = (λ i. choose (h i) Empty (ranged (e i) (f i)))
+token-at x p h e f = (λ i. choose (h i) (Ok None) (ranged (e i) (f i)))
 
-pub token-empty : (x : ℕ) (p : read.Part) → empty p ≡ true → token x p ≡ Empty
+pub token-empty : (x : ℕ) (p : read.Part) → empty p ≡ true → token x p ≡ (Ok None)
 unfolding token
-token-empty x p h = ap (λ (t : Bool). choose t Empty (ranged p.left (value x p.number))) h
+token-empty x p h = ap (λ (t : Bool). choose t (Ok None) (ranged p.left (value x p.number))) h
 
 pub chosen : {A : Type 0} {t : Bool} (a b : A) → t ≡ true → choose t a b ≡ a
 chosen a b e = ap (λ (x : Bool). choose x a b) e
@@ -63,78 +61,88 @@ pub kind_other : (j c : ℕ) → digit c ≡ false → blank c ≡ false → (c 
 unfolding kind
 kind_other j c e f g h = rw (e, f, ne_eqb c j g, ne_eqb c comma h)
 
--- ---- bytes below 128, from place i on
-plain_step : (t : List ℕ) (i : ℕ) → i < length t → plain (drop i t) ≡ ltb (get_or t i 0) 128 && plain (drop (i + 1) t)
+-- ---- bytes below 128
+pub plain_all : (t : List ℕ) → ((i : ℕ) → slice_index t i < 128) → plain t ≡ true
 unfolding plain
-plain_step t i h = rw (add-one, drop-cons t i 0 h)
+plain_all [] h = refl
+plain_all (c ∷ t) h = ap₂ (λ (x y : Bool). x && y) (lt-ltb c 128 (h 0)) (plain_all t (λ i. h (suc i)))
 
-pub plain_go : (t : List ℕ) (i : ℕ) → i < length t → get_or t i 0 < 128 → plain t ≡ plain (drop i t) → plain t ≡ plain (drop (i + 1) t)
-plain_go t i h l e = e ∙ plain_step t i h ∙ ap (λ (x : Bool). x && plain (drop (i + 1) t)) (lt-ltb (get_or t i 0) 128 l)
-
-pub plain_no : (t : List ℕ) (i : ℕ) → i < length t → 128 ≤ get_or t i 0 → plain t ≡ plain (drop i t) → false ≡ plain t
-plain_no t i h l e = sym (e ∙ plain_step t i h ∙ ap (λ (x : Bool). x && plain (drop (i + 1) t)) (le-ltb (get_or t i 0) 128 l))
-
-pub plain_end : (t : List ℕ) (i : ℕ) → length t ≤ i → plain t ≡ plain (drop i t) → true ≡ plain t
+pub plain_some : (t : List ℕ) (i : ℕ) → 128 ≤ slice_index t i → plain t ≡ false
 unfolding plain
-plain_end t i h e = sym (e ∙ ap plain (drop_of_length-le t h))
+plain_some [] i h = absurd (omega arith)
+plain_some (c ∷ t) zero h = ap (λ (x : Bool). x && plain t) (le-ltb c 128 h)
+plain_some (c ∷ t) (suc i) h = ap (λ (x : Bool). ltb c 128 && x) (plain_some t i h) ∙ and_false (ltb c 128)
+  where
+    and_false : (x : Bool) → x && false ≡ false
+    and_false true = refl
+    and_false false = refl
+
+pub plain_by : (t : List ℕ) (b : Bool) → MatchBool b (IsAscii t) (IsNotAscii t) → b ≡ plain t
+plain_by t true h = sym (plain_all t h)
+plain_by t false (i, h) = sym (plain_some t i h)
 
 -- ---- a token whose last number is bad
-pub ranged_bad : (l : Left) (e : Fault) → ranged l (Bad e) ≡ NoRange e
+pub ranged_bad : (l : Left) (e : Fault) → ranged l (Err e) ≡ Err e
 ranged_bad Alone e = refl
 ranged_bad (From a) e = refl
 
-pub token_bad : (x : ℕ) (p : read.Part) (d : Fault) → empty p ≡ false → value x p.number ≡ Bad d → token x p ≡ NoRange d
+pub token_bad : (x : ℕ) (p : read.Part) (d : Fault) → empty p ≡ false → value x p.number ≡ Err d → token x p ≡ Err d
 token_bad x p d h e = token-at x p h refl e ∙ ranged_bad p.left d
 
 -- no token has a number past the limit
-ranged_limit : (l : Left) (v : Value) (a b : ℕ) → ranged l v ≡ Ranging a b → v ≡ Of b
-ranged_limit l (Bad d) a b e = none (sym (ranged_bad l d) ∙ e)
+abbrev last_of : Token → Value
+last_of (Ok (Some (i, j))) = Ok j
+last_of (Ok None) = Err Slip
+last_of (Err d) = Err d
+
+ranged_limit : (l : Left) (v : Value) (a b : ℕ) → ranged l v ≡ Ok (Some (a, b)) → v ≡ Ok b
+ranged_limit l (Err d) a b e = ap last_of (sym (ranged_bad l d) ∙ e)
+ranged_limit Alone (Ok y) a b e = ap last_of e
+ranged_limit (From x) (Ok y) a b e = go (leb x y) _ e
   where
-    none : NoRange d ≡ Ranging a b → Bad d ≡ Of b
-    none h = zero_one cc
-ranged_limit Alone (Of y) a b e = cc
-ranged_limit (From x) (Of y) a b e = go (leb x y) _ e
-  where
-    go : (t : Bool) (d : Fault) → choose t (Ranging x y) (NoRange d) ≡ Ranging a b → Of y ≡ Of b
-    go true d h = cc
+    pair : ℕ → Token
+    pair j = Ok (Some (x, j))
+
+    go : (t : Bool) (d : Fault) → choose t (pair y) (Err d) ≡ Ok (Some (a, b)) → last_of (pair y) ≡ Ok b
+    go true d h = ap last_of h
     go false d h = zero_one cc
 
 -- a bit that is taken is within the limit, and the number is it and the first
-pub bit_is : (x v b : ℕ) → bit_of x v ≡ Of b → (v ≡ b + x) × (b ≤ list_limit)
+pub bit_is : (x v b : ℕ) → bit_of x v ≡ Ok b → (v ≡ b + x) × (b ≤ list_limit)
 bit_is x v b e = go (leb x v) refl (leb v (list_limit + x)) refl _ _ e
   where
-    go : (t : Bool) → leb x v ≡ t → (u : Bool) → leb v (list_limit + x) ≡ u → (d e : Fault) → choose t (choose u (Of (v - x)) (Bad d)) (Bad e) ≡ Of b → (v ≡ b + x) × (b ≤ list_limit)
+    go : (t : Bool) → leb x v ≡ t → (u : Bool) → leb v (list_limit + x) ≡ u → (d e : Fault) → choose t (choose u (Ok (v - x)) (Err d)) (Err e) ≡ Ok b → (v ≡ b + x) × (b ≤ list_limit)
     go true h true g d e f =
         let k : v - x ≡ b = cc in
         (omega (arith, leb-true x v h, k), omega (arith, leb-true v (list_limit + x) g, k))
     go true h false g d e f = zero_one cc
     go false h u g d e f = zero_one cc
 
-pub bit_of_lem : (x v b : ℕ) → v ≡ b + x → b ≤ list_limit → bit_of x v ≡ Of b
+pub bit_of_lem : (x v b : ℕ) → v ≡ b + x → b ≤ list_limit → bit_of x v ≡ Ok b
 bit_of_lem x v b e h =
-    chosen _ _ (le-leb x v (omega arith)) ∙ chosen _ _ (le-leb v (list_limit + x) (omega arith)) ∙ ap Of (omega arith)
+    chosen _ _ (le-leb x v (omega arith)) ∙ chosen _ _ (le-leb v (list_limit + x) (omega arith)) ∙ ap Ok (omega arith)
 
-pub bit-within : (x v : ℕ) → x ≤ v → v - x ≤ list_limit → bit_of x v ≡ Of (v - x)
+pub bit-within : (x v : ℕ) → x ≤ v → v - x ≤ list_limit → bit_of x v ≡ Ok (v - x)
 bit-within x v h l = bit_of_lem x v (v - x) (omega arith) l
 
 -- below the first number, or past the limit
-pub bit_below : (x v : ℕ) → v < x → bit_of x v ≡ Bad Slip
-bit_below x v h = ap (λ (t : Bool). choose t (choose (leb v (list_limit + x)) (Of (v - x)) (Bad Huge)) (Bad Slip)) (lt-leb x v h)
+pub bit_below : (x v : ℕ) → v < x → bit_of x v ≡ Err Slip
+bit_below x v h = ap (λ (t : Bool). choose t (choose (leb v (list_limit + x)) (Ok (v - x)) (Err Huge)) (Err Slip)) (lt-leb x v h)
 
-pub bit-over : (x v : ℕ) → x ≤ v → list_limit < v - x → bit_of x v ≡ Bad Huge
-bit-over x v h l = ap₂ (λ (t u : Bool). choose t (choose u (Of (v - x)) (Bad Huge)) (Bad Slip)) (le-leb x v h) (lt-leb v (list_limit + x) (omega arith))
+pub bit-over : (x v : ℕ) → x ≤ v → list_limit < v - x → bit_of x v ≡ Err Huge
+bit-over x v h l = ap₂ (λ (t u : Bool). choose t (choose u (Ok (v - x)) (Err Huge)) (Err Slip)) (le-leb x v h) (lt-leb v (list_limit + x) (omega arith))
 
-value_limit : (x : ℕ) (n : NumberSoFar) (b : ℕ) → value x n ≡ Of b → b ≤ list_limit
+value_limit : (x : ℕ) (n : NumberSoFar) (b : ℕ) → value x n ≡ Ok b → b ≤ list_limit
 unfolding value
 value_limit x Unread b e = zero_one cc
 value_limit x (Open v) b e = (bit_is x v b e).1
 value_limit x (Closed v) b e = (bit_is x v b e).1
 
-pub token_limit : (x : ℕ) (p : read.Part) (a b : ℕ) → token x p ≡ Ranging a b → b ≤ list_limit
+pub token_limit : (x : ℕ) (p : read.Part) (a b : ℕ) → token x p ≡ Ok (Some (a, b)) → b ≤ list_limit
 unfolding token
 token_limit x p a b e = go (empty p) e
   where
-    go : (t : Bool) → choose t Empty (ranged p.left (value x p.number)) ≡ Ranging a b → b ≤ list_limit
+    go : (t : Bool) → choose t (Ok None) (ranged p.left (value x p.number)) ≡ Ok (Some (a, b)) → b ≤ list_limit
     go true h = zero_one cc
     go false h = value_limit x p.number b (ranged_limit p.left (value x p.number) a b h)
 

@@ -15,7 +15,6 @@ use Rattle.word.proofs.Lists.{member-at, at_place}
 use Rattle.storage.specs.Stores.{Bits, refused, with_count, view, within, zeroed, Changes}
 use Rattle.storage.specs.Guards.{Passed}
 use Rattle.storage.specs.declared.Bitmap.{Bitmap}
-use Rattle.storage.specs.declared.Change.TheVariants.{Done, Refused}
 use Rattle.storage.specs.declared.Refusal.{Refusal}
 use Rattle.storage.specs.declared.Refusal.TheVariants.{NoSpace, NotList, NotAscii, BadStyle}
 use Rattle.storage.proofs.Checks.{within_ok, within_no}
@@ -27,8 +26,9 @@ use Rattle.text.specs.Readings.{token, empty, reads, Parsed, no_list, ranges, pa
 use Rattle.text.specs.Kernels.{measured_of, marked, Walked}
 use Rattle.text.specs.declared.Fault.{Fault}
 use Rattle.text.specs.declared.Fault.TheVariants.{Slip}
-use Rattle.text.specs.declared.Measured.{Measured}
-use Rattle.text.specs.declared.Measured.TheVariants.{Top, NoList}
+use Rattle.storage.specs.Refusals.{refusing}
+use Rattle.std.specs.Prelude.{Ok, Err}
+use Rattle.text.specs.Kernels.{Measured}
 
 -- ---- the operation's cases
 
@@ -51,17 +51,17 @@ list-empty y c b a = list_is y [] c b (no_list Slip) a refl refl
 
 -- ---- what a measurement says of the text
 
-measured_top : (p : Parsed) (x : ℕ) → measured_of p ≡ Top x → (rs : List Range) × (p ≡ ranges rs) × (x ≡ highest rs)
+measured_top : (p : Parsed) (x : ℕ) → measured_of p ≡ Ok x → (rs : List Range) × (p ≡ ranges rs) × (x ≡ highest rs)
 measured_top (no_list d) x e = zero_one cc
 measured_top (ranges rs) x e = (rs, refl, top_same e)
   where
-    top_same : Top (highest rs) ≡ Top x → x ≡ highest rs
+    top_same : measured_of (ranges rs) ≡ Ok x → x ≡ highest rs
     top_same f = cc
 
-measured_none : (p : Parsed) (d : Fault) → measured_of p ≡ NoList d → p ≡ no_list d
+measured_none : (p : Parsed) (d : Fault) → measured_of p ≡ Err d → p ≡ no_list d
 measured_none (no_list f) d e = same e
   where
-    same : NoList f ≡ NoList d → no_list f ≡ no_list d
+    same : measured_of (no_list f) ≡ Err d → no_list f ≡ no_list d
     same h = cc
 measured_none (ranges rs) d e = zero_one cc
 
@@ -73,26 +73,26 @@ none_marked rs = refl
 -- ---- the call
 
 module _ (y : Style) (t ws : List ℕ) (b : Bitmap) (p : Passed ws b) where
-  pub list-refused_15 : allowed y ≡ false → Changes (reading_list y t) ws b (Refused BadStyle b) ws
+  pub list-refused_15 : allowed y ≡ false → Changes (reading_list y t) ws b (refusing b BadStyle) ws
   list-refused_15 e = changes-refused (reading_list y t) ws b BadStyle p (list_no_style y t (length ws) (view ws b.count) e)
 
   module _ (a : allowed y ≡ true) where
-    pub list-refused_8 : plain t ≡ false → Changes (reading_list y t) ws b (Refused NotAscii b) ws
+    pub list-refused_8 : plain t ≡ false → Changes (reading_list y t) ws b (refusing b NotAscii) ws
     list-refused_8 e = changes-refused (reading_list y t) ws b NotAscii p (list-not-plain y t (length ws) (view ws b.count) a e)
 
     module _ (e : plain t ≡ true) (m : Measured) (part : List ℕ) (w : Walked y t m [] part) where
       pub untouched : part ++ ws ≡ ws
       untouched = ap (λ (z : List ℕ). z ++ ws) (w.marks ∙ none_marked w.passed)
 
-      back : (r : Refusal) → reading_list y t (length ws) (view ws b.count) ≡ refused r → Changes (reading_list y t) ws b (Refused r b) (part ++ ws)
-      back r q = subst (λ (z : List ℕ). Changes (reading_list y t) ws b (Refused r b) z) (sym untouched) (changes-refused (reading_list y t) ws b r p q)
+      back : (r : Refusal) → reading_list y t (length ws) (view ws b.count) ≡ refused r → Changes (reading_list y t) ws b (refusing b r) (part ++ ws)
+      back r q = subst (λ (z : List ℕ). Changes (reading_list y t) ws b (refusing b r) z) (sym untouched) (changes-refused (reading_list y t) ws b r p q)
 
       -- 7 or 16
-      pub list-refused_as : (d : Fault) → m ≡ NoList d → (r : Refusal) → r ≡ refusal_of d → Changes (reading_list y t) ws b (Refused r b) (part ++ ws)
+      pub list-refused_as : (d : Fault) → m ≡ Err d → (r : Refusal) → r ≡ refusal_of d → Changes (reading_list y t) ws b (refusing b r) (part ++ ws)
       list-refused_as d f r h =
           back r (list_is y t (length ws) (view ws b.count) (no_list d) a e (measured_none (parse y t) d (sym w.measures ∙ f)) ∙ ap refused (sym h))
 
-      module _ (top : ℕ) (f : m ≡ Top top) where
+      module _ (top : ℕ) (f : m ≡ Ok top) where
         found : (rs : List Range) × (parse y t ≡ ranges rs) × (top ≡ highest rs)
         found = measured_top (parse y t) top (sym w.measures ∙ f)
 
@@ -105,7 +105,7 @@ module _ (y : Style) (t ws : List ℕ) (b : Bitmap) (p : Passed ws b) where
         read : reading_list y t (length ws) (view ws b.count) ≡ within (length ws) (union rs)
         read = list_is y t (length ws) (view ws b.count) (ranges rs) a e found.1
 
-        pub list-refused_6 : length (part ++ ws) < top / 64 + 1 → Changes (reading_list y t) ws b (Refused NoSpace b) (part ++ ws)
+        pub list-refused_6 : length (part ++ ws) < top / 64 + 1 → Changes (reading_list y t) ws b (refusing b NoSpace) (part ++ ws)
         list-refused_6 h = back NoSpace (read ∙ within_no (length ws) (union rs) (omega (arith, count_is, ap length untouched)))
 
         -- zeroed, then walked again
@@ -146,7 +146,7 @@ module _ (y : Style) (t ws : List ℕ) (b : Bitmap) (p : Passed ws b) where
               part_stored z (us ++ drop c z) c (λ i. member (take c z) i || covers rs i) (union rs) list-room set count_is
               (λ i l. ap (λ (x : Bool). x || covers rs i) (none i l))
 
-          pub list_done : Changes (reading_list y t) ws b (Done (with_count b c)) (us ++ drop c z)
+          pub list_done : Changes (reading_list y t) ws b (Ok (with_count b c)) (us ++ drop c z)
           list_done =
               changes_done (reading_list y t) ws b (us ++ drop c z) (union rs) c p
               (read ∙ within_ok (length ws) (union rs) (omega (arith, count_is, ap length untouched)))

@@ -17,10 +17,9 @@ use Rattle.text.specs.Kernels.{measured_of, marked, Walked}
 use Rattle.text.specs.declared.Fault.{Fault}
 use Rattle.text.specs.declared.Fault.TheVariants.{Slip}
 use Rattle.text.specs.declared.Kind.{Kind}
-use Rattle.text.specs.declared.Token.{Token}
-use Rattle.text.specs.declared.Token.TheVariants.{Range as Ranging, Empty, NoRange}
-use Rattle.text.specs.declared.Measured.TheVariants.{Top, NoList}
 use Rattle.text.proofs.Marks.{marked_none, marked_more, length_marked}
+use Rattle.text.specs.Readings.{Token}
+use Rattle.std.specs.Prelude.{Ok, Err, Some, None}
 
 -- ---- reading on
 
@@ -115,11 +114,11 @@ some_end (q ∷ rs) r = refl
 not-whole : (st : Style) (t : List ℕ) (d : Fault) (rs qs : List Range) → parse st t ≡ no_list d → parse st t ≡ ranges rs → qs ≡ rs
 not-whole st t d rs qs e f = zero_one cc
 
-pub walked_bad : (st : Style) (t ws ws' : List ℕ) (rs : List Range) (d : Fault) → ws' ≡ marked rs ws → parse st t ≡ no_list d → Walked st t (NoList d) ws ws'
+pub walked_bad : (st : Style) (t ws ws' : List ℕ) (rs : List Range) (d : Fault) → ws' ≡ marked rs ws → parse st t ≡ no_list d → Walked st t (Err d) ws ws'
 walked_bad st t ws ws' rs d m e = record { measures = ap measured_of (sym e); passed = rs; whole = λ qs f. not-whole st t d qs rs e f; marks = m }
 
-pub walked_good : (st : Style) (t ws ws' : List ℕ) (rs : List Range) (top : ℕ) → ws' ≡ marked rs ws → parse st t ≡ ranges rs → top ≡ highest rs → Walked st t (Top top) ws ws'
-walked_good st t ws ws' rs top m e f = record { measures = ap Top f ∙ ap measured_of (sym e); passed = rs; whole = λ qs g. same_ranges (sym e ∙ g); marks = m }
+pub walked_good : (st : Style) (t ws ws' : List ℕ) (rs : List Range) (top : ℕ) → ws' ≡ marked rs ws → parse st t ≡ ranges rs → top ≡ highest rs → Walked st t (Ok top) ws ws'
+walked_good st t ws ws' rs top m e f = record { measures = ap Ok f ∙ ap measured_of (sym e); passed = rs; whole = λ qs g. same_ranges (sym e ∙ g); marks = m }
   where
     same_ranges : {qs : List Range} → ranges rs ≡ ranges qs → rs ≡ qs
     same_ranges g = cc
@@ -129,7 +128,7 @@ module _ (st : Style) (t ws ws' : List ℕ) (top : ℕ) (any : Bool) (a : ℕ) (
   going_length = ap length g.marks ∙ length_marked rs ws
 
   -- a byte at which the token stops
-  pub stops : (d : Fault) → reads st (reading rs fresh) (drop a t) ≡ bad d → Walked st t (NoList d) ws ws'
+  pub stops : (d : Fault) → reads st (reading rs fresh) (drop a t) ≡ bad d → Walked st t (Err d) ws ws'
   unfolding parsed
   stops d e = walked_bad st t ws ws' rs d g.marks (g.rest ∙ ap (parsed st.first) e)
 
@@ -159,36 +158,36 @@ module _ (st : Style) (t ws ws' : List ℕ) (top : ℕ) (any : Bool) (a : ℕ) (
         go (at_end x s) = g.rest ∙ ap (parsed st.first) (s rs) ∙ e
         go (at_comma {i = j} x l h s) = g.rest ∙ ap (parsed st.first) (s rs ∙ ap (λ (y : TextSoFar). reads st y (drop j t)) f ∙ reads_bad st w (drop j t))
 
-    pub none_at : (w : Fault) → r ≡ NoRange w → Walked st t (NoList w) ws ws'
+    pub none_at : (w : Fault) → r ≡ Err w → Walked st t (Err w) ws ws'
     none_at w e = walked_bad st t ws ws' rs w g.marks (bad_at w (ap (text_ends rs) (sym er ∙ e)) (ap (token_ends rs) (sym er ∙ e)))
 
-    text_ends-empty : (qs : List Range) → false ≡ some qs → text_ends qs Empty ≡ no_list Slip
+    text_ends-empty : (qs : List Range) → false ≡ some qs → text_ends qs (Ok None) ≡ no_list Slip
     text_ends-empty [] e = refl
     text_ends-empty (q ∷ qs) e = absurd (false≢true e)
 
-    text_ends_some : (qs : List Range) → true ≡ some qs → text_ends qs Empty ≡ ranges qs
+    text_ends_some : (qs : List Range) → true ≡ some qs → text_ends qs (Ok None) ≡ ranges qs
     text_ends_some [] e = absurd (true≢false e)
     text_ends_some (q ∷ qs) e = refl
 
     -- the first token
-    pub empty_first : r ≡ Empty → any ≡ false → Walked st t (NoList Slip) ws ws'
+    pub empty_first : r ≡ (Ok None) → any ≡ false → Walked st t (Err Slip) ws ws'
     empty_first e f =
         walked_bad st t ws ws' rs Slip g.marks
         (bad_at Slip (ap (text_ends rs) (sym er ∙ e) ∙ text_ends-empty rs (sym f ∙ g.any_is)) (ap (token_ends rs) (sym er ∙ e)))
 
     -- not the last one
-    pub empty_inner : r ≡ Empty → more ≡ true → Walked st t (NoList Slip) ws ws'
+    pub empty_inner : r ≡ (Ok None) → more ≡ true → Walked st t (Err Slip) ws ws'
     unfolding parsed
     empty_inner e f =
         walked_bad st t ws ws' rs Slip g.marks
         ((goes_parse f).2 ∙ ap (λ (y : TextSoFar). parsed st.first (reads st y (drop i t))) (ap (token_ends rs) (sym er ∙ e)) ∙ ap (parsed st.first) (reads_bad st Slip (drop i t)))
 
-    pub empty-last : r ≡ Empty → any ≡ true → more ≡ false → Walked st t (Top top) ws ws'
+    pub empty-last : r ≡ (Ok None) → any ≡ true → more ≡ false → Walked st t (Ok top) ws ws'
     empty-last e f h =
         walked_good st t ws ws' rs top g.marks (ends_parse h ∙ ap (text_ends rs) (sym er ∙ e) ∙ text_ends_some rs (sym f ∙ g.any_is)) g.top_is
 
     -- a range
-    module _ (x y : ℕ) (e : r ≡ Ranging x y) (us : List ℕ) (m : us ≡ filled x (y + 1) true ws') (top' : ℕ) (et : top' ≡ max top y) where
+    module _ (x y : ℕ) (e : r ≡ Ok (Some (x, y))) (us : List ℕ) (m : us ≡ filled x (y + 1) true ws') (top' : ℕ) (et : top' ≡ max top y) where
       more_marks : us ≡ marked (rs ++ range x y ∷ []) ws
       more_marks = marked_more rs x y ws ws' us g.marks m
 
@@ -198,7 +197,7 @@ module _ (st : Style) (t ws ws' : List ℕ) (top : ℕ) (any : Bool) (a : ℕ) (
       more_top : top' ≡ highest (rs ++ range x y ∷ [])
       more_top = et ∙ ap (λ (z : ℕ). max z y) g.top_is ∙ sym (highest-end rs x y)
 
-      pub range_last : more ≡ false → Walked st t (Top top') ws us
+      pub range_last : more ≡ false → Walked st t (Ok top') ws us
       range_last f = walked_good st t ws us (rs ++ range x y ∷ []) top' more_marks (ends_parse f ∙ ap (text_ends rs) (sym er ∙ e)) more_top
 
       pub range-more : more ≡ true → TokensTo st t ws us top' true i (rs ++ range x y ∷ [])

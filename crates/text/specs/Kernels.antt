@@ -1,5 +1,6 @@
 -- What serves the contracts of private functions: the code's numbers as a token's state, walks over a text.
-use Rattle.std.specs.Prelude.{ℕ, zero, suc, ◌≡◌, ◌||◌, List, length}
+use Rattle.std.specs.Prelude.{ℕ, zero, suc, ◌≡◌, ◌||◌, List, length, Result, Ok, Err}
+use Rattle.text.specs.declared.Fault.{Fault}
 use Rattle.word.specs.Places.{member, words_of}
 use Rattle.style.specs.declared.Style.{Style}
 use Rattle.text.specs.Lists.{Range, covers, highest}
@@ -8,8 +9,6 @@ use Rattle.text.specs.Readings.{NumberSoFar, Unread, Open, Closed, Left, Alone, 
 use Rattle.text.specs.declared.Part.{Part}
 use Rattle.text.specs.declared.Step.{Step}
 use Rattle.text.specs.declared.Step.TheVariants.{Go, Ends, Stop}
-use Rattle.text.specs.declared.Measured.{Measured}
-use Rattle.text.specs.declared.Measured.TheVariants.{Top, NoList}
 
 -- phase 0, 1 or 2, and the number so far
 abbrev pub number_so_far : ℕ → ℕ → NumberSoFar
@@ -30,9 +29,13 @@ step_of (Go p) = read.Go (part_of p)
 step_of Ends = read.Ends
 step_of (Stop e) = read.Stop e
 
+-- the largest number of a text, if it is a list
+abbrev pub Measured : Type 0
+Measured = Result ℕ Fault
+
 abbrev pub measured_of : Parsed → Measured
-measured_of (no_list e) = NoList e
-measured_of (ranges rs) = Top (highest rs)
+measured_of (no_list e) = Err e
+measured_of (ranges rs) = Ok (highest rs)
 
 -- the words with the numbers of the ranges, as far as they go
 unfoldable pub marked : List Range → List ℕ → List ℕ

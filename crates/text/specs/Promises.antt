@@ -7,7 +7,6 @@ use Rattle.storage.specs.Stores.{Bits, Outcome, done, refused, Bounded, Changes}
 use Rattle.storage.specs.Guards.{most_words, Passed}
 use Rattle.storage.specs.Promises.{Meets, MeetsExactly}
 use Rattle.storage.specs.declared.Bitmap.{Bitmap}
-use Rattle.storage.specs.declared.Change.{Change}
 use Rattle.storage.specs.declared.Refusal.{Refusal}
 use Rattle.style.specs.Styles.{plain_style}
 use Rattle.style.specs.Promises.{Allowed}
@@ -19,6 +18,7 @@ use Rattle.text.specs.Plain as base
 use Rattle.text.specs.Readings.{no_list, ranges, parse, reading_list}
 use Rattle.text.specs.declared.Fault.{Fault}
 use Rattle.text.specs.declared.Fault.TheVariants.{Slip, Huge}
+use Rattle.storage.specs.Refusals.{Change}
 
 -- reading in an allowed style, both ways: a text is read as ranges exactly where the grammar gives it those, and is refused for a slip or a huge number
 -- exactly where its first bad token is no token or is huge

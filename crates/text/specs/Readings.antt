@@ -1,5 +1,5 @@
 -- `from_list` in a style, byte by byte. proofs/Grammar: what is read is exactly what the grammar says.
-use Rattle.std.specs.Prelude.{ℕ, ◌+◌, ◌-◌, min, Bool, true, false, ◌&&◌, List, [], ◌∷◌, ◌++◌, leb, eqb}
+use Rattle.std.specs.Prelude.{ℕ, ◌+◌, ◌-◌, min, Bool, true, false, ◌&&◌, List, [], ◌∷◌, ◌++◌, leb, eqb, Result, Option, Ok, Err, Some, None}
 use Rattle.word.specs.Sets.{choose}
 use Rattle.storage.specs.Stores.{Bits, Outcome, refused, Op, within, up_to}
 use Rattle.storage.specs.declared.Refusal.{Refusal}
@@ -11,10 +11,6 @@ use Rattle.text.specs.declared.Kind.{Kind}
 use Rattle.text.specs.declared.Kind.TheVariants.{Digit, Blank, Joiner, Comma, Other}
 use Rattle.text.specs.declared.Fault.{Fault}
 use Rattle.text.specs.declared.Fault.TheVariants.{Slip, Huge}
-use Rattle.text.specs.declared.Value.{Value}
-use Rattle.text.specs.declared.Value.TheVariants.{Of, Bad}
-use Rattle.text.specs.declared.Token.{Token}
-use Rattle.text.specs.declared.Token.TheVariants.{Range as Ranging, Empty, NoRange}
 
 -- what a byte is to a list with the joiner j
 unfoldable pub kind : ℕ → ℕ → Kind
@@ -51,12 +47,19 @@ part l n = record { left = l; number = n }
 abbrev pub fresh : Part
 fresh = part Alone Unread
 
+-- a number that ended, and a token that ended: a range, or nothing but blanks
+abbrev pub Value : Type 0
+Value = Result ℕ Fault
+
+abbrev pub Token : Type 0
+Token = Result (Option (ℕ × ℕ)) Fault
+
 -- the bit of a number that ended, in a list that counts from f; one below f is a slip, and one above the limit is huge
 abbrev pub bit_of : ℕ → ℕ → Value
-bit_of f v = choose (leb f v) (choose (leb v (list_limit + f)) (Of (v - f)) (Bad Huge)) (Bad Slip)
+bit_of f v = choose (leb f v) (choose (leb v (list_limit + f)) (Ok (v - f)) (Err Huge)) (Err Slip)
 
 unfoldable pub value : ℕ → NumberSoFar → Value
-value f Unread = Bad Slip
+value f Unread = Err Slip
 value f (Open v) = bit_of f v
 value f (Closed v) = bit_of f v
 
@@ -75,12 +78,12 @@ empty p = alone p.left && unread p.number
 
 -- a token that ended: one number, or two of which the second is not smaller
 abbrev pub ranged : Left → Value → Token
-ranged l (Bad e) = NoRange e
-ranged Alone (Of b) = Ranging b b
-ranged (From a) (Of b) = choose (leb a b) (Ranging a b) (NoRange Slip)
+ranged l (Err e) = Err e
+ranged Alone (Ok b) = Ok (Some (b, b))
+ranged (From a) (Ok b) = choose (leb a b) (Ok (Some (a, b))) (Err Slip)
 
 unfoldable pub token : ℕ → Part → Token
-token f p = choose (empty p) Empty (ranged p.left (value f p.number))
+token f p = choose (empty p) (Ok None) (ranged p.left (value f p.number))
 
 -- what a byte makes of a token: it goes on, it ends, or it is none
 pub data Step : Type 0 where
@@ -101,8 +104,8 @@ by_blank l (Closed v) = Go (part l (Closed v))
 -- the left number is judged here, before anything of the right one is read
 abbrev pub by_joiner : Left → Value → Step
 by_joiner (From a) v = Stop Slip
-by_joiner Alone (Bad e) = Stop e
-by_joiner Alone (Of a) = Go (part (From a) Unread)
+by_joiner Alone (Err e) = Stop e
+by_joiner Alone (Ok a) = Go (part (From a) Unread)
 
 unfoldable pub by_kind : ℕ → Part → Kind → Step
 by_kind f p (Digit d) = by_digit p.left p.number d
@@ -118,9 +121,9 @@ pub data TextSoFar : Type 0 where
 
 -- a comma after a token
 abbrev pub token_ends : List Range → Token → TextSoFar
-token_ends rs (Ranging a b) = reading (rs ++ range a b ∷ []) fresh
-token_ends rs Empty = bad Slip
-token_ends rs (NoRange e) = bad e
+token_ends rs (Ok (Some (a, b))) = reading (rs ++ range a b ∷ []) fresh
+token_ends rs (Ok None) = bad Slip
+token_ends rs (Err e) = bad e
 
 abbrev pub after : ℕ → List Range → Part → Step → TextSoFar
 after f rs p (Go q) = reading rs q
@@ -142,10 +145,10 @@ pub data Parsed : Type 0 where
 
 -- an empty last token is allowed after a good one
 abbrev pub text_ends : List Range → Token → Parsed
-text_ends rs (Ranging a b) = ranges (rs ++ range a b ∷ [])
-text_ends [] Empty = no_list Slip
-text_ends (r ∷ rs) Empty = ranges (r ∷ rs)
-text_ends rs (NoRange e) = no_list e
+text_ends rs (Ok (Some (a, b))) = ranges (rs ++ range a b ∷ [])
+text_ends [] (Ok None) = no_list Slip
+text_ends (r ∷ rs) (Ok None) = ranges (r ∷ rs)
+text_ends rs (Err e) = no_list e
 
 unfoldable pub parsed : ℕ → TextSoFar → Parsed
 parsed f (bad e) = no_list e

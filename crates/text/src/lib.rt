@@ -8,7 +8,7 @@ ghost use Rattle.storage.specs.Stores.{Changes};
 ghost use Rattle.text.specs.Readings.{kind, grown, fresh, value, token, empty, by_digit, by_joiner, by_kind, refusal_of, reading_list};
 ghost use Rattle.text.specs.Kernels.{number_so_far, left_of, part_of, step_of, Walked};
 
-use storage::{Bitmap, Change, Guard, Refusal};
+use storage::{Bitmap, Refusal, Refused};
 use style::Style;
 
 pub const COMMA: u8 = 44;
@@ -22,7 +22,7 @@ const LIMIT: usize = 4_294_967_295;
 const TOO_LARGE: usize = LIMIT + 1_001;
 
 // What a byte is to a list.
-#[derive(Clone, Copy)]
+#[derive(Clone, Copy, Debug, PartialEq, Eq)]
 enum Kind {
     Digit(u8),
     Blank,
@@ -32,17 +32,10 @@ enum Kind {
 }
 
 // Why a text is no list: its first bad token is bad by a slip, or by a number of digits only that is above the limit.
-#[derive(Clone, Copy)]
+#[derive(Clone, Copy, Debug, PartialEq, Eq)]
 enum Fault {
     Slip,
     Huge,
-}
-
-// A number that ended.
-#[derive(Clone, Copy)]
-enum Value {
-    Of(usize),
-    Bad(Fault),
 }
 
 // How far a token is read: whether the joiner came, the number before it, and how far the number at hand is read: 0, no digit yet;
@@ -56,27 +49,12 @@ struct Part {
     pub value: usize,
 }
 
-// What a byte makes of a token.
+// What a byte makes of a token. Three outcomes with a name each: a `Result` of an `Option` would say less.
 #[derive(Clone, Copy)]
 enum Step {
     Go(Part),
     Ends,
     Stop(Fault),
-}
-
-// A token that ended.
-#[derive(Clone, Copy)]
-enum Token {
-    Range(usize, usize),
-    Empty,
-    NoRange(Fault),
-}
-
-// The largest number of a text, if it is a list.
-#[derive(Clone, Copy)]
-enum Measured {
-    Top(usize),
-    NoList(Fault),
 }
 
 fn kind_of(c: u8, joiner: usize) -> Kind
@@ -111,19 +89,19 @@ fn grown(v: usize, d: u8) -> usize
 }
 
 // The bit of a number that ended, if it has digits, is not below the first number, and is within the limit.
-fn value_of(phase: usize, v: usize, first: usize) -> Value
+fn value_of(phase: usize, v: usize, first: usize) -> Result<usize, Fault>
     ensures { result ≡ value first (number_so_far phase v) }
 {
     if phase == 0 {
-        return Value::Bad(Fault::Slip);
+        return Err(Fault::Slip);
     }
     if v < first {
-        return Value::Bad(Fault::Slip);
+        return Err(Fault::Slip);
     }
     if v - first <= LIMIT {
-        Value::Of(v - first)
+        Ok(v - first)
     } else {
-        Value::Bad(Fault::Huge)
+        Err(Fault::Huge)
     }
 }
 
@@ -146,27 +124,22 @@ fn empty(p: Part) -> bool
     if p.split == 0 { p.phase == 0 } else { false }
 }
 
-// What a token is that ended.
-fn token_of(p: Part, first: usize) -> Token
+// What a token is that ended: a range, or nothing but blanks.
+fn token_of(p: Part, first: usize) -> Result<Option<(usize, usize)>, Fault>
     ensures { result ≡ token first (part_of p) }
 {
     if empty(p) {
-        return Token::Empty;
+        return Ok(None);
     }
     let a = p.left;
-    let v = value_of(p.phase, p.value, first);
-    match v {
-        Value::Bad(f) => Token::NoRange(f),
-        Value::Of(b) => {
-            if p.split == 0 {
-                return Token::Range(b, b);
-            }
-            if a <= b {
-                Token::Range(a, b)
-            } else {
-                Token::NoRange(Fault::Slip)
-            }
-        }
+    let b = value_of(p.phase, p.value, first)?;
+    if p.split == 0 {
+        return Ok(Some((b, b)));
+    }
+    if a <= b {
+        Ok(Some((a, b)))
+    } else {
+        Err(Fault::Slip)
     }
 }
 
@@ -176,18 +149,16 @@ fn by_digit(p: Part, d: u8) -> Step
 {
     if p.phase == 0 {
         return Step::Go(Part {
-            split: p.split,
-            left: p.left,
             phase: 1,
             value: d as usize,
+            ..p
         });
     }
     if p.phase == 1 {
         return Step::Go(Part {
-            split: p.split,
-            left: p.left,
             phase: 1,
             value: grown(p.value, d),
+            ..p
         });
     }
     Step::Stop(Fault::Slip)
@@ -201,8 +172,8 @@ fn by_joiner(p: Part, first: usize) -> Step
         return Step::Stop(Fault::Slip);
     }
     match value_of(p.phase, p.value, first) {
-        Value::Bad(f) => Step::Stop(f),
-        Value::Of(a) => Step::Go(Part {
+        Err(f) => Step::Stop(f),
+        Ok(a) => Step::Go(Part {
             split: 1,
             left: a,
             phase: 0,
@@ -219,12 +190,7 @@ fn step_by(p: Part, k: Kind, first: usize) -> Step
         Kind::Digit(d) => by_digit(p, d),
         Kind::Blank => {
             if p.phase == 1 {
-                return Step::Go(Part {
-                    split: p.split,
-                    left: p.left,
-                    phase: 2,
-                    value: p.value,
-                });
+                return Step::Go(Part { phase: 2, ..p });
             }
             Step::Go(p)
         }
@@ -235,7 +201,7 @@ fn step_by(p: Part, k: Kind, first: usize) -> Step
 }
 
 // The largest number of a list, if the text is one. The ranges of its good tokens are set, as far as the words go.
-fn walk(words: &mut [u64], text: &[u8], style: Style) -> Measured
+fn walk(words: &mut [u64], text: &[u8], style: Style) -> Result<usize, Fault>
     ensures { Walked style text.now result words.old words.new }
 {
     let mut top: usize = 0;
@@ -244,6 +210,7 @@ fn walk(words: &mut [u64], text: &[u8], style: Style) -> Measured
     let fault = 'tokens: loop {
         let mut part = fresh();
         let mut more = false;
+        // An outer loop over tokens and an inner one over digits, left by a label, is the form that document 01 asks for.
         'digits: while at < text.len() {
             let s = step_by(part, kind_of(text[at], style.joiner), style.first);
             at += 1;
@@ -257,64 +224,63 @@ fn walk(words: &mut [u64], text: &[u8], style: Style) -> Measured
             }
         }
         match token_of(part, style.first) {
-            Token::Range(a, b) => {
+            Ok(Some((a, b))) => {
                 arch::fill_region(words, a, b + 1, true);
-                top = word::max(top, b);
+                top = top.max(b);
             }
-            Token::Empty => {
+            Ok(None) => {
                 if any {
                     if !more {
-                        return Measured::Top(top);
+                        return Ok(top);
                     }
                 }
                 break 'tokens Fault::Slip;
             }
-            Token::NoRange(f) => break 'tokens f,
+            Err(f) => break 'tokens f,
         }
         if !more {
-            return Measured::Top(top);
+            return Ok(top);
         }
         any = true;
     };
-    Measured::NoList(fault)
+    Err(fault)
 }
 
-// The refusal of a text that is no list.
-fn refusal_of(f: Fault) -> Refusal
-    ensures { result ≡ refusal_of f }
-{
-    match f {
-        Fault::Slip => Refusal::NotList,
-        Fault::Huge => Refusal::NumberOver,
+impl From<Fault> for Refusal {
+    ghost from_gives = { λ fault why. why ≡ refusal_of fault };
+
+    fn from(fault: Fault) -> Refusal {
+        match fault {
+            Fault::Slip => Refusal::NotList,
+            Fault::Huge => Refusal::NumberOver,
+        }
     }
 }
 
 // The bitmap becomes the set that the text lists in a style, in the words up to its largest number's. 15, then 8, then 7 or 16, then 6, each before a word
 // is written. What an allowed style reads depends on its first number and joiner: from 1, with `:`, `1:3, 5` is {0, 1, 2, 4}.
-pub fn from_list(words: &mut [u64], b: Bitmap, text: &[u8], style: Style) -> Change
+pub fn from_list(words: &mut [u64], b: Bitmap, text: &[u8], style: Style) -> Result<Bitmap, Refused>
     ensures { Changes (reading_list style text.now) words.old b result words.new }
 {
     let n = b.count;
-    match storage::check(words, b) {
-        Guard::Stop(e) => return Change::Refused(e, b),
-        Guard::Pass => {}
-    }
+    storage::check(words, b)?;
     if !style::is_allowed(style) {
-        return Change::Refused(Refusal::BadStyle, b);
+        return Err(Refused(Refusal::BadStyle, b));
     }
     if !bytes::is_plain(text) {
-        return Change::Refused(Refusal::NotAscii, b);
+        return Err(Refused(Refusal::NotAscii, b));
     }
     // The first walk is lent no word: it measures.
     let top = match walk(&mut words[..0], text, style) {
-        Measured::Top(top) => top,
-        Measured::NoList(f) => return Change::Refused(refusal_of(f), b),
+        Ok(top) => top,
+        Err(fault) => return Err(Refused(fault.into(), b)),
     };
     let count = top / 64 + 1;
     if count > words.len() {
-        return Change::Refused(Refusal::NoSpace, b);
+        return Err(Refused(Refusal::NoSpace, b));
     }
-    storage::zero_words(words, 0, word::max(n, count));
-    walk(&mut words[..count], text, style);
-    Change::Done(Bitmap { count: count, ..b })
+    storage::zero_words(words, 0, n.max(count));
+    // The second walk comes to the same, and marks.
+    let _ = walk(&mut words[..count], text, style);
+    Ok(Bitmap { count, ..b })
 }

@@ -15,8 +15,6 @@ four-numbers = record {
   found-refused = λ e. same _;
   amount_is = λ n. same _;
   amount-refused = λ e. same _;
-  field_is = λ x. same _;
-  field-refused = λ e. same _;
   truth-true = same _;
   truth-false = same _;
   truth-refused = λ e. same _;
@@ -27,5 +25,5 @@ four-numbers = record {
   word_at_lem = λ k w. same _;
   word-nothing = same _;
   guard_pass = same _;
-  guard_stop = λ e. same _;
+  guard_stop = λ e b. same _;
 }

@@ -3,11 +3,9 @@
 
 ghost use Rattle.word.specs.Sets.{val};
 ghost use Rattle.storage.specs.Refusals.{number_of};
-ghost use Rattle.told.specs.Tellings.{SameNumbers, four, truth_told, amount_told, field_told, found_told, word_told, guard_told, change_told, split_told};
+ghost use Rattle.told.specs.Tellings.{SameNumbers, four, truth_told, amount_told, found_told, word_told, guard_told, change_told, split_told};
 
-use arch::FoundWord;
-use shapes::Split;
-use storage::{Amount, Change, Field, Found, Guard, Refusal, Truth};
+use storage::{Bitmap, Refusal, Refused};
 
 // Document 01's number; a tag, 0 where there is no value, 1 where there is one, 2 where the call may have changed its store; the value, for a
 // changing call the word count; a second value.
@@ -79,83 +77,85 @@ pub fn changed() -> Told
     four(0, 2, 0, 0)
 }
 
+// The answers of each kind by a function with a name: `From` would hide at the call which answer is told, and two of them tell a `Result` of a number.
+
 // What is tested, or the refusal.
-pub fn truth(t: Truth) -> Told
+pub fn truth(t: Result<bool, Refusal>) -> Told
     ensures { SameNumbers result (truth_told t) }
 {
     match t {
-        Truth::Is(yes) => test(yes),
-        Truth::Refused(e) => refused(e),
+        Ok(yes) => test(yes),
+        Err(e) => refused(e),
     }
 }
 
 // What is counted, or the refusal.
-pub fn amount(n: Amount) -> Told
+pub fn amount(n: Result<usize, Refusal>) -> Told
     ensures { SameNumbers result (amount_told n) }
 {
     match n {
-        Amount::Is(k) => size(k),
-        Amount::Refused(e) => refused(e),
+        Ok(k) => size(k),
+        Err(e) => refused(e),
     }
 }
 
 // A field's bits, or the refusal.
-pub fn field(f: Field) -> Told
-    ensures { SameNumbers result (field_told f) }
+pub fn field(f: Result<u64, Refusal>) -> Told
+    ensures { SameNumbers result (amount_told f) }
 {
     match f {
-        Field::Is(x) => value(x),
-        Field::Refused(e) => refused(e),
+        Ok(x) => value(x),
+        Err(e) => refused(e),
     }
 }
 
 // The place of what is found, nothing, or the refusal.
-pub fn found(f: Found) -> Told
+pub fn found(f: Result<Option<usize>, Refusal>) -> Told
     ensures { SameNumbers result (found_told f) }
 {
     match f {
-        Found::At(i) => size(i),
-        Found::Nothing => nothing(),
-        Found::Refused(e) => refused(e),
+        Ok(Some(i)) => size(i),
+        Ok(None) => nothing(),
+        Err(e) => refused(e),
     }
 }
 
 // The index, and the word there.
-pub fn found_word(f: FoundWord) -> Told
+pub fn found_word(f: Option<(usize, u64)>) -> Told
     ensures { SameNumbers result (word_told f) }
 {
     match f {
-        FoundWord::At(k, w) => pair(k as u64, w),
-        FoundWord::Nothing => nothing(),
+        Some((k, w)) => pair(k as u64, w),
+        None => nothing(),
     }
 }
 
 // A store that passes, or the refusal.
-pub fn guard(g: Guard) -> Told
+pub fn guard(g: Result<(), Refused>) -> Told
     ensures { SameNumbers result (guard_told g) }
 {
     match g {
-        Guard::Pass => nothing(),
-        Guard::Stop(e) => refused(e),
+        Ok(()) => nothing(),
+        Err(Refused(e, _)) => refused(e),
     }
 }
 
 // The word count that is returned, done or refused.
-pub fn change(c: Change) -> Told
+pub fn change(c: Result<Bitmap, Refused>) -> Told
     ensures { SameNumbers result (change_told c) }
 {
     match c {
-        Change::Done(b) => four(0, 2, b.count as u64, 0),
-        Change::Refused(e, b) => four(e.number(), 0, b.count as u64, 0),
+        Ok(b) => four(0, 2, b.count as u64, 0),
+        Err(Refused(e, b)) => four(e.number(), 0, b.count as u64, 0),
     }
 }
 
 // Both word counts; a refusal has none for the tail.
-pub fn split(s: Split) -> Told
+pub fn split(s: Result<(Bitmap, Bitmap), Refused>) -> Told
     ensures { SameNumbers result (split_told s) }
 {
     match s {
-        Split::Done(b, tail) => four(0, 2, b.count as u64, tail.count as u64),
-        Split::Refused(e, b) => four(e.number(), 0, b.count as u64, 0),
+        Ok((b, tail)) => four(0, 2, b.count as u64, tail.count as u64),
+        Err(Refused(e, b)) => four(e.number(), 0, b.count as u64, 0),
     }
 }

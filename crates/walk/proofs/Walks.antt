@@ -11,7 +11,7 @@ use lib.Pow.{pow_pos}
 use borrow.Author.Tests.{lt-ltb, le-ltb, le-leb, lt-leb, leb-true}
 use Rattle.word.specs.Sets.{choose, least_from, Least}
 use Rattle.word.specs.Places.{bit, member}
-use Rattle.word.proofs.Cases.{by_lt, by_eq, and-true}
+use Rattle.word.proofs.Cases.{by_lt, by_eq, and-true, zero_one}
 use Rattle.word.proofs.Places.{bit-zero, bit_from}
 use Rattle.word.proofs.Sets.{least, least_is}
 use Rattle.word.proofs.Words.{least_bit}
@@ -20,11 +20,8 @@ use Rattle.storage.specs.Stores.{Bits, store_limit, checked, combined, found_bel
 use Rattle.storage.specs.Kernels.{all_words}
 use Rattle.storage.specs.Guards.{PassedTwo}
 use Rattle.storage.specs.declared.Bitmap.{Bitmap}
-use Rattle.storage.specs.declared.Refusal.{Refusal}
-use Rattle.storage.specs.declared.Guard.TheVariants.{Pass, Stop}
-use Rattle.storage.specs.declared.Found.{Found}
-use Rattle.storage.specs.declared.Found.TheVariants.{At, Nothing, Refused}
-use Rattle.storage.proofs.Checks.{both_stopped}
+use Rattle.storage.specs.declared.Refused.{Refused}
+use Rattle.storage.proofs.Checks.{both_raised}
 use Rattle.storage.proofs.Combined.{both_read, all-count, all-member}
 use Rattle.arch.specs.Scans.{Alike}
 use Rattle.pairs.specs.Pairs.{words_by}
@@ -32,6 +29,8 @@ use Rattle.pairs.specs.declared.SetOp.{SetOp}
 use Rattle.pairs.proofs.Tables.{by_length}
 use Rattle.walk.specs.Walks.{walk_of}
 use Rattle.walk.specs.Kernels.{Clear, NextBelow}
+use Rattle.storage.specs.Refusals.{Found, passing, refusing}
+use Rattle.std.specs.Prelude.{Option, Ok, Err, Some, None, IsErr, IsErrAnd}
 
 -- no member from i on is below word k, and w has those of word k that are
 record Ahead (c : Bits) (i k w : ℕ) : Type 0 where
@@ -70,17 +69,17 @@ ahead_passed {c} {i} {k} {w} a e q p l =
 -- ---- where it stops
 
 -- p is the least member from i on
-found_is : (c : Bits) (i p : ℕ) → p < 64 * c.count → i ≤ p → c.members p ≡ true → ((q : ℕ) → i ≤ q → q < p → c.members q ≡ false) → At p ≡ next_from c i
+found_is : (c : Bits) (i p : ℕ) → p < 64 * c.count → i ≤ p → c.members p ≡ true → ((q : ℕ) → i ≤ q → q < p → c.members q ≡ false) → Ok (Some p) ≡ next_from c i
 unfolding next_from found_below
 found_is c i p l h e u =
     sym
     (ap (found_below (64 * c.count))
     (least_is c.members i (64 * c.count - i) p (record { from = h; within = omega arith; here = λ m. e; under = u }))
-    ∙ ap (λ (t : Bool). choose t (At p) Nothing) (lt-ltb p (64 * c.count) l))
+    ∙ ap (λ (t : Bool). choose t (Ok (Some p)) (Ok None)) (lt-ltb p (64 * c.count) l))
 
-none_is : (c : Bits) (i : ℕ) → ((q : ℕ) → i ≤ q → q < 64 * c.count → c.members q ≡ false) → Nothing ≡ next_from c i
+none_is : (c : Bits) (i : ℕ) → ((q : ℕ) → i ≤ q → q < 64 * c.count → c.members q ≡ false) → Ok None ≡ next_from c i
 unfolding next_from found_below
-none_is c i u = sym (ap (λ (t : Bool). choose t (At p) Nothing) (le-ltb p (64 * c.count) past))
+none_is c i u = sym (ap (λ (t : Bool). choose t (Ok (Some p)) (Ok None)) (le-ltb p (64 * c.count) past))
   where
     p : ℕ
     p = least_from c.members i (64 * c.count - i)
@@ -100,12 +99,12 @@ ahead_bit {c} {i} {k} {w} a z =
     (sym (a.bits (least_from (bit w) 0 64) l) ∙ (least (bit w) 0 64).here (omega arith)) in
     (l, b.0, b.1)
 
-ahead_found : {c : Bits} {i k w t : ℕ} → Ahead c i k w → (w ≡ 0 → ⊥) → k < c.count → t ≡ least_from (bit w) 0 64 → At (64 * k + t) ≡ next_from c i
+ahead_found : {c : Bits} {i k w t : ℕ} → Ahead c i k w → (w ≡ 0 → ⊥) → k < c.count → t ≡ least_from (bit w) 0 64 → Ok (Some (64 * k + t)) ≡ next_from c i
 ahead_found {c} {i} {k} {w} {t} a z h e =
     let b = ahead_bit a z in
     let j : ℕ = least_from (bit w) 0 64 in
     let m : j < 64 = b.0 in
-    ap (λ (y : ℕ). At (64 * k + y)) e
+    ap (λ (y : ℕ). Ok (Some (64 * k + y))) e
     ∙ found_is c i (64 * k + j) (omega arith) (leb-true i (64 * k + j) b.1) b.2
     (λ q p l.
     by_lt q (64 * k)
@@ -150,7 +149,7 @@ module _ (ws : List ℕ) (fit : Fit ws) where
     ahead : Ahead (all_words ws) i (i / 64) (x / 2 ^ (i % 64) * 2 ^ (i % 64) % 2 ^ 64)
     ahead = ahead_start i x (word_bits (i / 64) x e)
 
-    pub next_here : {v : ℕ} → (here ≡ 0 → ⊥) → v ≡ least_from (bit here) 0 64 → At (64 * (i / 64) + v) ≡ next_from (all_words ws) i
+    pub next_here : {v : ℕ} → (here ≡ 0 → ⊥) → v ≡ least_from (bit here) 0 64 → Ok (Some (64 * (i / 64) + v)) ≡ next_from (all_words ws) i
     next_here z t = ahead_found ahead z (omega (arith, all-count ws, inside)) t
       where
         inside : i / 64 < length ws
@@ -167,7 +166,7 @@ module _ (ws : List ℕ) (fit : Fit ws) where
 
   -- further on, past words that are 0
   module _ {i k : ℕ} (c : Clear ws i k) where
-    pub next_later : {y v : ℕ} → y ≡ get_or ws k 0 → (y ≡ 0 → ⊥) → v ≡ least_from (bit y) 0 64 → At (64 * k + v) ≡ next_from (all_words ws) i
+    pub next_later : {y v : ℕ} → y ≡ get_or ws k 0 → (y ≡ 0 → ⊥) → v ≡ least_from (bit y) 0 64 → Ok (Some (64 * k + v)) ≡ next_from (all_words ws) i
     next_later {y} g n t = ahead_found there n (by_lt k (length ws) (λ l. omega (arith, all-count ws)) (λ l. absurd (n (g ∙ past ws k l)))) t
       where
         there : Ahead (all_words ws) i k y
@@ -178,32 +177,28 @@ module _ (ws : List ℕ) (fit : Fit ws) where
           bits = λ j l. word_bits k y g j l ∙ ap (λ (t : Bool). t && (all_words ws).members (64 * k + j)) (sym (le-leb i (64 * k + j) (omega (arith, c.far))));
         }
 
-    pub next_none : length ws ≤ k → Nothing ≡ next_from (all_words ws) i
+    pub next_none : length ws ≤ k → Ok None ≡ next_from (all_words ws) i
     next_none l = none_is (all_words ws) i (λ q a m. all-member ws q ∙ c.none q a (omega (arith, all-count ws)))
 
 -- ---- the answer of a part of the walk
 
-abbrev pub is_none : Found → Bool
-is_none (At p) = false
-is_none Nothing = true
-is_none (Refused e) = false
+pub below_at : {ws : List ℕ} {i k p : ℕ} → Ok (Some p) ≡ next_from (all_words ws) i → NextBelow ws i k (Some p)
+below_at e = record { found = λ n. e; nothing = λ q. zero_one cc }
 
-pub below_at : {ws : List ℕ} {i k p : ℕ} → At p ≡ next_from (all_words ws) i → NextBelow ws i k (At p)
-below_at e = record { found = λ n. e; nothing = λ q. absurd (false≢true (ap is_none q)) }
-
-pub below_none : {ws : List ℕ} {i k : ℕ} → Clear ws i k → NextBelow ws i k Nothing
+pub below_none : {ws : List ℕ} {i k : ℕ} → Clear ws i k → NextBelow ws i k None
 below_none c = record { found = λ n. absurd (n refl); nothing = λ q. c }
 
-pub below_found : {ws : List ℕ} {i k : ℕ} {r s : Found} → NextBelow ws i k r → r ≡ s → is_none s ≡ false → s ≡ next_from (all_words ws) i
-below_found h e n = sym e ∙ h.found (λ q. false≢true (sym n ∙ ap is_none (sym e ∙ q)))
+pub below_found : {ws : List ℕ} {i k p : ℕ} {r : Option ℕ} → NextBelow ws i k r → r ≡ Some p → Ok (Some p) ≡ next_from (all_words ws) i
+below_found {p = p} h e = ap Ok (sym e) ∙ h.found (λ q. let t : Some p ≡ None = sym e ∙ q in zero_one cc)
 
 -- ---- the call
 
 module _ (op : SetOp) (ws : List ℕ) (b : Bitmap) (os : List ℕ) (o : Bitmap) where
-  pub walk_stopped : (i : ℕ) {e : Refusal} → Stop e ≡ checked ws b Stop (checked os o Stop Pass) → Refused e ≡ walk_of op ws b os o i
+  pub walk_raised : (i : ℕ) {r : Found} {e : Refused} → IsErr r × IsErrAnd r (λ x. x ≡ e.0) → Err e ≡ checked ws b (refusing b) (checked os o (refusing b) passing)
+      → r ≡ walk_of op ws b os o i
   unfolding walk_of
-  walk_stopped i {e} p = sym (both_stopped ws b os o Refused (λ s t. next_from (combined op s t) i) e p)
+  walk_raised i q p = both_raised ws b os o (λ s t. next_from (combined op s t) i) q p
 
   pub walked : (i : ℕ) {r : Found} → PassedTwo ws b os o → r ≡ next_from (all_words (words_by op (take b.count ws) (take o.count os))) i → r ≡ walk_of op ws b os o i
   unfolding walk_of
-  walked i p e = e ∙ sym (both_read op ws b os o Refused (λ c. next_from c i) p)
+  walked i p e = e ∙ sym (both_read op ws b os o Err (λ c. next_from c i) p)

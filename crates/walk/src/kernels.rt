@@ -7,11 +7,10 @@ ghost use Rattle.storage.specs.Stores.{store_limit};
 ghost use Rattle.walk.specs.Kernels.{NextBelow, NextBeyond};
 
 use pairs::SetOp;
-use storage::Found;
 use word::Word;
 
 // The place of the lowest set bit from i on, in the word of i or in the next, or nothing.
-pub(crate) fn near(op: SetOp, a: &[u64], b: &[u64], i: usize) -> Found
+pub(crate) fn near(op: SetOp, a: &[u64], b: &[u64], i: usize) -> Option<usize>
     requires a_short { length a.now ≤ store_limit }
     requires b_short { length b.now ≤ store_limit }
     ensures { NextBelow (words_by op a.now b.now) i (i / 64 + 2) result }
@@ -19,29 +18,27 @@ pub(crate) fn near(op: SetOp, a: &[u64], b: &[u64], i: usize) -> Found
     let first = i / 64;
     let t = (pairs::word_at(op, a, b, first) >> (i % 64)) << (i % 64);
     if t != 0 {
-        return Found::At(64 * first + Word::trailing_zeros(t));
+        return Some(64 * first + Word::trailing_zeros(t));
     }
     let u = pairs::word_at(op, a, b, first + 1);
     if u != 0 {
-        return Found::At(64 * (first + 1) + Word::trailing_zeros(u));
+        return Some(64 * (first + 1) + Word::trailing_zeros(u));
     }
-    Found::Nothing
+    None
 }
 
 // The place of the lowest set bit from word `from` on, or nothing.
-pub(crate) fn far(op: SetOp, a: &[u64], b: &[u64], from: usize) -> Found
+pub(crate) fn far(op: SetOp, a: &[u64], b: &[u64], from: usize) -> Option<usize>
     requires a_short { length a.now ≤ store_limit }
     requires b_short { length b.now ≤ store_limit }
     ensures { NextBeyond (words_by op a.now b.now) from result }
 {
     let end = pairs::end_of(op, a.len(), b.len());
-    let mut k = pairs::zero_eights(op, a, b, from);
-    while k < end {
+    for k in pairs::zero_eights(op, a, b, from)..end {
         let w = pairs::word_at(op, a, b, k);
         if w != 0 {
-            return Found::At(64 * k + Word::trailing_zeros(w));
+            return Some(64 * k + Word::trailing_zeros(w));
         }
-        k += 1;
     }
-    Found::Nothing
+    None
 }

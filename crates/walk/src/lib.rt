@@ -10,72 +10,78 @@ ghost use Rattle.pairs.specs.declared.SetOp.TheVariants.{And, AndNot, Or, Xor};
 ghost use Rattle.walk.specs.Walks.{walk_of};
 
 use pairs::SetOp;
-use storage::{Bitmap, Found, Guard};
+use storage::{Bitmap, Refusal};
+
+// The least number from i on that the operation makes of the two bitmaps, or nothing. It is taken into each call, where the operation is known: called with
+// any, it takes half as long again.
+#[inline(always)]
+fn walk(
+    op: SetOp,
+    words: &[u64],
+    b: Bitmap,
+    other: &[u64],
+    o: Bitmap,
+    i: usize,
+) -> Result<Option<usize>, Refusal>
+    ensures { result ≡ walk_of op words.now b other.now o i }
+{
+    storage::check_two(words, b, other, o)?;
+    let first = &words[..b.count];
+    let second = &other[..o.count];
+    if let Some(p) = kernels::near(op, first, second, i) {
+        return Ok(Some(p));
+    }
+    Ok(kernels::far(op, first, second, i / 64 + 2))
+}
 
 // The least number from i on that is in both bitmaps, or nothing.
-pub fn iter_and(words: &[u64], b: Bitmap, other: &[u64], o: Bitmap, i: usize) -> Found
+pub fn iter_and(
+    words: &[u64],
+    b: Bitmap,
+    other: &[u64],
+    o: Bitmap,
+    i: usize,
+) -> Result<Option<usize>, Refusal>
     ensures { result ≡ walk_of And words.now b other.now o i }
 {
-    let n = b.count;
-    let m = o.count;
-    match storage::check_two(words, b, other, o) {
-        Guard::Stop(e) => return Found::Refused(e),
-        Guard::Pass => {}
-    }
-    match kernels::near(SetOp::And, &words[..n], &other[..m], i) {
-        Found::Nothing => kernels::far(SetOp::And, &words[..n], &other[..m], i / 64 + 2),
-        Found::At(p) => Found::At(p),
-        Found::Refused(e) => Found::Refused(e),
-    }
+    walk(SetOp::And, words, b, other, o, i)
 }
 
 // The least number from i on that is in either bitmap, or nothing.
-pub fn iter_or(words: &[u64], b: Bitmap, other: &[u64], o: Bitmap, i: usize) -> Found
+pub fn iter_or(
+    words: &[u64],
+    b: Bitmap,
+    other: &[u64],
+    o: Bitmap,
+    i: usize,
+) -> Result<Option<usize>, Refusal>
     ensures { result ≡ walk_of Or words.now b other.now o i }
 {
-    let n = b.count;
-    let m = o.count;
-    match storage::check_two(words, b, other, o) {
-        Guard::Stop(e) => return Found::Refused(e),
-        Guard::Pass => {}
-    }
-    match kernels::near(SetOp::Or, &words[..n], &other[..m], i) {
-        Found::Nothing => kernels::far(SetOp::Or, &words[..n], &other[..m], i / 64 + 2),
-        Found::At(p) => Found::At(p),
-        Found::Refused(e) => Found::Refused(e),
-    }
+    walk(SetOp::Or, words, b, other, o, i)
 }
 
 // The least number from i on that is in one bitmap and not in both, or nothing.
-pub fn iter_xor(words: &[u64], b: Bitmap, other: &[u64], o: Bitmap, i: usize) -> Found
+pub fn iter_xor(
+    words: &[u64],
+    b: Bitmap,
+    other: &[u64],
+    o: Bitmap,
+    i: usize,
+) -> Result<Option<usize>, Refusal>
     ensures { result ≡ walk_of Xor words.now b other.now o i }
 {
-    let n = b.count;
-    let m = o.count;
-    match storage::check_two(words, b, other, o) {
-        Guard::Stop(e) => return Found::Refused(e),
-        Guard::Pass => {}
-    }
-    match kernels::near(SetOp::Xor, &words[..n], &other[..m], i) {
-        Found::Nothing => kernels::far(SetOp::Xor, &words[..n], &other[..m], i / 64 + 2),
-        Found::At(p) => Found::At(p),
-        Found::Refused(e) => Found::Refused(e),
-    }
+    walk(SetOp::Xor, words, b, other, o, i)
 }
 
 // The least number from i on that is in the first bitmap and not in the second, or nothing.
-pub fn iter_andnot(words: &[u64], b: Bitmap, other: &[u64], o: Bitmap, i: usize) -> Found
+pub fn iter_andnot(
+    words: &[u64],
+    b: Bitmap,
+    other: &[u64],
+    o: Bitmap,
+    i: usize,
+) -> Result<Option<usize>, Refusal>
     ensures { result ≡ walk_of AndNot words.now b other.now o i }
 {
-    let n = b.count;
-    let m = o.count;
-    match storage::check_two(words, b, other, o) {
-        Guard::Stop(e) => return Found::Refused(e),
-        Guard::Pass => {}
-    }
-    match kernels::near(SetOp::AndNot, &words[..n], &other[..m], i) {
-        Found::Nothing => kernels::far(SetOp::AndNot, &words[..n], &other[..m], i / 64 + 2),
-        Found::At(p) => Found::At(p),
-        Found::Refused(e) => Found::Refused(e),
-    }
+    walk(SetOp::AndNot, words, b, other, o, i)
 }

@@ -4,8 +4,8 @@ use mathlib.Core.Path.{◌≡◌, refl}
 use mathlib.Core.Bool.{true}
 use mathlib.Core.List.{List, [], ◌∷◌}
 use Rattle.sheet.specs.declared.Fields.{Fields}
-use Rattle.sheet.specs.declared.Added.TheVariants.{Done}
 use Rattle.plain.specs.Writer.{duty, remark, Left, started, added}
+use Rattle.std.specs.Prelude.{Ok}
 
 abbrev nines : List ℕ
 nines =
@@ -23,7 +23,7 @@ example =
 
 as_printed : example
     ≡ record {
-      answer = Done 32;
+      answer = Ok 32;
       buffer =
           0x4E ∷ 0x53 ∷ 0x00 ∷ 0x03 ∷ 0x83 ∷ 0x00 ∷ 0x09 ∷ 0x80 ∷ 0x00 ∷ 0x00 ∷ 0x02 ∷ 0x00 ∷ 0x00 ∷ 0x00 ∷ 0x01 ∷ 0x80 ∷ 0x01 ∷ 0x00 ∷ 0x02 ∷ 0x68 ∷ 0x69 ∷ 0x8A
           ∷ 0x00 ∷ 0x08 ∷ 0x00 ∷ 0x00 ∷ 0x00 ∷ 0x05 ∷ 0x00 ∷ 0x00 ∷ 0x00 ∷ 0x02 ∷ 9 ∷ [];

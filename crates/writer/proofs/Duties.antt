@@ -17,9 +17,18 @@ use Rattle.sheet.proofs.Payloads.{kind_small, payload_length, payload_short, siz
 use Rattle.sheet.proofs.Rules.{length-bytes}
 use Rattle.plain.proofs.Requests.{Says, checks_say, kind-kept}
 use Rattle.writer.specs.Kernels.{or_zero, parts_of}
-use Rattle.writer.specs.declared.Parts.{Parts}
-use Rattle.writer.specs.declared.Parts.TheVariants.{Are, Refused}
 use Rattle.writer.proofs.Places.{LaidAt}
+use Rattle.writer.specs.Kernels.{Parts}
+use Rattle.std.specs.Prelude.{Ok, Err}
+
+-- the two parts, if there are any
+abbrev high : Parts → ℕ
+high (Ok (h, l)) = h
+high (Err e) = 0
+
+abbrev low : Parts → ℕ
+low (Ok (h, l)) = l
+low (Err e) = 0
 
 -- a kind is refused, or makes an edit of that kind
 data Made (kind : ℕ) : Checked → Type 0 where
@@ -43,23 +52,23 @@ pub record Duty (kind h l n : ℕ) (c : Checked) : Type 0 where
   pub kinds : kind ≤ length table
 
 module _ (kind : ℕ) (f : Fields) (r : Parts) (told : r ≡ parts_of (checked_of (duty kind f))) where
-  pub duty_bad : (e : Refusal) → r ≡ Refused e → checked_of (duty kind f) ≡ bad e
+  pub duty_bad : (e : Refusal) → r ≡ Err e → checked_of (duty kind f) ≡ bad e
   unfolding parts_of
   duty_bad e p = go (checked_of (duty kind f)) (made kind f) (sym told ∙ p)
     where
-      go : (c : Checked) → Made kind c → parts_of c ≡ Refused e → c ≡ bad e
+      go : (c : Checked) → Made kind c → parts_of c ≡ Err e → c ≡ bad e
       go c (stops d) q = cc
       go c (makes x k) q = zero_one cc
 
-  pub duty_good : (h l n : ℕ) → r ≡ Are h l → n ≡ or_zero (size_in latest kind) → Duty kind h l n (checked_of (duty kind f))
+  pub duty_good : (h l n : ℕ) → r ≡ Ok (h, l) → n ≡ or_zero (size_in latest kind) → Duty kind h l n (checked_of (duty kind f))
   unfolding parts_of bytes_of payload_of
   duty_good h l n p s = go (checked_of (duty kind f)) (made kind f) (sym told ∙ p)
     where
-      go : (c : Checked) → Made kind c → parts_of c ≡ Are h l → Duty kind h l n c
+      go : (c : Checked) → Made kind c → parts_of c ≡ Ok (h, l) → Duty kind h l n c
       go c (stops d) q = zero_one cc
       go c (makes e k) q =
-          let a : numbered e / 2 ^ 64 ≡ h = cc in
-          let b : numbered e % 2 ^ 64 ≡ l = cc in
+          let a : numbered e / 2 ^ 64 ≡ h = ap high q in
+          let b : numbered e % 2 ^ 64 ≡ l = ap low q in
           let x : numbered e ≡ h * 2 ^ 64 + l = omega arith in
           let s' : length (payload_of e) ≡ n = ap or_zero (sym (size-latest e)) ∙ ap (λ (k : ℕ). or_zero (size_in latest k)) k ∙ sym s in
           let m : bytes_by (row_of (kind_of e)) ≡ n = sym (payload_length e) ∙ s' in

@@ -12,7 +12,6 @@ use lib.Dec.{leb, ltb}
 use borrow.Author.Tests.{le-leb, lt-leb, lt-ltb, le-ltb, ltb-false}
 use Rattle.word.proofs.Cases.{zero_one}
 use Rattle.storage.specs.declared.Refusal.TheVariants.{NoSpace}
-use Rattle.sheet.specs.declared.Added.TheVariants.{Done, Refused}
 use Rattle.sheet.specs.Bytes.{bytes}
 use Rattle.editions.specs.Frames.{count_in}
 use Rattle.plain.specs.Writer.{most, Entry, bytes_of, laid, Left, refuse, placed, Writes}
@@ -21,6 +20,7 @@ use Rattle.editions.proofs.Turns.{take-true, take-false}
 use Rattle.writer.specs.Kernels.{roomless_in}
 use Rattle.writer.proofs.Answers.{writes}
 use Rattle.writer.proofs.Puts.{sets_append}
+use Rattle.std.specs.Prelude.{Ok, Err}
 
 module _ (buf : List ℕ) (len n : ℕ) where
   pub one_too_many : (r : ℕ) → r ≡ count_in buf → most ≤ r → true ≡ roomless_in buf len n
@@ -67,22 +67,22 @@ module _ (buf : List ℕ) (len : ℕ) (e : Entry) (first : ℕ) (body : List ℕ
       ap length a.shaped ∙ ap suc (length-append (bytes 2 (length body)) body)
       ∙ (let b = length-bytes 2 (length body) in let s = a.sized in omega arith)
 
-  pub refused : (t : Bool) → t ≡ roomless_in buf len n → t ≡ true → Writes (placed buf len e) (Refused NoSpace) buf
+  pub refused : (t : Bool) → t ≡ roomless_in buf len n → t ≡ true → Writes (placed buf len e) (Err NoSpace) buf
   unfolding placed roomless_in
   refused t p q =
       let end : len + 3 + n ≡ len + length (bytes_of e) = omega (arith, long) in
       writes _ (refuse NoSpace buf) (take-true _ _ (ap (λ (k : ℕ). leb most (count_in buf) || ltb (length buf) k) (sym end) ∙ sym p ∙ q))
 
   pub done : (b₁ b₂ : List ℕ) → RoomLeft buf len n → b₁ ≡ sets (sets buf 2 (bytes 2 (count_in buf + 1))) len (first ∷ bytes 2 n) → b₂ ≡ sets b₁ (len + 3) body
-      → Writes (placed buf len e) (Done (len + 3 + n)) b₂
+      → Writes (placed buf len e) (Ok (len + 3 + n)) b₂
   unfolding placed
   done b₁ b₂ r p q =
       let few = r.few in
       let room = r.fits in
       let end : len + length (bytes_of e) ≡ len + 3 + n = omega (arith, long) in
       let none : leb most (count_in buf) || ltb (length buf) (len + length (bytes_of e)) ≡ false = rw few (le-ltb (length buf) (len + length (bytes_of e)) (omega arith)) in
-      let l : placed buf len e ≡ record { answer = Done (len + length (bytes_of e)); buffer = sets base len (bytes_of e) } = take-false _ _ none in
-      record { answers = ap Done (sym end) ∙ ap (λ (x : Left). x.answer) (sym l); leaves = stored ∙ ap (λ (x : Left). x.buffer) (sym l) }
+      let l : placed buf len e ≡ record { answer = Ok (len + length (bytes_of e)); buffer = sets base len (bytes_of e) } = take-false _ _ none in
+      record { answers = ap Ok (sym end) ∙ ap (λ (x : Left). x.answer) (sym l); leaves = stored ∙ ap (λ (x : Left). x.buffer) (sym l) }
     where
       base : List ℕ
       base = sets buf 2 (bytes 2 (count_in buf + 1))

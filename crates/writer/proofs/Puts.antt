@@ -4,9 +4,10 @@ use mathlib.Core.Path.{◌≡◌, refl, sym, ap, ap₂, ◌∙◌}
 use mathlib.Core.List.{List, [], ◌∷◌, ◌++◌}
 use native.Mathlib.Omega.{arith}
 use native.Mathlib.Nat.{add-zero, add-suc, suc-add, pow-suc, div-div-eq-div-mul}
-use native.Mathlib.Numerals.{add-one}
-use lib.ListN.{set, length, get_or, take, length-set}
-use lib.Seq.{sets, set_comm, take-suc, length-take-le, take_all}
+use lib.ListN.{set, length, take, drop, length-set}
+use lib.Seq.{sets, set_comm, sets-eq}
+use Rattle.std.proofs.lemmas.List.{append_assoc}
+use borrow.Rule.Slice.PartMut.{put_mid, Post-is}
 use Rattle.sheet.specs.Bytes.{bytes}
 
 -- bytes after bytes
@@ -67,30 +68,10 @@ module _ (b₀ : List ℕ) (at n x : ℕ) where
       let s : at + i ≡ at = omega arith in
       p.there ∙ ap₂ (λ (y z : ℕ). sets b₀ y (bytes z x)) s e
 
--- a payload is copied: its first i bytes are there
-pub record Copying (b₀ : List ℕ) (at : ℕ) (s b : List ℕ) (i : ℕ) : Type 0 where
-  pub bound : i ≤ length s
-  pub room : at + length s ≤ length b₀
-  pub same : length b ≡ length b₀
-  pub there : b ≡ sets b₀ at (take i s)
-
-module _ (b₀ : List ℕ) (at : ℕ) (s : List ℕ) where
-  pub copy_first : at + length s ≤ length b₀ → Copying b₀ at s b₀ 0
-  copy_first h = record { bound = omega arith; room = h; same = refl; there = refl }
-
-  pub copy-next : (b : List ℕ) (i : ℕ) → Copying b₀ at s b i → i < length s → Copying b₀ at s (set b (at + i) (get_or s i 0)) (i + 1)
-  copy-next b i c h =
-      record {
-        bound = omega arith;
-        room = c.room;
-        same = length-set b (at + i) (get_or s i 0) ∙ c.same;
-        there =
-            ap (λ (l : List ℕ). set l (at + i) (get_or s i 0)) c.there
-            ∙ ap (λ (k : ℕ). set (sets b₀ at (take i s)) (at + k) (get_or s i 0)) (sym (length-take-le i s (omega arith)))
-            ∙ sym (sets_append (take i s) (get_or s i 0 ∷ []) b₀ at)
-            ∙ ap (sets b₀ at) (sym (take-suc s i 0 h))
-            ∙ ap (λ (k : ℕ). sets b₀ at (take k s)) (sym (add-one i));
-      }
-
-  pub copy-last : (b : List ℕ) (i : ℕ) → Copying b₀ at s b i → length s ≤ i → b ≡ sets b₀ at s
-  copy-last b i c h = c.there ∙ ap (sets b₀ at) (take_all i s h)
+-- a payload is copied
+pub copied : (b₀ : List ℕ) (at : ℕ) (s b : List ℕ) → at + length s ≤ length b₀ → b ≡ s
+    → put_mid at (at + length s - at) b₀ b ≡ sets b₀ at s
+copied b₀ at s b h e =
+    ap (put_mid at (at + length s - at) b₀) e
+    ∙ ap (λ (l : List ℕ). take at b₀ ++ (s ++ l)) (Post-is at (at + length s) b₀ (omega arith))
+    ∙ sym (append_assoc (take at b₀) s (drop (at + length s) b₀)) ∙ sym (sets-eq s b₀ at h)

@@ -12,29 +12,22 @@ ghost use Rattle.plain.specs.Plain.{Typed};
 ghost use Rattle.plain.specs.Writer.{most, checked_of, placed_by, duty, remark, Writes, Starts, Adds};
 ghost use Rattle.writer.specs.Kernels.{Given, or_zero, parts_of, roomless_in};
 
-use sheet::{AT_1, AT_7, AT_8, AT_25, AT_32, AT_39, AT_63, Added, Fields, Known};
-use storage::{Guard, Refusal};
-
-// A duty record's payload as one number, what is over 64 bits apart; or its refusal.
-#[derive(Clone, Copy)]
-enum Parts {
-    Are(usize, usize),
-    Refused(Refusal),
-}
+use sheet::{AT_1, AT_7, AT_8, AT_25, AT_32, AT_39, AT_63, Fields};
+use storage::Refusal;
 
 // A sheet of no records at the front of the buffer.
-pub fn start(buffer: &mut [u8]) -> Added
+pub fn start(buffer: &mut [u8]) -> Result<usize, Refusal>
     ensures { Starts buffer.old result buffer.new }
 {
     if buffer.len() < 4 {
-        return Added::Refused(Refusal::NoSpace);
+        return Err(Refusal::NoSpace);
     }
     let letters = sheet::LETTERS;
     buffer[0] = letters[0];
     buffer[1] = letters[1];
     buffer[2] = 0;
     buffer[3] = 0;
-    Added::Done(4)
+    Ok(4)
 }
 
 // The n low bytes of x at a position.
@@ -43,11 +36,9 @@ fn put(buffer: &mut [u8], at: usize, n: usize, x: usize)
     ensures { buffer.new ≡ sets buffer.old at (bytes n x) }
 {
     let mut left = x;
-    let mut i = n;
-    while i > 0 {
-        i -= 1;
+    for i in (0..n).rev() {
         buffer[at + i] = (left % 256) as u8;
-        left = left / 256;
+        left /= 256;
     }
 }
 
@@ -56,7 +47,7 @@ fn put_parts(buffer: &mut [u8], at: usize, n: usize, high: usize, low: usize)
     requires { at + n ≤ length buffer.old }
     ensures { buffer.new ≡ sets buffer.old at (bytes n (high * 2 ^ 64 + low)) }
 {
-    let over = word::max(n, 8) - 8;
+    let over = n.max(8) - 8;
     put(buffer, at, over, high);
     put(buffer, at + over, n - over, low);
 }
@@ -66,47 +57,44 @@ fn copy(buffer: &mut [u8], at: usize, payload: &[u8])
     requires { at + length payload.now ≤ length buffer.old }
     ensures { buffer.new ≡ sets buffer.old at payload.now }
 {
-    let mut i: usize = 0;
-    while i < payload.len() {
-        buffer[at + i] = payload[i];
-        i += 1;
-    }
+    let end = at + payload.len();
+    buffer[at..end].copy_from_slice(payload);
 }
 
 // 1 for true.
 fn digit(flag: bool) -> usize
     ensures { (result ≡ val flag) × (result < 2) }
 {
-    if flag { 1 } else { 0 }
+    flag as usize
 }
 
-// 13, 3 or 4 of a duty record, or its payload's parts.
-fn payload_parts(kind: usize, f: Fields) -> Parts
+// 13, 3 or 4 of a duty record, or its payload as one number, what is over 64 bits apart.
+fn payload_parts(kind: usize, f: Fields) -> Result<(usize, usize), Refusal>
     ensures { result ≡ parts_of (checked_of (duty kind f)) }
 {
     let p = f.p as usize;
     let k = f.k as usize;
     let flag = digit(f.flag);
     match kind {
-        1 | 2 => Parts::Are(0, p),
-        3 => Parts::Are(flag * AT_7 + p / AT_25, p % AT_25 * AT_39 + k * AT_7),
+        1 | 2 => Ok((0, p)),
+        3 => Ok((flag * AT_7 + p / AT_25, p % AT_25 * AT_39 + k * AT_7)),
         4 => {
             if f.width > 64 {
-                return Parts::Refused(Refusal::WidthOver);
+                return Err(Refusal::WidthOver);
             }
             let v = f.value as usize;
-            Parts::Are(p * AT_8 + f.width * AT_1 + v / AT_63, v % AT_63 * AT_1)
+            Ok((p * AT_8 + f.width * AT_1 + v / AT_63, v % AT_63 * AT_1))
         }
-        5 | 6 => Parts::Are(0, flag * AT_39 + k * AT_7),
+        5 | 6 => Ok((0, flag * AT_39 + k * AT_7)),
         7 => {
             if f.size > sheet::MOST_BITS {
-                return Parts::Refused(Refusal::IndexOver);
+                return Err(Refusal::IndexOver);
             }
-            Parts::Are(0, f.size * AT_7)
+            Ok((0, f.size * AT_7))
         }
-        8 => Parts::Are(0, 0),
-        9..=11 => Parts::Are(0, p * AT_32 + k),
-        _ => Parts::Refused(Refusal::NewerKind),
+        8 => Ok((0, 0)),
+        9..=11 => Ok((0, p * AT_32 + k)),
+        _ => Err(Refusal::NewerKind),
     }
 }
 
@@ -114,10 +102,7 @@ fn payload_parts(kind: usize, f: Fields) -> Parts
 fn payload_size(kind: usize) -> usize
     ensures { result ≡ or_zero (size_in latest kind) }
 {
-    match sheet::payload_bytes(sheet::LATEST, kind) {
-        Known::Bytes(n) => n,
-        Known::Newer => 0,
-    }
+    sheet::payload_bytes(sheet::LATEST, kind).unwrap_or(0)
 }
 
 // Whether a record with n bytes of payload has no room, or is one too many.
@@ -144,42 +129,43 @@ fn put_head(buffer: &mut [u8], at: usize, first: usize, n: usize)
 }
 
 // A remark at the end of the sheet.
-fn add_remark(buffer: &mut [u8], length: usize, kind: usize, payload: &[u8]) -> Added
+fn add_remark(
+    buffer: &mut [u8],
+    length: usize,
+    kind: usize,
+    payload: &[u8],
+) -> Result<usize, Refusal>
     requires { Given buffer.old length }
     ensures { Writes (placed_by buffer.old length (checked_of (remark kind payload.now))) result buffer.new }
 {
     if kind > 127 {
-        return Added::Refused(Refusal::NewerKind);
+        return Err(Refusal::NewerKind);
     }
     let n = payload.len();
     if n > sheet::MOST {
-        return Added::Refused(Refusal::BadPayload);
+        return Err(Refusal::BadPayload);
     }
     if roomless(buffer, length, n) {
-        return Added::Refused(Refusal::NoSpace);
+        return Err(Refusal::NoSpace);
     }
     put_head(buffer, length, kind, n);
     copy(buffer, length + 3, payload);
-    Added::Done(length + 3 + n)
+    Ok(length + 3 + n)
 }
 
 // A duty record at the end of the sheet.
-fn add_duty(buffer: &mut [u8], length: usize, kind: usize, f: Fields) -> Added
+fn add_duty(buffer: &mut [u8], length: usize, kind: usize, f: Fields) -> Result<usize, Refusal>
     requires { Given buffer.old length }
     ensures { Writes (placed_by buffer.old length (checked_of (duty kind f))) result buffer.new }
 {
-    match payload_parts(kind, f) {
-        Parts::Refused(e) => Added::Refused(e),
-        Parts::Are(high, low) => {
-            let n = payload_size(kind);
-            if roomless(buffer, length, n) {
-                return Added::Refused(Refusal::NoSpace);
-            }
-            put_head(buffer, length, 128 + kind, n);
-            put_parts(buffer, length + 3, n, high, low);
-            Added::Done(length + 3 + n)
-        }
+    let (high, low) = payload_parts(kind, f)?;
+    let n = payload_size(kind);
+    if roomless(buffer, length, n) {
+        return Err(Refusal::NoSpace);
     }
+    put_head(buffer, length, 128 + kind, n);
+    put_parts(buffer, length + 3, n, high, low);
+    Ok(length + 3 + n)
 }
 
 // Adds a record at the end of the sheet that is the buffer's first `length` bytes, and raises R.
@@ -190,17 +176,14 @@ pub fn add(
     kind: usize,
     fields: Fields,
     payload: &[u8],
-) -> Added
+) -> Result<usize, Refusal>
     ensures adds { Adds buffer.old length duty kind fields payload.now result buffer.new }
     ensures typed { Typed fields }
 {
     if length > buffer.len() {
-        return Added::Refused(Refusal::CountOverStore);
+        return Err(Refusal::CountOverStore);
     }
-    match frames::fault(&buffer[..length]) {
-        Guard::Stop(e) => return Added::Refused(e),
-        Guard::Pass => {}
-    }
+    frames::fault(&buffer[..length])?;
     if duty {
         return add_duty(buffer, length, kind, fields);
     }

@@ -3,7 +3,7 @@ use mathlib.Core.Path.{sym, ap, ◌∙◌}
 use Rattle.sheet.specs.Reads.{reading_number, reading_record, reading_count}
 use Rattle.answers.proofs.reading.Goals as goal
 
-pub returns-in-Refused : goal.returns-in-Refused
-returns-in-Refused c =
-    let is = sym c.in-Refused.is in
+pub returns-in-Err : goal.returns-in-Err
+returns-in-Err c =
+    let is = sym c.in-Err.is in
     record { number = c.number.ensures ∙ ap reading_number is; at = ap reading_record is; count = ap reading_count is }

@@ -1,13 +1,15 @@
--- The set bits of all words are counted, mod 2^64. Loop: n has those of the words below i.
-use Rattle.std.proofs.Common.{arith}
-use Rattle.arch.proofs.Counts.{count-start, count_next, count-end}
+-- The set bits of all words are counted, mod 2^64.
+use Rattle.std.proofs.Common.{ℕ, ◌+◌, ◌%◌, ◌^◌, ◌∙◌, rules}
+use borrow.Author.Tests.{tests}
+use Rattle.std.proofs.lemmas.Iterator.{YieldsList-from_slice}
+use Rattle.std.proofs.lemmas.Iterator.Consumers.{fold_from_yields_List}
+use Rattle.word.specs.Sets.{count_below}
+use Rattle.word.specs.Places.{bit}
+use Rattle.arch.proofs.Counts.{count_all}
 use Rattle.arch.proofs.count_set_bits.Goals as goal
 
-pub loop-i-init : goal.loop-i-init
-loop-i-init c = (omega arith, count-start _)
-
-pub loop-i-preserved : goal.loop-i-preserved
-loop-i-preserved c = (omega arith, count_next _ _ _ _ _ c.loop-i.invariant.1 c.count_ones.ensures c.wrapping_add_usize-n.ensures.value)
-
 pub returns : goal.returns
-returns c = count-end _ _ _ (omega arith) (omega arith) c.loop-i.invariant.1
+returns c =
+    fold_from_yields_List _ (λ (n x : ℕ). (n + count_below (bit x) 64) % 2 ^ 64) _ _ c.fold.ensures.ran (YieldsList-from_slice _ c.iter.ensures.rest)
+    (λ a x b q k. search (rules, tests))
+    ∙ count_all _

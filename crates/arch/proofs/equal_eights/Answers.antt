@@ -1,16 +1,14 @@
--- Every word below the answer is x, and the answer is within the length. Loop: the words below i are x.
-use Rattle.std.proofs.Common.{arith}
-use Rattle.arch.proofs.Scans.{alike_none, alike_join}
+-- The eights before the first one with another word, all of them where none has one, are eights of x.
+use Rattle.std.proofs.Common.{rules}
+use borrow.Author.Tests.{tests}
+use Rattle.std.proofs.lemmas.Iterator.{YieldsList-from_slice, IsFirst-from_position}
+use Rattle.arch.specs.Scans.{Alike}
+use Rattle.arch.proofs.Found.{eights_passed}
 use Rattle.arch.proofs.equal_eights.Goals as goal
 
-pub loop-i-init : goal.loop-i-init
-loop-i-init c = (omega arith, alike_none _ _ _ _ (omega arith))
-
-pub returns-then-others_in_eight-ne0 : goal.returns-then-others_in_eight-ne0
-returns-then-others_in_eight-ne0 c = c.loop-i.invariant
-
-pub loop-i-preserved : goal.loop-i-preserved
-loop-i-preserved c = (omega arith, alike_join c.loop-i.invariant.1 (c.others_in_eight.ensures c.if-others_in_eight-ne0.false) (omega arith))
-
 pub returns : goal.returns
-returns c = c.loop-i.invariant
+returns c =
+    rw c.unwrap_or.ensures
+    (eights_passed _ _ _ _ _ c.as_chunks.ensures.front c.as_chunks.ensures.front_len
+    (IsFirst-from_position _ _ _ (λ eight. Unit {0}) (λ eight. Alike eight c.args.x 0 8) c.position-passed.ensures.ran
+    (YieldsList-from_slice _ c.iter.ensures.rest) (λ x q k. tt) (λ x q k. search (rules, tests))))

@@ -1,16 +1,20 @@
--- The index of the first word other than x, or the length. Loop: every word below i is x.
-use Rattle.std.proofs.Common.{arith}
-use Rattle.arch.proofs.Scans.{alike_join, alike_one, other_at, other_none}
+-- The words of the eights are x, and of the rest those before the one found, all of them where none is found.
+use Rattle.std.proofs.Common.{◌≡◌, ◌∙◌, rules}
+use borrow.Author.Tests.{tests}
+use Rattle.std.proofs.lemmas.Iterator.{YieldsList-from_slice, IsFirst-from_position}
+use Rattle.arch.proofs.Found.{found_in_rest}
 use Rattle.arch.proofs.first_other.Goals as goal
 
-pub loop-i-init : goal.loop-i-init
-loop-i-init c = c.equal_eights-i.ensures.1
-
-pub returns-then-words-i : goal.returns-then-words-i
-returns-then-words-i c = other_at _ _ _ c.loop-i.invariant (omega arith) c.if-words-i.true
-
-pub loop-i-preserved : goal.loop-i-preserved
-loop-i-preserved c = alike_join c.loop-i.invariant (alike_one _ _ _ c.if-words-i.false) (omega arith)
+pub returns-in_err-i : goal.returns-in_err-i
+returns-in_err-i c =
+    let f = found_in_rest _ _ _ _ c.equal_eights-passed.ensures.0 c.equal_eights-passed.ensures.1
+    (IsFirst-from_position _ _ _ (λ w. w ≡ c.args.x → ⊥) (λ w. w ≡ c.args.x) c.position.ensures.ran (YieldsList-from_slice _ c.iter.ensures.rest)
+    (λ x q k. search (rules, tests)) (λ x q k. search (rules, tests))) in
+    c.from_residual.ensures ∙ rw c.in_err-i.was at f
 
 pub returns : goal.returns
-returns c = other_none _ _ _ c.loop-i.invariant (omega arith)
+returns c =
+    let f = found_in_rest _ _ _ _ c.equal_eights-passed.ensures.0 c.equal_eights-passed.ensures.1
+    (IsFirst-from_position _ _ _ (λ w. w ≡ c.args.x → ⊥) (λ w. w ≡ c.args.x) c.position.ensures.ran (YieldsList-from_slice _ c.iter.ensures.rest)
+    (λ x q k. search (rules, tests)) (λ x q k. search (rules, tests))) in
+    rw c.in_ok-i.was at f

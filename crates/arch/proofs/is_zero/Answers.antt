@@ -1,6 +1,6 @@
--- Every word is 0 exactly where the first word other than 0 is at the length.
-use Rattle.arch.proofs.Scans.{zero_is}
+-- No word other than 0 is found exactly where every word is 0.
+use Rattle.arch.proofs.Scans.{none_found}
 use Rattle.arch.proofs.is_zero.Goals as goal
 
 pub returns : goal.returns
-returns c = zero_is _ _ c.first_other.ensures
+returns c = none_found _ _ _ c.first_nonzero.ensures c.is_none.ensures

@@ -1,16 +1,19 @@
--- The length without trailing zero words. Loop: every word from `end` on is 0.
-use Rattle.std.proofs.Common.{arith}
-use Rattle.arch.proofs.Scans.{nonzero_none, alike_to, alike_join, alike_one, nonzero_at}
+-- The words behind the last one other than 0 are 0, all of them where there is none.
+use Rattle.std.proofs.Common.{◌≡◌, rules}
+use borrow.Author.Tests.{tests}
+use Rattle.arch.proofs.Found.{last_from_rposition, left_in_rest}
 use Rattle.arch.proofs.nonzero_len.Goals as goal
 
-pub loop-end-init : goal.loop-end-init
-loop-end-init c = c.zero_eights-end.ensures
+pub returns-in-Some : goal.returns-in-Some
+returns-in-Some c =
+    let f = left_in_rest _ _ _ c.zero_eights-end.ensures.0 c.zero_eights-end.ensures.1
+    (last_from_rposition _ _ (λ w. w ≡ 0 → ⊥) (λ w. w ≡ 0) _ _ _ c.iter.ensures.rest c.iter.ensures.runs_back c.rposition.ensures.bound
+    c.rposition.ensures.runs (search rules) (λ x k. search (rules, tests)) (λ x k. search (rules, tests))) in
+    rw c.in-Some.is at f
 
-pub returns-then-words-end-ne0 : goal.returns-then-words-end-ne0
-returns-then-words-end-ne0 c = nonzero_at _ _ (omega arith) (omega arith) c.loop-end.invariant.1 c.if-words-end-ne0.true
-
-pub loop-end-preserved : goal.loop-end-preserved
-loop-end-preserved c = (omega arith, alike_join (alike_one _ _ _ c.if-words-end-ne0.false) c.loop-end.invariant.1 (omega arith))
-
-pub returns : goal.returns
-returns c = nonzero_none _ (alike_to _ _ c.loop-end.invariant.1 (omega arith) (omega arith))
+pub returns-in-None : goal.returns-in-None
+returns-in-None c =
+    let f = left_in_rest _ _ _ c.zero_eights-end.ensures.0 c.zero_eights-end.ensures.1
+    (last_from_rposition _ _ (λ w. w ≡ 0 → ⊥) (λ w. w ≡ 0) _ _ _ c.iter.ensures.rest c.iter.ensures.runs_back c.rposition.ensures.bound
+    c.rposition.ensures.runs (search rules) (λ x k. search (rules, tests)) (λ x k. search (rules, tests))) in
+    rw c.in-None.is at f

@@ -1,27 +1,24 @@
 -- The guard, then 6 where the store has no word for i, then growth by zero words, and bit i is set.
 use mathlib.Core.Path.{sym, ◌∙◌}
 use native.Mathlib.Omega.{arith}
-use Rattle.storage.specs.Guards.{Passed}
 use Rattle.storage.proofs.Checks.{passed}
-use Rattle.storage.proofs.Stores.{changes_stopped}
+use Rattle.storage.proofs.Stores.{changes_raised}
+use Rattle.bitmap.proofs.Grows.{no_room}
 use Rattle.bitmap.proofs.Singles.{set-refused, set-changes}
 use Rattle.bitmap.proofs.set.Goals as goal
 
-pub returns-in-Stop : goal.returns-in-Stop
-returns-in-Stop c = changes_stopped _ _ _ _ (sym c.in-Stop.is ∙ c.check.ensures)
+pub returns-in_err-check : goal.returns-in_err-check
+returns-in_err-check c = changes_raised _ _ _ c.from_residual.ensures (sym c.in_err-check.was ∙ c.check.ensures)
 
-pub returns-then-k-words : goal.returns-then-k-words
-returns-then-k-words c =
-    let ok : Passed c.args.words.now c.args.b =
-    passed _ _ (sym c.in-Pass.is ∙ c.check.ensures) in
-    set-refused _ _ _ (λ k. omega (arith, c.slice_known-1.given k)) ok c.if-k-words.true
+pub returns-in_err-grown : goal.returns-in_err-grown
+returns-in_err-grown c =
+    let ok = passed c.args.words.now c.args.b (sym c.in_ok-check.was ∙ c.check.ensures) in
+    let g = c.in_err-grown.ensures in
+    no_room _ _ _ _ _ c.from_residual-in_err-grown.ensures g
+    (set-refused _ _ _ (search arith) ok (omega (arith, g)))
 
 pub returns : goal.returns
 returns c =
-    let ok : Passed c.args.words.now c.args.b =
-    passed _ _ (sym c.in-Pass.is ∙ c.check.ensures) in
-    set-changes _ _ _ (λ k. omega
-    (arith, c.slice_known-1.given k))
-    ok _ _ _
-    c.if-k-words.false c.zero_words.ensures
-    c.bit.ensures c.max.ensures
+    let ok = passed c.args.words.now c.args.b (sym c.in_ok-check.was ∙ c.check.ensures) in
+    let g = c.in_ok-grown.ensures in
+    set-changes _ _ _ (search arith) ok _ _ _ (omega (arith, g)) g.1 c.bit.ensures g.2

@@ -1,11 +1,7 @@
--- The listed bits are set and the others stay. Loop: the first t listed bits are set, all others are as they were.
-use Prim.Native.Nat.{◌-◌, ◌≤◌}
-use lib.ListN.{length, take}
+-- The listed bits are set and the others stay. Loop: those before the index are set, all others are as they were.
+use lib.ListN.{take}
 use Rattle.bitmap.specs.Kernels.{SetsListed}
 use Rattle.bitmap.proofs.set_listed.Given as goal
 
-abbrev pub invariant-loop-t : goal.invariant-loop-t
-invariant-loop-t l = (l.t ≤ length l.bits) × SetsListed l.initial.words (take l.t l.bits) l.words
-
-abbrev pub decreases-loop-t : goal.decreases-loop-t
-decreases-loop-t l = length l.bits - l.t
+abbrev pub invariant-loop-i : goal.invariant-loop-i
+invariant-loop-i l = SetsListed l.initial.words (take l.i-index l.bits) l.words

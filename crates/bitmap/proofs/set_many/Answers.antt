@@ -1,34 +1,25 @@
 -- The guard, then 6 where the store has no word for one of the bits, then growth by zero words, and every listed bit is set.
 use mathlib.Core.Path.{sym, ◌∙◌}
 use native.Mathlib.Omega.{arith}
-use Rattle.storage.specs.Guards.{Passed}
 use Rattle.storage.proofs.Checks.{passed}
-use Rattle.storage.proofs.Stores.{changes_stopped}
+use Rattle.storage.proofs.Stores.{changes_raised}
+use Rattle.bitmap.proofs.Grows.{no_room}
 use Rattle.bitmap.proofs.Many.{many_refused, many_changes}
 use Rattle.bitmap.proofs.set_many.Goals as goal
 
-pub returns-in-Stop : goal.returns-in-Stop
-returns-in-Stop c = changes_stopped _ _ _ _ (sym c.in-Stop.is ∙ c.check.ensures)
+pub returns-in_err-check : goal.returns-in_err-check
+returns-in_err-check c = changes_raised _ _ _ c.from_residual.ensures (sym c.in_err-check.was ∙ c.check.ensures)
 
-pub returns-then-need-words : goal.returns-then-need-words
-returns-then-need-words c =
-    let ok : Passed c.args.words.now c.args.b =
-    passed _ _ (sym c.in-Pass.is ∙ c.check.ensures) in
-    many_refused c.args.words.now
-    c.args.bits.now
-    c.args.b
-    (λ k. omega (arith, c.slice_known-1.given k))
-    ok (omega (arith, c.reach-need.ensures, c.if-need-words.true))
+pub returns-in_err-grown : goal.returns-in_err-grown
+returns-in_err-grown c =
+    let ok = passed c.args.words.now c.args.b (sym c.in_ok-check.was ∙ c.check.ensures) in
+    let g = c.in_err-grown.ensures in
+    no_room _ _ _ _ _ c.from_residual-in_err-grown.ensures g
+    (many_refused c.args.words.now c.args.bits.now c.args.b (search arith) ok (omega (arith, g, c.reach.ensures)))
 
 pub returns : goal.returns
 returns c =
-    let ok : Passed c.args.words.now c.args.b =
-    passed _ _ (sym c.in-Pass.is ∙ c.check.ensures) in
-    many_changes c.args.words.now
-    c.args.bits.now
-    c.args.b
-    (λ k. omega (arith, c.slice_known-1.given k))
-    ok _ _ _ _
-    c.reach-need.ensures
-    c.if-need-words.false
-    c.zero_words.ensures c.set_listed.ensures c.max.ensures
+    let ok = passed c.args.words.now c.args.b (sym c.in_ok-check.was ∙ c.check.ensures) in
+    let g = c.in_ok-grown.ensures in
+    many_changes c.args.words.now c.args.bits.now c.args.b (search arith) ok _ _ _ _
+    c.reach.ensures g.0 g.1 c.set_listed.ensures g.2

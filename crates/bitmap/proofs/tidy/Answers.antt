@@ -1,7 +1,5 @@
 -- n where word k is not the last, then n where it is not 0, else the length of the n words without trailing zeros.
-use mathlib.Core.Path.{sym}
 use native.Mathlib.Omega.{arith}
-use lib.Seq.{length-take-le}
 use Rattle.bitmap.proofs.Tidies.{tidy_stays, tidy_full, tidy_trims}
 use Rattle.bitmap.proofs.tidy.Goals as goal
 
@@ -10,9 +8,6 @@ returns-then-k-n c = tidy_stays _ _ _ c.if-k-n.true
 
 pub returns-then-words-k-ne0 : goal.returns-then-words-k-ne0
 returns-then-words-k-ne0 c = tidy_full _ _ _ c.if-words-k-ne0.true
-
-pub slice_bounds-nonzero_len-end : goal.slice_bounds-nonzero_len-end
-slice_bounds-nonzero_len-end c = sym (length-take-le c.args.n c.args.words.now (omega arith))
 
 pub returns : goal.returns
 returns c = tidy_trims _ _ _ _ (omega arith) (omega arith) c.if-words-k-ne0.false c.nonzero_len.ensures

@@ -1,29 +1,14 @@
 -- The guard, then every bit of the words in use flips, and the other words stay.
 use mathlib.Core.Path.{sym, ◌∙◌}
-use lib.Seq.{length-take-le}
-use Rattle.storage.specs.Guards.{Passed}
 use Rattle.storage.proofs.Checks.{passed}
-use Rattle.storage.proofs.Stores.{changes_stopped}
+use Rattle.storage.proofs.Stores.{changes_raised}
 use Rattle.bits.proofs.Moves.{invert-changes}
 use Rattle.bits.proofs.invert.Goals as goal
 
-pub returns-in-Stop : goal.returns-in-Stop
-returns-in-Stop c = changes_stopped _ _ _ _ (sym c.in-Stop.is ∙ c.check.ensures)
-
-pub slice_bounds-invert_words-end : goal.slice_bounds-invert_words-end
-slice_bounds-invert_words-end c =
-    let ok : Passed c.args.words.now c.args.b =
-    passed _ _ (sym c.in-Pass.is ∙ c.check.ensures) in
-    ok.inside
-
-pub slice_bounds-invert_words-end-2 : goal.slice_bounds-invert_words-end-2
-slice_bounds-invert_words-end-2 c =
-    let ok : Passed c.args.words.now c.args.b =
-    passed _ _ (sym c.in-Pass.is ∙ c.check.ensures) in
-    sym (length-take-le _ _ ok.inside)
+pub returns-in_err-check : goal.returns-in_err-check
+returns-in_err-check c = changes_raised _ _ _ c.from_residual.ensures (sym c.in_err-check.was ∙ c.check.ensures)
 
 pub returns : goal.returns
 returns c =
-    let ok : Passed c.args.words.now c.args.b =
-    passed _ _ (sym c.in-Pass.is ∙ c.check.ensures) in
+    let ok = passed c.args.words.now c.args.b (sym c.in_ok-check.was ∙ c.check.ensures) in
     invert-changes _ _ _ ok c.invert_words.ensures

@@ -1,11 +1,7 @@
 -- The set bits of the words before `at` and `left` make up r. Loop: so they do behind every eight that is passed.
-use Prim.Native.Nat.{◌-◌}
-use lib.ListN.{length}
+use Prim.Native.Nat.{◌*◌}
 use Rattle.bits.specs.Kernels.{Passing}
 use Rattle.bits.proofs.skip_eights.Given as goal
 
-abbrev pub invariant-loop-at : goal.invariant-loop-at
-invariant-loop-at l = Passing l.words l.r l.at l.left
-
-abbrev pub decreases-loop-at : goal.decreases-loop-at
-decreases-loop-at l = length l.words - l.at
+abbrev pub invariant-loop-k : goal.invariant-loop-k
+invariant-loop-k l = Passing l.words l.r (8 * l.k) l.left

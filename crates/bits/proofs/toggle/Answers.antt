@@ -1,35 +1,20 @@
 -- The guard, then 5 for a word past those in use, then bit i flips and no other.
 use mathlib.Core.Path.{sym, ◌∙◌}
 use native.Mathlib.Omega.{arith}
-use Rattle.storage.specs.Guards.{Passed}
 use Rattle.storage.proofs.Checks.{passed}
-use Rattle.storage.proofs.Stores.{changes_stopped}
+use Rattle.storage.proofs.Stores.{changes_raised}
 use Rattle.bits.proofs.Moves.{toggle-past, toggle-changes}
 use Rattle.bits.proofs.toggle.Goals as goal
 
-pub returns-in-Stop : goal.returns-in-Stop
-returns-in-Stop c = changes_stopped _ _ _ _ (sym c.in-Stop.is ∙ c.check.ensures)
+pub returns-in_err-check : goal.returns-in_err-check
+returns-in_err-check c = changes_raised _ _ _ c.from_residual.ensures (sym c.in_err-check.was ∙ c.check.ensures)
 
 pub returns-then-k-n : goal.returns-then-k-n
 returns-then-k-n c =
-    let ok : Passed c.args.words.now c.args.b =
-    passed _ _ (sym c.in-Pass.is ∙ c.check.ensures) in
+    let ok = passed c.args.words.now c.args.b (sym c.in_ok-check.was ∙ c.check.ensures) in
     toggle-past _ _ _ ok c.if-k-n.true
-
-pub bounds-words-k : goal.bounds-words-k
-bounds-words-k c =
-    let ok : Passed c.args.words.now c.args.b =
-    passed _ _ (sym c.in-Pass.is ∙ c.check.ensures) in
-    omega (arith, ok)
-
-pub bounds-words-k-2 : goal.bounds-words-k-2
-bounds-words-k-2 c =
-    let ok : Passed c.args.words.now c.args.b =
-    passed _ _ (sym c.in-Pass.is ∙ c.check.ensures) in
-    omega (arith, ok)
 
 pub returns : goal.returns
 returns c =
-    let ok : Passed c.args.words.now c.args.b =
-    passed _ _ (sym c.in-Pass.is ∙ c.check.ensures) in
-    toggle-changes _ _ _ _ (λ k. omega (arith, c.slice_known-1.given k)) ok (omega arith) c.bit.ensures
+    let ok = passed c.args.words.now c.args.b (sym c.in_ok-check.was ∙ c.check.ensures) in
+    toggle-changes _ _ _ _ (search arith) ok (omega arith) c.bit.ensures

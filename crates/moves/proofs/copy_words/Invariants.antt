@@ -1,11 +1,8 @@
--- Every word becomes that of `from`. Loop: below i they are, from i on they are as they were.
-use Prim.Native.Nat.{◌-◌, ◌≤◌}
+-- Loop: the words below i are those of `from`.
+use mathlib.Core.Path.{◌≡◌}
+use Prim.Native.Nat.{ℕ, ◌<◌}
 use lib.ListN.{get_or}
-use Rattle.word.proofs.Sweep.{Swept}
 use Rattle.moves.proofs.copy_words.Given as goal
 
 abbrev pub invariant-loop-i : goal.invariant-loop-i
-invariant-loop-i l = (l.i ≤ l.n) × Swept l.initial.to (λ k. get_or l.from k 0) 0 l.i l.to
-
-abbrev pub decreases-loop-i : goal.decreases-loop-i
-decreases-loop-i l = l.n - l.i
+invariant-loop-i l = (k : ℕ) → k < l.i → get_or l.to k 0 ≡ get_or l.from k 0

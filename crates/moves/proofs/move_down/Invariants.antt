@@ -1,10 +1,7 @@
--- Each word goes `whole` down where there is room, and the highest stay. Loop: the first i words are those `whole` above, the others as they were.
-use Prim.Native.Nat.{◌-◌, ◌≤◌}
+-- Loop: the words of k pieces are moved, as far as there are so many, and the words above are as they were.
+use Prim.Native.Nat.{◌*◌, min}
 use Rattle.moves.specs.Kernels.{Moved}
 use Rattle.moves.proofs.move_down.Given as goal
 
-abbrev pub invariant-loop-i : goal.invariant-loop-i
-invariant-loop-i l = (l.i ≤ l.end) × Moved l.whole 0 l.i l.initial.words l.words
-
-abbrev pub decreases-loop-i : goal.decreases-loop-i
-decreases-loop-i l = l.end - l.i
+abbrev pub invariant-loop-k : goal.invariant-loop-k
+invariant-loop-k l = Moved l.whole 0 (min (l.k * 1024) l.n) l.initial.words l.words

@@ -1,21 +1,21 @@
--- Each word goes `whole` up where there is room, and the lowest stay. Loop: those from `left` on are moved, the words below left + whole are as they were.
+-- Each word goes `whole` up where there is room, and the lowest stay. Loop: the words from piece k on are moved, those below are as they were.
 use mathlib.Core.Path.{refl}
 use native.Mathlib.Omega.{arith}
-use Rattle.moves.proofs.Pieces.{move_none, moved_up-more, moved_up-all}
+use Prim.Native.Nat.{◌*◌, min}
+use lib.ListN.{length}
+use Rattle.moves.proofs.Pieces.{move_none, moved_to, moved_up-more, moved_up-all}
 use Rattle.moves.proofs.Promises.{up_is}
 use Rattle.moves.proofs.move_up.Goals as goal
 
-pub returns-then-whole-n : goal.returns-then-whole-n
-returns-then-whole-n c = up_is _ _ _ (moved_up-all _ 0 _ _ (move_none _ _ _ _ (omega arith)) refl)
+pub loop-k-init : goal.loop-k-init
+loop-k-init c = move_none _ _ _ _ (omega arith)
 
-pub loop-left-init : goal.loop-left-init
-loop-left-init c = (omega arith, move_none _ _ _ _ (omega arith))
-
-pub move_piece-requires : goal.move_piece-requires
-move_piece-requires c = (omega (arith, c.loop-left.invariant.1.long), omega (arith, c.loop-left.invariant.1.long), omega arith)
-
-pub loop-left-preserved : goal.loop-left-preserved
-loop-left-preserved c = (omega arith, moved_up-more _ _ _ _ _ _ _ (omega arith) (omega arith) c.loop-left.invariant.1 c.move_piece.ensures)
+pub loop-k-preserved : goal.loop-k-preserved
+loop-k-preserved c =
+    moved_to
+    (moved_up-more (min (c.loop-k.k * 1024) c.saturating_sub-n.result) c.args.whole c.min.result (length c.args.words.now) _ _ _ (omega arith) (omega arith)
+    (moved_to c.loop-k.invariant refl refl (omega arith)) (moved_to c.move_piece.ensures (omega arith) (omega arith) refl))
+    (omega arith) (omega arith) (omega arith)
 
 pub returns : goal.returns
-returns c = up_is _ _ _ (moved_up-all _ _ _ _ c.loop-left.invariant.1 (omega arith))
+returns c = up_is _ _ _ (moved_up-all _ _ _ _ (moved_to c.loop-k.invariant refl refl (omega arith)) (omega arith))

@@ -5,7 +5,7 @@ use Rattle.notes.proofs.Fits.{fits}
 use Rattle.notes.proofs.list.Goals as goal
 
 pub slice_bounds-out-end : goal.slice_bounds-out-end
-slice_bounds-out-end g c = omega (arith, fits _ _ _ _ _ _ refl c.in-Is.ensures)
+slice_bounds-out-end g c = omega (arith, fits _ _ _ _ _ _ refl c.in-Ok.ensures)
 
-pub slice_bounds-put-end-then-n-gt0 : goal.slice_bounds-put-end-then-n-gt0
-slice_bounds-put-end-then-n-gt0 g c = sym (length-take-le _ _ (omega (arith, fits _ _ _ _ _ _ refl c.in-Is.ensures)))
+pub slice_bounds-write_all-end-2 : goal.slice_bounds-write_all-end-2
+slice_bounds-write_all-end-2 g c = sym (length-take-le _ _ (omega (arith, fits _ _ _ _ _ _ refl c.in-Ok.ensures)))

@@ -1,4 +1,4 @@
--- Whether the operation makes only zero words. Loop: the words that it makes below k are 0.
+-- Whether the operation makes only zero words. Loop: the words made below k are 0.
 use native.Mathlib.Omega.{arith}
 use Rattle.arch.proofs.Scans.{alike_one, alike_join}
 use Rattle.pairs.proofs.Scans.{past_end, zero-not, zero-all, eights_zero}

@@ -1,12 +1,13 @@
--- The length of what the operation makes, without trailing zero words. Loop: the words that it makes from `end` on are 0.
+-- The length of what the operation makes, without trailing zero words. Loop: the words made from k on are 0.
 use native.Mathlib.Omega.{arith}
 use Rattle.arch.proofs.Scans.{alike_to, alike_one, alike_join, nonzero_at, nonzero_none}
 use Rattle.pairs.proofs.Scans.{past_end, end-within}
-use mathlib.Core.Path.{sym, ◌∙◌}
+use mathlib.Core.Path.{◌≡◌, sym, ◌∙◌}
+use Prim.Native.Nat.{◌+◌, ◌-◌}
 use Rattle.pairs.proofs.nonzero_len.Goals as goal
 
-pub loop-end-init : goal.loop-end-init
-loop-end-init c = (
+pub loop-k-init : goal.loop-k-init
+loop-k-init c = (
   omega (
     arith,
     end-within c.args.op c.args.a.now
@@ -18,10 +19,12 @@ loop-end-init c = (
 )
 
 pub returns-then-word_at-ne0 : goal.returns-then-word_at-ne0
-returns-then-word_at-ne0 c = nonzero_at _ _ (omega arith) c.loop-end.invariant.0 c.loop-end.invariant.1 (λ z. c.if-word_at-ne0.true (c.word_at.ensures ∙ z))
+returns-then-word_at-ne0 c =
+    let e : c.loop-k.k - 1 + 1 ≡ c.loop-k.k = omega arith in
+    e ∙ nonzero_at _ _ (omega arith) c.loop-k.invariant.0 c.loop-k.invariant.1 (λ z. c.if-word_at-ne0.true (c.word_at.ensures ∙ z))
 
-pub loop-end-preserved : goal.loop-end-preserved
-loop-end-preserved c = (omega arith, alike_join (alike_one _ _ _ (sym c.word_at.ensures ∙ c.if-word_at-ne0.false)) c.loop-end.invariant.1 (omega arith))
+pub loop-k-preserved : goal.loop-k-preserved
+loop-k-preserved c = (omega arith, alike_join (alike_one _ _ _ (sym c.word_at.ensures ∙ c.if-word_at-ne0.false)) c.loop-k.invariant.1 (omega arith))
 
 pub returns : goal.returns
-returns c = nonzero_none _ (alike_to _ _ c.loop-end.invariant.1 (omega arith) (omega arith))
+returns c = nonzero_none _ (alike_to _ _ c.loop-k.invariant.1 (omega arith) (omega arith))

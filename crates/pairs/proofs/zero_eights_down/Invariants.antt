@@ -1,12 +1,8 @@
--- Every word made from the answer on, below `from`, is 0. Loop: those from `end` on, below `from`, are 0, and both slices reach to `end`.
-use Prim.Native.Nat.{◌≤◌}
+-- Loop: the last i eights of words made below `from` are 0.
+use Prim.Native.Nat.{◌-◌, ◌*◌}
 use Rattle.arch.specs.Scans.{Alike}
 use Rattle.pairs.specs.Pairs.{words_by}
-use lib.ListN.{length}
 use Rattle.pairs.proofs.zero_eights_down.Given as goal
 
-abbrev pub invariant-loop-end : goal.invariant-loop-end
-invariant-loop-end l = (l.end ≤ l.from) × (l.end ≤ length l.a) × (l.end ≤ length l.b) × Alike (words_by l.op l.a l.b) 0 l.end l.from
-
-abbrev pub decreases-loop-end : goal.decreases-loop-end
-decreases-loop-end l = l.end
+abbrev pub invariant-loop-i : goal.invariant-loop-i
+invariant-loop-i l = Alike (words_by l.op l.a l.b) 0 (l.from - 8 * l.i) l.from

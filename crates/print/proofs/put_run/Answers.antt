@@ -43,12 +43,6 @@ put_single-p-requires c = (
       (leb-false _ _ (sym c.is_range.ensures ∙ c.if-is_range.false)) _ _ _ c.loop-x.invariant c.loop-x-test.true,
 )
 
-pub overflow_add-x : goal.overflow_add-x
-overflow_add-x c = omega (arith, c.requires.1.limit, c.loop-x-test.true)
-
-pub loop-x-smaller : goal.loop-x-smaller
-loop-x-smaller c = omega (arith, c.loop-x-test.true)
-
 pub loop-x-preserved : goal.loop-x-preserved
 loop-x-preserved c =
     putting_number _ _ _ _ c.requires.1.some _

@@ -1,10 +1,6 @@
 -- A run is put: a range where it is long enough, else each number; the answer is the place after it. Loop: the numbers before `x` are put, up to `p`.
-use Prim.Native.Nat.{◌-◌}
 use Rattle.print.proofs.Pieces.{Putting}
 use Rattle.print.proofs.put_run.Given as goal
 
 abbrev pub invariant-loop-x : goal.invariant-loop-x
-invariant-loop-x l = Putting l.style l.at l.run.low l.run.end l.initial.out l.x l.p l.out
-
-abbrev pub decreases-loop-x : goal.decreases-loop-x
-decreases-loop-x l = l.run.end - l.x
+invariant-loop-x l = Putting l.style l.at l.fn.run.low l.fn.run.end l.initial.out l.x l.p l.out

@@ -62,14 +62,6 @@ overflow_add-p c =
           c.gap_len-in-loop-x.ensures refl,
     )
 
-pub overflow_add-x : goal.overflow_add-x
-overflow_add-x c =
-    omega (
-      arith,
-      counted _ c.requires.0 c.loop-x.x
-          (omega (arith, c.requires.1.limit, c.loop-x-test.true)),
-    )
-
 pub digits-requires : goal.digits-requires
 digits-requires c =
     counted _ c.requires.0 _
@@ -87,9 +79,6 @@ overflow_add-p-in-loop-x c =
           c.requires.1.limit _ _ c.loop-x.invariant
           c.loop-x-test.true _ _ c.gap_len-in-loop-x.ensures (c.digits.ensures ∙ single-length _ _),
     )
-
-pub loop-x-smaller : goal.loop-x-smaller
-loop-x-smaller c = omega (arith, c.loop-x-test.true)
 
 pub loop-x-preserved : goal.loop-x-preserved
 loop-x-preserved c =

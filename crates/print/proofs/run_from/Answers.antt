@@ -6,29 +6,29 @@ use Rattle.storage.proofs.Checks.{passed, reading_stopped}
 use Rattle.print.proofs.Runs.{answer-past, answer-next}
 use Rattle.print.proofs.run_from.Goals as goal
 
-pub returns-in-Stop : goal.returns-in-Stop
-returns-in-Stop c = sym (reading_stopped _ _ _ _ _ (sym c.in-Stop.is ∙ c.check.ensures))
+pub returns-in_default : goal.returns-in_default
+returns-in_default c = sym (reading_stopped _ _ _ _ _ (sym c.in_default.is ∙ c.check.ensures))
 
 pub overflow_mul-end : goal.overflow_mul-end
 overflow_mul-end c =
     let ok : Passed c.args.words.now c.args.b =
-    passed _ _ (sym c.in-Pass.is ∙ c.check.ensures) in
+    passed _ _ (sym c.in-Ok.is ∙ c.check.ensures) in
     omega (arith, ok)
 
 pub returns-then-i-end : goal.returns-then-i-end
 returns-then-i-end c =
     let ok : Passed c.args.words.now c.args.b =
-    passed _ _ (sym c.in-Pass.is ∙ c.check.ensures) in
+    passed _ _ (sym c.in-Ok.is ∙ c.check.ensures) in
     answer-past _ _ _ ok (omega (arith, c.if-i-end.true))
 
 pub next_run-requires : goal.next_run-requires
 next_run-requires c =
     let ok : Passed c.args.words.now c.args.b =
-    passed _ _ (sym c.in-Pass.is ∙ c.check.ensures) in
+    passed _ _ (sym c.in-Ok.is ∙ c.check.ensures) in
     (ok, c.if-i-end.false)
 
 pub returns : goal.returns
 returns c =
     let ok : Passed c.args.words.now c.args.b =
-    passed _ _ (sym c.in-Pass.is ∙ c.check.ensures) in
+    passed _ _ (sym c.in-Ok.is ∙ c.check.ensures) in
     answer-next _ _ _ ok c.if-i-end.false _ c.next_run.ensures

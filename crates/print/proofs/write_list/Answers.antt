@@ -6,22 +6,22 @@ use Rattle.storage.specs.Guards.{Passed}
 use Rattle.storage.proofs.Checks.{passed}
 use Rattle.style.specs.Styles.{allowed}
 use Rattle.style.proofs.Promises.{styles_mean}
-use Rattle.print.proofs.Printing.{prints_stopped, prints_no_style, prints_short, prints_done}
+use Rattle.print.proofs.Printing.{prints_raised, prints_no_style, prints_short, prints_done}
 use Rattle.print.proofs.write_list.Goals as goal
 
-pub returns-in-Stop : goal.returns-in-Stop
-returns-in-Stop c = prints_stopped _ _ _ _ _ (sym c.in-Stop.is ∙ c.check.ensures)
+pub returns-in_err-check : goal.returns-in_err-check
+returns-in_err-check c = prints_raised _ _ _ _ c.from_residual.ensures (sym c.in_err-check.was ∙ c.check.ensures)
 
 pub returns-then-not-is_allowed : goal.returns-then-not-is_allowed
 returns-then-not-is_allowed c =
     let ok : Passed c.args.words.now c.args.b =
-    passed _ _ (sym c.in-Pass.is ∙ c.check.ensures) in
+    passed _ _ (sym c.in_ok-check.was ∙ c.check.ensures) in
     prints_no_style _ _ _ _ ok (sym c.is_allowed.ensures ∙ c.if-not-is_allowed.true)
 
 pub text_len-len-requires : goal.text_len-len-requires
 text_len-len-requires c =
     let ok : Passed c.args.words.now c.args.b =
-    passed _ _ (sym c.in-Pass.is ∙ c.check.ensures) in
+    passed _ _ (sym c.in_ok-check.was ∙ c.check.ensures) in
     let styled : allowed c.args.style ≡ true =
     sym c.is_allowed.ensures ∙ c.if-not-is_allowed.false in
     ((styles_mean _).1 styled, ok)
@@ -29,7 +29,7 @@ text_len-len-requires c =
 pub returns-then-len-out : goal.returns-then-len-out
 returns-then-len-out c =
     let ok : Passed c.args.words.now c.args.b =
-    passed _ _ (sym c.in-Pass.is ∙ c.check.ensures) in
+    passed _ _ (sym c.in_ok-check.was ∙ c.check.ensures) in
     let styled : allowed c.args.style ≡ true =
     sym c.is_allowed.ensures ∙ c.if-not-is_allowed.false in
     prints_short _ _ _ _ ok styled _ c.text_len-len.ensures c.if-len-out.true
@@ -37,7 +37,7 @@ returns-then-len-out c =
 pub print-requires : goal.print-requires
 print-requires c =
     let ok : Passed c.args.words.now c.args.b =
-    passed _ _ (sym c.in-Pass.is ∙ c.check.ensures) in
+    passed _ _ (sym c.in_ok-check.was ∙ c.check.ensures) in
     let styled : allowed c.args.style ≡ true =
     sym c.is_allowed.ensures ∙ c.if-not-is_allowed.false in (
       (styles_mean _).1 styled,
@@ -48,7 +48,7 @@ print-requires c =
 pub returns : goal.returns
 returns c =
     let ok : Passed c.args.words.now c.args.b =
-    passed _ _ (sym c.in-Pass.is ∙ c.check.ensures) in
+    passed _ _ (sym c.in_ok-check.was ∙ c.check.ensures) in
     let styled : allowed c.args.style ≡ true =
     sym c.is_allowed.ensures ∙ c.if-not-is_allowed.false in
     prints_done _ _ _ _ ok styled _

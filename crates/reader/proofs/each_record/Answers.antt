@@ -11,45 +11,45 @@ loop-i-init c =
     begins a.edition a.sheet.now a.n a.words.now a.old c.requires.0
     (λ k. omega (arith, c.slice_known-1.given k)) c.requires.1
 
-pub shape_of-words-then-end-eq0 : goal.shape_of-words-then-end-eq0
-shape_of-words-then-end-eq0 c = c.loop-i.invariant.long
+pub shape_of-words-in_default : goal.shape_of-words-in_default
+shape_of-words-in_default c = c.loop-i.invariant.long
 
-pub returns-then-end-eq0 : goal.returns-then-end-eq0
-returns-then-end-eq0 c =
+pub returns-in_default : goal.returns-in_default
+returns-in_default c =
     let l = c.loop-i in
     let a = c.args in
     came_refused _ _ _ _ _ l.invariant.long
     (cut a.edition a.sheet.now a.n a.words.now a.old l.words l.count l.i l.at l.invariant (omega arith)
-    (told-cut _ _ _ c.record_end-end.ensures (omega arith)))
+    (told-cut _ _ _ c.record_end.ensures c.in_default.is))
 
 pub turn-requires : goal.turn-requires
 turn-requires c =
-    let w = told-whole _ _ _ c.record_end-end.ensures (omega arith) in
+    let w = told-whole _ _ _ _ c.record_end.ensures c.in-Some.is in
     (w.0, w.1, c.loop-i.invariant.padded)
 
-pub shape_of-words-in-Refused : goal.shape_of-words-in-Refused
-shape_of-words-in-Refused c = c.words-1.given ∙ c.loop-i.invariant.long
+pub shape_of-words-in-Err : goal.shape_of-words-in-Err
+shape_of-words-in-Err c = c.words-1.given ∙ c.loop-i.invariant.long
 
-pub returns-in-Refused : goal.returns-in-Refused
-returns-in-Refused c =
+pub returns-in-Err : goal.returns-in-Err
+returns-in-Err c =
     let l = c.loop-i in
     let a = c.args in
-    let w = told-whole _ _ _ c.record_end-end.ensures (omega arith) in
+    let w = told-whole _ _ _ _ c.record_end.ensures c.in-Some.is in
     let t = c.turn in
-    let e = c.in-Refused in
+    let e = c.in-Err in
     came_refused _ _ _ _ _ (c.words-1.given ∙ l.invariant.long)
     (stops a.edition a.sheet.now a.n a.words.now a.old l.words l.count l.i l.at l.invariant (omega arith)
-    c.record_end-end.result w.0 w.1 t.result t.new.words e.why e.field-1 e.is t.ensures)
+    c.in-Some.end w.0 w.1 t.result t.new.words e.field-0 e.is t.ensures)
 
 pub loop-i-preserved : goal.loop-i-preserved
 loop-i-preserved c =
     let l = c.loop-i in
     let a = c.args in
-    let w = told-whole _ _ _ c.record_end-end.ensures (omega arith) in
+    let w = told-whole _ _ _ _ c.record_end.ensures c.in-Some.is in
     let t = c.turn in
-    let e = c.in-Done in
+    let e = c.in-Ok in
     goes_on a.edition a.sheet.now a.n a.words.now a.old l.words l.count l.i l.at l.invariant (omega arith)
-    c.record_end-end.result w.0 w.1 t.result t.new.words e.after e.is t.ensures
+    c.in-Some.end w.0 w.1 t.result t.new.words e.after e.is t.ensures
 
 pub shape_of-words-then-at-sheet : goal.shape_of-words-then-at-sheet
 shape_of-words-then-at-sheet c = c.loop-i.invariant.long

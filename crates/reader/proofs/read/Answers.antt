@@ -13,30 +13,30 @@ returns-then-edition-lt1 c = edition_under _ _ _ _ _ (omega arith)
 pub returns-then-edition-gt-LATEST : goal.returns-then-edition-gt-LATEST
 returns-then-edition-gt-LATEST c = edition-over _ _ _ _ _ (omega arith)
 
-pub returns-in-Stop : goal.returns-in-Stop
-returns-in-Stop c = guard_stopped _ _ _ _ _ (omega arith) (omega arith) _ (sym c.in-Stop.is ∙ c.check_two.ensures)
+pub returns-in-Err : goal.returns-in-Err
+returns-in-Err c = guard_stopped _ _ _ _ _ (omega arith) (omega arith) _ (sym c.in-Err.is ∙ c.check_two.ensures)
 
 pub read_into-requires : goal.read_into-requires
 read_into-requires c =
     let ok : let a = c.args in PassedTwo a.words.now a.b a.res.now no_words =
-    passed_two _ _ _ _ (sym c.in-Pass.is ∙ c.check_two.ensures) in
+    passed_two _ _ _ _ (sym c.in_default.is ∙ c.check_two.ensures) in
     let p = ok in (p.own, p.other)
 
-pub returns-in-Done : goal.returns-in-Done
-returns-in-Done c =
+pub returns-in-Ok : goal.returns-in-Ok
+returns-in-Ok c =
     let ok : let a = c.args in PassedTwo a.words.now a.b a.res.now no_words =
-    passed_two _ _ _ _ (sym c.in-Pass.is ∙ c.check_two.ensures) in
+    passed_two _ _ _ _ (sym c.in_default.is ∙ c.check_two.ensures) in
     let r = c.read_into in
-    let d = c.in-Done in
-    reads_done _ _ _ _ _ (omega arith) (omega arith) ok r.result r.new.res d.n
-    d.after d.is r.ensures
+    let d = c.in-Ok in
+    reads_done _ _ _ _ _ (omega arith) (omega arith) ok r.result r.new.res d.read.0
+    d.read.1 d.is r.ensures
 
-pub returns-in-Refused : goal.returns-in-Refused
-returns-in-Refused c =
+pub returns-in-Err-read_into : goal.returns-in-Err-read_into
+returns-in-Err-read_into c =
     let ok : let a = c.args in PassedTwo a.words.now a.b a.res.now no_words =
-    passed_two _ _ _ _ (sym c.in-Pass.is ∙ c.check_two.ensures) in
+    passed_two _ _ _ _ (sym c.in_default.is ∙ c.check_two.ensures) in
     let r = c.read_into in
-    let d = c.in-Refused in
+    let d = c.in-Err-read_into in
     reads-refused _ _ _ _ _ (omega arith) (omega arith)
     ok r.result r.new.res
-    c.zero_words.new.words d.why d.k d.is r.ensures c.zero_words.ensures
+    c.fill.new.self d.e d.is r.ensures (c.fill.ensures.after (λ y p. p))

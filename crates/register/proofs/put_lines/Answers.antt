@@ -19,12 +19,6 @@ put_next-run-requires c = (
   c.loop-k-test.true,
 )
 
-pub overflow_add-k : goal.overflow_add-k
-overflow_add-k c = omega (arith, c.loop-k-test.true, c.requires.1.room)
-
-pub loop-k-smaller : goal.loop-k-smaller
-loop-k-smaller c = omega (arith, c.loop-k-test.true)
-
 pub loop-k-preserved : goal.loop-k-preserved
 loop-k-preserved c =
     printing-more _ (bounded_view _ _) (small c.requires.0) _ _ _ c.requires.1 _ _ _ c.loop-k.invariant c.loop-k-test.true _ _

@@ -1,11 +1,7 @@
 -- All lines are put. Loop: the first k lines stand in the buffer, and `run` is the next to be printed.
-use Prim.Native.Nat.{◌-◌, ◌*◌}
 use Rattle.storage.specs.Stores.{held}
 use Rattle.register.proofs.Printing.{Printing}
 use Rattle.register.proofs.put_lines.Given as goal
 
 abbrev pub invariant-loop-k : goal.invariant-loop-k
 invariant-loop-k l = Printing (held l.words l.b) l.initial.out l.k l.run l.out
-
-abbrev pub decreases-loop-k : goal.decreases-loop-k
-decreases-loop-k l = 50 * l.pages - l.k

@@ -6,46 +6,46 @@ use Rattle.storage.proofs.Checks.{passed}
 use Rattle.register.specs.Register.{pages_for}
 use Rattle.register.proofs.Next.{runs_fit}
 use Rattle.register.proofs.Rows.{pages_few}
-use Rattle.register.proofs.Printing.{registers_stopped, registers_short, registers_done}
+use Rattle.register.proofs.Printing.{registers_raised, registers_short, registers_done}
 use Rattle.register.proofs.write_register.Goals as goal
 
-pub returns-in-Stop : goal.returns-in-Stop
-returns-in-Stop c = registers_stopped _ _ _ _ (sym c.in-Stop.is ∙ c.check.ensures)
+pub returns-in_err-check : goal.returns-in_err-check
+returns-in_err-check c = registers_raised _ _ _ c.from_residual.ensures (sym c.in_err-check.was ∙ c.check.ensures)
 
 pub count_runs-requires : goal.count_runs-requires
 count_runs-requires c =
     let ok : Passed c.args.words.now c.args.b =
-    passed _ _ (sym c.in-Pass.is ∙ c.check.ensures) in
+    passed _ _ (sym c.in_ok-check.was ∙ c.check.ensures) in
     ok
 
 pub page_count-pages-requires : goal.page_count-pages-requires
 page_count-pages-requires c =
     let ok : Passed c.args.words.now c.args.b =
-    passed _ _ (sym c.in-Pass.is ∙ c.check.ensures) in
+    passed _ _ (sym c.in_ok-check.was ∙ c.check.ensures) in
     omega (arith, c.count_runs.ensures, ok, runs_fit _ _ ok)
 
 pub overflow_mul-len-2 : goal.overflow_mul-len-2
 overflow_mul-len-2 c =
     let ok : Passed c.args.words.now c.args.b =
-    passed _ _ (sym c.in-Pass.is ∙ c.check.ensures) in
+    passed _ _ (sym c.in_ok-check.was ∙ c.check.ensures) in
     omega (arith, c.page_count-pages.ensures, c.count_runs.ensures, pages_few c.count_runs.result, ok, runs_fit _ _ ok)
 
 pub returns-then-len-out : goal.returns-then-len-out
 returns-then-len-out c =
     let ok : Passed c.args.words.now c.args.b =
-    passed _ _ (sym c.in-Pass.is ∙ c.check.ensures) in
+    passed _ _ (sym c.in_ok-check.was ∙ c.check.ensures) in
     registers_short _ _ _ ok _ (c.page_count-pages.ensures ∙ ap pages_for c.count_runs.ensures) c.if-len-out.true
 
 pub count_bits-requires : goal.count_bits-requires
 count_bits-requires c =
     let ok : Passed c.args.words.now c.args.b =
-    passed _ _ (sym c.in-Pass.is ∙ c.check.ensures) in
+    passed _ _ (sym c.in_ok-check.was ∙ c.check.ensures) in
     ok
 
 pub put_lines-requires : goal.put_lines-requires
 put_lines-requires c =
     let ok : Passed c.args.words.now c.args.b =
-    passed _ _ (sym c.in-Pass.is ∙ c.check.ensures) in (
+    passed _ _ (sym c.in_ok-check.was ∙ c.check.ensures) in (
       ok,
       record {
         pages_are = c.page_count-pages.ensures ∙ ap pages_for c.count_runs.ensures;
@@ -57,5 +57,5 @@ put_lines-requires c =
 pub returns : goal.returns
 returns c =
     let ok : Passed c.args.words.now c.args.b =
-    passed _ _ (sym c.in-Pass.is ∙ c.check.ensures) in
+    passed _ _ (sym c.in_ok-check.was ∙ c.check.ensures) in
     registers_done _ _ _ ok _ (c.page_count-pages.ensures ∙ ap pages_for c.count_runs.ensures) _ c.if-len-out.false c.put_lines.ensures

@@ -1,32 +1,26 @@
 -- The guard, then 0 with no member, then 0 with none from `at` on, else the words up to the highest one's, counted from `at`.
-use Rattle.shape.proofs.Splits.{tail_refused, tail_is, tail_none, tail_some}
+use Rattle.shape.proofs.Splits.{tail_raised, tail_is, tail_none, tail_some}
 use Rattle.scans.proofs.Lasts.{last-refused, last-nothing, last-at}
 use native.Mathlib.Omega.{arith}
-use Prim.Native.Nat.{suc}
-use Rattle.storage.specs.Stores.{held}
-use Rattle.storage.specs.Guards.{Passed}
-use Rattle.shapes.specs.Shapes.{top_of}
-use mathlib.Core.Path.{◌≡◌, sym, ◌∙◌}
+use mathlib.Core.Path.{sym, ap, ◌∙◌}
+use Rattle.std.specs.Prelude.{Ok}
 use Rattle.shape.proofs.tail_len.Goals as goal
 
-pub returns-then-p-at : goal.returns-then-p-at
-returns-then-p-at c =
-    let ok : Passed c.args.words.now c.args.b =
-    (last-at _ _ _ (sym c.in-At.is ∙ c.last_set.ensures)).0 in
-    let top : top_of (held c.args.words.now c.args.b) ≡ suc c.in-At.p =
-    (last-at _ _ _ (sym c.in-At.is ∙ c.last_set.ensures)).1 in
-    tail_is _ _ _ _ ok (tail_none _ _ _ top (omega arith))
+pub returns-in_err-p : goal.returns-in_err-p
+returns-in_err-p c = tail_raised _ _ _ c.from_residual.ensures (last-refused _ _ _ (sym c.in_err-p.was ∙ c.last_set.ensures))
 
-pub returns-in-Refused : goal.returns-in-Refused
-returns-in-Refused c = tail_refused _ _ _ _ (last-refused _ _ _ (sym c.in-Refused.is ∙ c.last_set.ensures))
+pub returns-in-Some : goal.returns-in-Some
+returns-in-Some c =
+    let top = last-at _ _ _ (sym (c.in_ok-p.was ∙ ap Ok c.in-Some.is) ∙ c.last_set.ensures) in
+    tail_is _ _ _ _ top.0 (tail_some _ _ _ top.1 (omega arith))
 
-pub returns-in-Nothing : goal.returns-in-Nothing
-returns-in-Nothing c = let q = last-nothing _ _ (sym c.in-Nothing.is ∙ c.last_set.ensures) in tail_is _ _ _ _ q.0 (tail_none _ _ _ q.1 (omega arith))
+pub returns-in_default : goal.returns-in_default
+returns-in_default c =
+    let top = last-at _ _ _ (sym (c.in_ok-p.was ∙ ap Ok c.in-Some.is) ∙ c.last_set.ensures) in
+    tail_is _ _ _ _ top.0 (tail_none _ _ _ top.1 (omega arith))
 
-pub returns-else-p-at : goal.returns-else-p-at
-returns-else-p-at c =
-    let ok : Passed c.args.words.now c.args.b =
-    (last-at _ _ _ (sym c.in-At.is ∙ c.last_set.ensures)).0 in
-    let top : top_of (held c.args.words.now c.args.b) ≡ suc c.in-At.p =
-    (last-at _ _ _ (sym c.in-At.is ∙ c.last_set.ensures)).1 in
-    tail_is _ _ _ _ ok (tail_some _ _ _ top (omega arith))
+pub returns-in_default-2 : goal.returns-in_default-2
+returns-in_default-2 c =
+    let h = c.in_default in
+    let top = last-nothing _ _ (sym (c.in_ok-p.was ∙ ap Ok c.in_default.is) ∙ c.last_set.ensures) in
+    tail_is _ _ _ _ top.0 (tail_none _ _ _ top.1 (omega arith))

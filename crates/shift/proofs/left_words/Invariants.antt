@@ -1,5 +1,5 @@
 -- Bit i goes to i + k: all out, then whole words, then odd bits. Loop: the words above i are the moved ones, up to i they are as they were.
-use Prim.Native.Nat.{◌+◌, ◌≤◌, ◌<◌}
+use Prim.Native.Nat.{◌+◌, ◌≤◌}
 use lib.ListN.{length}
 use Rattle.word.specs.Places.{member, word_of}
 use Rattle.word.proofs.Sweep.{Swept}
@@ -7,7 +7,4 @@ use Rattle.shifts.specs.Shifts.{moved_up}
 use Rattle.shift.proofs.left_words.Given as goal
 
 abbrev pub invariant-loop-i : goal.invariant-loop-i
-invariant-loop-i l = (l.whole ≤ l.i) × (l.i < length l.initial.words) × Swept l.initial.words (word_of (moved_up l.k (member l.initial.words))) (l.i + 1) (length l.initial.words) l.words
-
-abbrev pub decreases-loop-i : goal.decreases-loop-i
-decreases-loop-i l = l.i
+invariant-loop-i l = (l.whole + 1 ≤ l.i) × Swept l.initial.words (word_of (moved_up l.k (member l.initial.words))) l.i (length l.initial.words) l.words

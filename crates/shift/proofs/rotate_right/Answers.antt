@@ -1,32 +1,9 @@
--- The guard, then the bits below the length turn k down within it; the count and the other words stay.
-use mathlib.Core.Path.{refl, sym, ◌∙◌}
-use lib.Seq.{length-take-le}
-use Rattle.storage.specs.Guards.{Passed}
-use Rattle.storage.proofs.Checks.{passed}
-use Rattle.storage.proofs.Stores.{changes_stopped}
+-- The bits below the length turn k down within it.
+use mathlib.Core.Path.{refl}
+use Rattle.std.proofs.Common.{rules}
 use Rattle.shifts.specs.Shifts.{rotating_right, turned_down}
-use Rattle.shift.proofs.Calls.{kept-changes}
 use Rattle.shift.proofs.rotate_right.Goals as goal
-
-pub returns-in-Stop : goal.returns-in-Stop
-returns-in-Stop c = changes_stopped _ _ _ _ (sym c.in-Stop.is ∙ c.check.ensures)
-
-pub slice_bounds-turn_right-end : goal.slice_bounds-turn_right-end
-slice_bounds-turn_right-end c =
-    let ok : Passed c.args.words.now c.args.b =
-    passed _ _ (sym c.in-Pass.is ∙ c.check.ensures) in
-    ok.inside
-
-pub slice_bounds-turn_right-end-2 : goal.slice_bounds-turn_right-end-2
-slice_bounds-turn_right-end-2 c =
-    let ok : Passed c.args.words.now c.args.b =
-    passed _ _ (sym c.in-Pass.is ∙ c.check.ensures) in
-    sym (length-take-le _ _ ok.inside)
 
 pub returns : goal.returns
 unfolding rotating_right
-returns c =
-    let ok : Passed c.args.words.now c.args.b =
-    passed _ _ (sym c.in-Pass.is ∙ c.check.ensures) in
-    kept-changes _ (λ len. turned_down len c.args.k) _ _ _
-    ok refl c.turn_right.ensures
+returns c = c.keep_count.ensures (rotating_right c.args.k) (λ len. turned_down len c.args.k) (λ ws ws' p. search rules) (λ d b. refl)

@@ -12,5 +12,5 @@ pub returns : goal.returns
 returns c =
     turn_left_is c.args.words.now
     c.turn_words.new.words c.turn_up.new.words
-    (λ m. omega (arith, c.slice_known-1.given m)) _ (mod-lt _ (omega arith))
+    (search arith) _ (mod-lt _ (omega arith))
     c.turn_words.ensures _ refl c.turn_up.ensures

@@ -6,4 +6,4 @@ use Rattle.slice.proofs.Stricts.{overlay_is}
 use Rattle.slice.proofs.overlay.Goals as goal
 
 pub returns : goal.returns
-returns c = ap (set c.args.words.now c.args.k) (overlay_is _ _ _ (omega (arith, c.slice_known-1.given c.args.k)) (omega arith) (omega arith))
+returns c = ap (set c.args.words.now c.args.k) (overlay_is _ _ _ (search arith) (omega arith) (omega arith))

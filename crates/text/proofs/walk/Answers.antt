@@ -7,6 +7,7 @@ use native.Mathlib.Omega.{arith}
 use Rattle.text.proofs.Tokens.{Inside, inside_start, inside_go, inside_stop, Ended, ended-left, ended-comma, going_start, stops, none_at, empty_first, empty_inner, empty-last}
 use Rattle.text.proofs.Tokens.{range_last, range-more, range_less, going_length, more-length}
 use Rattle.text.proofs.walk.Goals.{else-digits-test, then-digits-test+in-Ends}
+use Rattle.std.specs.Prelude.{Ok}
 use Rattle.text.proofs.walk.Goals as goal
 
 pub tokens-init : goal.tokens-init
@@ -23,7 +24,7 @@ digits-preserved c = (
 )
 
 pub overflow_add-b : goal.overflow_add-b
-overflow_add-b c = omega (arith, token_limit _ _ _ _ (sym c.token_of.ensures ∙ c.in-Range.is))
+overflow_add-b c = omega (arith, token_limit _ _ _ _ (sym c.token_of.ensures ∙ (c.in-Ok-Some.is ∙ ap Ok c.in-Ok-Some.field-0-is)))
 
 pub shape_of-words-then-not-more : goal.shape_of-words-then-not-more
 shape_of-words-then-not-more c = going_length _ _ _ _ _ _ _ _ c.tokens.invariant.1
@@ -38,7 +39,7 @@ returns-then-not-more c =
           ended-comma _ _ _ _ _ _ _ c.digits.invariant.0 w.digits-test.true w.kind_of.ensures w.step_by-s.ensures (ap step_of w.in-Ends.is) _ _ w.at-is w.more-is
     ] in
     empty-last _ _ _ _ _ _ _ _ c.tokens.invariant.1 _ _ _ e _
-    c.token_of.ensures c.in-Empty.is c.if-any.true c.if-not-more.true
+    c.token_of.ensures (c.in-Ok-None.is ∙ ap Ok c.in-Ok-None.field-0-is) c.if-any.true c.if-not-more.true
 
 pub shape_of-words-then-not-more-2 : goal.shape_of-words-then-not-more-2
 shape_of-words-then-not-more-2 c =
@@ -51,7 +52,7 @@ shape_of-words-then-not-more-2 c =
     ] in
     more-length _ _ _ _ _ _ _ _ c.tokens.invariant.1 _ _ _
     e _
-    c.token_of.ensures _ _ c.in-Range.is _
+    c.token_of.ensures _ _ (c.in-Ok-Some.is ∙ ap Ok c.in-Ok-Some.field-0-is) _
     c.fill_region.ensures _ c.max-top.ensures
 
 pub returns-then-not-more-2 : goal.returns-then-not-more-2
@@ -65,7 +66,7 @@ returns-then-not-more-2 c =
     ] in
     range_last _ _ _ _ _ _ _ _ c.tokens.invariant.1 _ _ _
     e _
-    c.token_of.ensures _ _ c.in-Range.is _
+    c.token_of.ensures _ _ (c.in-Ok-Some.is ∙ ap Ok c.in-Ok-Some.field-0-is) _
     c.fill_region.ensures _ c.max-top.ensures c.if-not-more-2.true
 
 pub tokens-smaller : goal.tokens-smaller
@@ -79,7 +80,7 @@ tokens-smaller c =
     ] in
     range_less _ _ _ _ _ _ _ _ c.tokens.invariant.1 _ _ _
     e _
-    c.token_of.ensures _ _ c.in-Range.is _
+    c.token_of.ensures _ _ (c.in-Ok-Some.is ∙ ap Ok c.in-Ok-Some.field-0-is) _
     c.fill_region.ensures _ c.max-top.ensures c.if-not-more-2.false
 
 pub tokens-preserved : goal.tokens-preserved
@@ -94,7 +95,7 @@ tokens-preserved c =
       _,
       range-more _ _ _ _ _ _ _ _ c.tokens.invariant.1 _ _ _
           e _
-          c.token_of.ensures _ _ c.in-Range.is _
+          c.token_of.ensures _ _ (c.in-Ok-Some.is ∙ ap Ok c.in-Ok-Some.field-0-is) _
           c.fill_region.ensures _ c.max-top.ensures c.if-not-more-2.false,
     )
 
@@ -120,7 +121,7 @@ returns-else-not-more c =
           ended-comma _ _ _ _ _ _ _ c.digits.invariant.0 w.digits-test.true w.kind_of.ensures w.step_by-s.ensures (ap step_of w.in-Ends.is) _ _ w.at-is w.more-is
     ] in
     empty_inner _ _ _ _ _ _ _ _ c.tokens.invariant.1 _ _ _ e _
-    c.token_of.ensures c.in-Empty.is c.if-not-more.false
+    c.token_of.ensures (c.in-Ok-None.is ∙ ap Ok c.in-Ok-None.field-0-is) c.if-not-more.false
 
 pub shape_of-words-else-any : goal.shape_of-words-else-any
 shape_of-words-else-any c = going_length _ _ _ _ _ _ _ _ c.tokens.invariant.1
@@ -135,13 +136,13 @@ returns-else-any c =
           ended-comma _ _ _ _ _ _ _ c.digits.invariant.0 w.digits-test.true w.kind_of.ensures w.step_by-s.ensures (ap step_of w.in-Ends.is) _ _ w.at-is w.more-is
     ] in
     empty_first _ _ _ _ _ _ _ _ c.tokens.invariant.1 _ _ _ e _
-    c.token_of.ensures c.in-Empty.is c.if-any.false
+    c.token_of.ensures (c.in-Ok-None.is ∙ ap Ok c.in-Ok-None.field-0-is) c.if-any.false
 
-pub shape_of-words-in-NoRange : goal.shape_of-words-in-NoRange
-shape_of-words-in-NoRange c = going_length _ _ _ _ _ _ _ _ c.tokens.invariant.1
+pub shape_of-words-in-Err : goal.shape_of-words-in-Err
+shape_of-words-in-Err c = going_length _ _ _ _ _ _ _ _ c.tokens.invariant.1
 
-pub returns-in-NoRange : goal.returns-in-NoRange
-returns-in-NoRange c =
+pub returns-in-Err : goal.returns-in-Err
+returns-in-Err c =
     -- how the inner loop was left
     let e : Ended c.args.style c.args.text.now c.tokens.at (part_of c.digits.part) c.digits-test.at c.digits-test.more =
     elim c.digits-test.branch [
@@ -150,4 +151,4 @@ returns-in-NoRange c =
           ended-comma _ _ _ _ _ _ _ c.digits.invariant.0 w.digits-test.true w.kind_of.ensures w.step_by-s.ensures (ap step_of w.in-Ends.is) _ _ w.at-is w.more-is
     ] in
     none_at _ _ _ _ _ _ _ _ c.tokens.invariant.1 _ _ _ e _
-    c.token_of.ensures _ c.in-NoRange.is
+    c.token_of.ensures _ c.in-Err.is

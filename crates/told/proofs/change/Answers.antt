@@ -4,15 +4,15 @@ use borrow.Author.Rules.{rules}
 use Rattle.told.specs.Tellings.{change_told}
 use Rattle.told.proofs.change.Goals as goal
 
-pub returns-in-Done : goal.returns-in-Done
-returns-in-Done c = record { number = search rules; tag = search rules; value = search rules; also = search rules }
+pub returns-in-Ok : goal.returns-in-Ok
+returns-in-Ok c = record { number = search rules; tag = search rules; value = search rules; also = search rules }
 
-pub returns-in-Refused : goal.returns-in-Refused
-returns-in-Refused c =
-    let is = sym c.in-Refused.is in
+pub returns-in-Err : goal.returns-in-Err
+returns-in-Err c =
+    let is = sym c.in-Err.is in
     record {
-      number = c.four-in-Refused.ensures.number ∙ c.number.ensures ∙ ap (λ x. (change_told x).number) is;
-      tag = c.four-in-Refused.ensures.tag ∙ ap (λ x. (change_told x).tag) is;
-      value = c.four-in-Refused.ensures.value ∙ ap (λ x. (change_told x).value) is;
-      also = c.four-in-Refused.ensures.also ∙ ap (λ x. (change_told x).also) is;
+      number = c.four-in-Err.ensures.number ∙ c.number.ensures ∙ ap (λ x. (change_told x).number) is;
+      tag = c.four-in-Err.ensures.tag ∙ ap (λ x. (change_told x).tag) is;
+      value = c.four-in-Err.ensures.value ∙ ap (λ x. (change_told x).value) is;
+      also = c.four-in-Err.ensures.also ∙ ap (λ x. (change_told x).also) is;
     }

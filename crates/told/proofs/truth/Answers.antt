@@ -3,5 +3,5 @@ use Rattle.told.specs.Tellings.{truth_told}
 use Rattle.told.proofs.Tellings.{told_of}
 use Rattle.told.proofs.truth.Goals as goal
 
-pub returns-in-Refused : goal.returns-in-Refused
-returns-in-Refused c = told_of truth_told c.refused.ensures c.in-Refused.is
+pub returns-in-Err : goal.returns-in-Err
+returns-in-Err c = told_of truth_told c.refused.ensures c.in-Err.is

@@ -1,12 +1,8 @@
 -- The first e words become the operation's of both slices. Loop: below k they are, from k on they are as they were.
-use Prim.Native.Nat.{◌-◌, ◌≤◌}
 use lib.ListN.{get_or}
 use Rattle.word.proofs.Sweep.{Swept}
 use Rattle.pairs.specs.Pairs.{words_by}
 use Rattle.combine.proofs.kernels.zip_words.Given as goal
 
 abbrev pub invariant-loop-k : goal.invariant-loop-k
-invariant-loop-k l = (l.k ≤ l.e) × Swept l.initial.words (λ i. get_or (words_by l.op l.left l.right) i 0) 0 l.k l.words
-
-abbrev pub decreases-loop-k : goal.decreases-loop-k
-decreases-loop-k l = l.e - l.k
+invariant-loop-k l = Swept l.initial.words (λ i. get_or (words_by l.op l.left l.right) i 0) 0 l.k l.words

@@ -1,9 +1,8 @@
 -- The least member from i on, or nothing, for every i with none up to word `from`. Loop: the words made from `from` on, below k, are 0.
-use mathlib.Core.Path.{sym, ◌∙◌}
 use Prim.Native.Nat.{◌+◌}
 use native.Mathlib.Omega.{arith}
 use lib.ListN.{length}
-use Rattle.arch.proofs.Scans.{alike_join, alike_one}
+use Rattle.arch.proofs.Scans.{alike_join}
 use Rattle.pairs.specs.Pairs.{words_by}
 use Rattle.pairs.proofs.Tables.{by_fit, end-le}
 use Rattle.pairs.proofs.Scans.{past_end, eights_zero}
@@ -12,11 +11,6 @@ use Rattle.walk.proofs.kernels.far.Goals as goal
 
 pub loop-k-init : goal.loop-k-init
 loop-k-init c = eights_zero _ _ _ _ c.zero_eights-k.ensures
-
-pub overflow_mul-result : goal.overflow_mul-result
-overflow_mul-result c =
-    let g = c.args in
-    omega (arith, c.end_of-end.ensures, end-le g.op (length g.a.now) (length g.b.now))
 
 pub overflow_add-result : goal.overflow_add-result
 overflow_add-result c =
@@ -28,9 +22,6 @@ returns-then-w-ne0 c =
     λ i h.
     let l = c.loop-k.invariant in
     next_later _ (by_fit _ _ _) (clear_on _ (by_fit _ _ _) h l.0 l.1) c.word_at-w.ensures c.if-w-ne0.true c.trailing_zeros.ensures
-
-pub loop-k-preserved : goal.loop-k-preserved
-loop-k-preserved c = (omega arith, alike_join c.loop-k.invariant.1 (alike_one _ _ _ (sym c.word_at-w.ensures ∙ c.if-w-ne0.false)) (omega arith))
 
 pub returns : goal.returns
 returns c =

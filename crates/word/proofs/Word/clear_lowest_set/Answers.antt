@@ -4,4 +4,4 @@ use Rattle.word.proofs.Words.{clear_lowest}
 use Rattle.word.proofs.Word.clear_lowest_set.Goals as goal
 
 pub returns : goal.returns
-returns c = clear_lowest 64 _ _ (omega arith) (omega arith) c.wrapping_sub_u64.ensures.value
+returns c = clear_lowest 64 _ _ (omega arith) (omega arith) (omega arith)
