@@ -1,6 +1,8 @@
 // Set algebra between two bitmaps that builds no result: tests and counts. The shorter bitmap reads as zero past its words.
 //
 // Every call refuses for the first store and then for the second, and changes nothing. Each kernel takes the words in use of the two bitmaps.
+//
+// The calls differ in the operation alone: C calls each by its own name.
 #![tactic(auto)]
 
 ghost use Rattle.std.specs.Prelude.{◌≡◌};

@@ -47,7 +47,7 @@ pub fn amount(a: Result<usize, Refusal>, value: &mut usize) -> u32
     hand(told::amount(a), value)
 }
 
-// A field's bits.
+// A field's bits, which go out as another type than a number does: C's parameter is a `uint64_t`.
 pub fn field(a: Result<u64, Refusal>, value: &mut u64) -> u32
     ensures { AmountOut a result value.new }
 {

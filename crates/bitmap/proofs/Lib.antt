@@ -3,4 +3,3 @@ pub mod Tidies
 pub mod Many
 pub mod Regions
 pub mod Fields
-pub mod Grows

@@ -1,18 +1,10 @@
 -- What the private functions of this crate make of words.
-use Rattle.std.specs.Prelude.{ℕ, suc, ◌+◌, ◌*◌, ◌/◌, ◌%◌, ◌^◌, ◌≤◌, ◌<◌, max, ◌≡◌, not, ◌&&◌, ◌||◌, List, length, get_or, take, eqb, Ok, Err}
+use Rattle.std.specs.Prelude.{ℕ, suc, ◌+◌, ◌*◌, ◌/◌, ◌%◌, ◌^◌, ◌≤◌, ◌<◌, ◌≡◌, not, ◌&&◌, ◌||◌, List, length, get_or, take, eqb}
 use Rattle.word.specs.Sets.{choose}
 use Rattle.word.specs.Places.{bit}
 use Rattle.arch.specs.Scans.{nonzero_len}
-use Rattle.storage.specs.Refusals.{Change}
-use Rattle.storage.specs.Stores.{Bits, done, Op, zeroed}
-use Rattle.storage.specs.declared.Bitmap.{Bitmap}
-use Rattle.storage.specs.declared.Refusal.TheVariants.{NoSpace}
+use Rattle.storage.specs.Stores.{Bits, done, Op}
 use Rattle.bitmaps.specs.Bitmaps.{is_listed, reach_of, tidied}
-
--- room for `need` words in the store ws, in which the bitmap was b: the words that come into use are 0 and counted, or 6 where there are fewer
-abbrev pub Grows : List ℕ → Bitmap → ℕ → Change → List ℕ → Type 0
-Grows ws b need (Ok grown) ws' = (need ≤ length ws) × (ws' ≡ zeroed b.count need ws) × (grown.count ≡ max b.count need)
-Grows ws b need (Err e) ws' = (length ws < need) × (ws' ≡ ws) × (e ≡ (NoSpace, b))
 
 -- the listed bits are set, and words that have none are as they were
 pub record SetsListed (ws is ws' : List ℕ) : Type 0 where

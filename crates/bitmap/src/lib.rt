@@ -5,7 +5,7 @@ ghost use Rattle.std.specs.Prelude.{◌≡◌, ◌≤◌, ◌<◌, length};
 ghost use Rattle.storage.specs.Stores.{Changes};
 ghost use Rattle.bitmaps.specs.Bitmaps.{trimming, setting, unsetting, setting_many, setting_region};
 ghost use Rattle.bitmaps.specs.Bitmaps.{setting_field, keeping_bit, dropping_bit, flipping_bit, reach_of};
-ghost use Rattle.bitmap.specs.Kernels.{Grows, SetsListed, tidy_count, masking};
+ghost use Rattle.bitmap.specs.Kernels.{SetsListed, tidy_count, masking};
 
 use storage::{Bitmap, Refusal, Refused};
 use word::Word;
@@ -22,27 +22,13 @@ pub fn trim(words: &[u64], b: Bitmap) -> Result<Bitmap, Refused>
     })
 }
 
-// Room for `need` words: those that come into use are zeroed, and the record counts them. 6 where the store has fewer.
-fn grow(words: &mut [u64], b: Bitmap, need: usize) -> Result<Bitmap, Refused>
-    ensures { Grows words.old b need result words.new }
-{
-    if need > words.len() {
-        return Err(Refused(Refusal::NoSpace, b));
-    }
-    storage::zero_words(words, b.count, need);
-    Ok(Bitmap {
-        count: b.count.max(need),
-        ..b
-    })
-}
-
 // Sets bit i; grows to its word.
 pub fn set(words: &mut [u64], b: Bitmap, i: usize) -> Result<Bitmap, Refused>
     ensures { Changes (setting i) words.old b result words.new }
 {
     storage::check(words, b)?;
     let k = i / 64;
-    let grown = grow(words, b, k + 1)?;
+    let grown = storage::grow(words, b, k + 1)?;
     words[k] |= Word::bit(i);
     Ok(grown)
 }
@@ -83,7 +69,7 @@ pub fn set_many(words: &mut [u64], b: Bitmap, bits: &[usize]) -> Result<Bitmap, 
     ensures { Changes (setting_many bits.now) words.old b result words.new }
 {
     storage::check(words, b)?;
-    let grown = grow(words, b, reach(bits))?;
+    let grown = storage::grow(words, b, reach(bits))?;
     set_listed(words, bits);
     Ok(grown)
 }
@@ -104,15 +90,14 @@ pub fn set_region(
     if k == 0 {
         return Ok(b);
     }
-    if k - 1 > usize::MAX - i {
+    let Some(last) = i.checked_add(k - 1) else {
         return Err(Refused(Refusal::IndexOver, b));
-    }
-    let last = i + (k - 1);
+    };
     if !value {
         arch::fill_region(&mut words[..n], i, last.min(64 * n) + 1, false);
         return Ok(b);
     }
-    let grown = grow(words, b, last / 64 + 1)?;
+    let grown = storage::grow(words, b, last / 64 + 1)?;
     arch::fill_region(words, i, last + 1, true);
     Ok(grown)
 }
@@ -136,11 +121,10 @@ pub fn set_field(
     if value & Word::low_mask(width) == 0 {
         return set_region(words, b, i, false, width);
     }
-    if width - 1 > usize::MAX - i {
+    let Some(last) = i.checked_add(width - 1) else {
         return Err(Refused(Refusal::IndexOver, b));
-    }
-    let last = i + (width - 1);
-    let grown = grow(words, b, last / 64 + 1)?;
+    };
+    let grown = storage::grow(words, b, last / 64 + 1)?;
     slice::set_field_strict(words, grown, i, value, width)
 }
 
@@ -195,7 +179,7 @@ pub fn xori(words: &mut [u64], b: Bitmap, i: usize) -> Result<Bitmap, Refused>
 {
     storage::check(words, b)?;
     let k = i / 64;
-    let grown = grow(words, b, k + 1)?;
+    let grown = storage::grow(words, b, k + 1)?;
     words[k] ^= Word::bit(i);
     Ok(Bitmap {
         count: tidy(words, grown.count, k),

@@ -34,7 +34,7 @@ pub fn invert_words(words: &mut [u64])
     }
 }
 
-// Flips every bit below the length.
+// Flips every bit below the length. `reverse` differs in two lines: a function of both needs a longer contract than they have, as `keep_count` of shift.
 pub fn invert(words: &mut [u64], b: Bitmap) -> Result<Bitmap, Refused>
     ensures { Changes inverting words.old b result words.new }
 {
@@ -49,6 +49,7 @@ pub fn reverse_words(words: &mut [u64])
     ensures { words.new ≡ words_of (λ i. member words.old (64 * length words.old - suc i)) (length words.old) }
 {
     let n = words.len();
+    // By index, as a step writes two words: the words in reverse order and then each word reversed would be two passes.
     for lo in 0..n.div_ceil(2) {
         let hi = n - 1 - lo;
         let low = Word::reverse_bits(words[lo]);
@@ -162,6 +163,7 @@ fn skip_words(words: &[u64], r: usize) -> Option<Skip>
 {
     let from = skip_eights(words, r);
     let mut left = from.left;
+    // By index, as that is what is answered: an enumerated rest of the words counts from `from.at` on.
     for at in from.at..words.len() {
         let c = Word::count_ones(words[at]);
         if left < c {

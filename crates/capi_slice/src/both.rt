@@ -7,7 +7,7 @@ ghost use Rattle.algebra.specs.Algebra.{empty_of, count_of};
 ghost use Rattle.walk.specs.Walks.{walk_of};
 ghost use Rattle.answers.specs.Answers.{FoundOut, AmountOut, TruthOut};
 
-use storage::{Bitmap, EMPTY, Refused};
+use storage::{Bitmap, EMPTY};
 
 // Whether both hold the same set.
 #[unsafe(no_mangle)]

@@ -6,7 +6,7 @@ ghost use Rattle.scans.specs.Searches.{last_set, next_clear};
 ghost use Rattle.bitwise.specs.Bitwise.{clear_size, count_region, rank_of, selected};
 ghost use Rattle.answers.specs.Answers.{FoundOut, AmountOut, TruthOut};
 
-use storage::{Bitmap, EMPTY, Refused};
+use storage::{Bitmap, EMPTY};
 
 // Whether bit i is set; it is not past the length.
 #[unsafe(no_mangle)]

@@ -11,9 +11,8 @@ pub(crate) fn zip_words(op: SetOp, words: &mut [u64], left: &[u64], right: &[u64
     requires { (e ≤ length words.old) × (e ≤ length left.now) × (e ≤ length right.now) }
     ensures { Put (λ k. get_or (words_by op left.now right.now) k 0) 0 e words.old words.new }
 {
-    // A `zip` of `iter_mut` tells the proof nothing of the words that it leaves.
-    for k in 0..e {
-        words[k] = op.word(left[k], right[k]);
+    for (k, word) in words[..e].iter_mut().enumerate() {
+        *word = op.word(left[k], right[k]);
     }
 }
 

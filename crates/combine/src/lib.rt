@@ -1,6 +1,8 @@
 // Set operations of two bitmaps into another store. What that store held before is discarded.
 //
 // Every call refuses for the store that is written, then for the two that are read. The words of the result are counted before one is written.
+//
+// The calls differ in the operation alone: C calls each by its own name.
 #![tactic(auto)]
 
 mod kernels;

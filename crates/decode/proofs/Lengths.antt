@@ -23,9 +23,6 @@ use Rattle.std.specs.Prelude.{Err, Some, None}
 pub of_kind : (kind j n : ℕ) → payload_length j ≡ n → kind ≡ j → payload_length kind ≡ n
 of_kind kind j n e k = ap payload_length k ∙ e
 
-pub as_kind : (kind j : ℕ) (l : List ℕ) (r : Asked) → kind ≡ j → r ≡ asks (rule_of j l) → r ≡ asks (rule_of kind l)
-as_kind kind j l r k h = h ∙ ap (λ (k : ℕ). asks (rule_of k l)) (sym k)
-
 pub of_place : (kind : ℕ) → 1 ≤ kind → kind ≤ 2 → payload_length kind ≡ 4
 unfolding payload_length
 of_place kind a b = by_lt kind 2 (λ l. of_kind kind 1 4 refl (omega arith)) (λ l. of_kind kind 2 4 refl (omega arith))

@@ -41,7 +41,7 @@ is_edit k l e q = ap asks (sym q)
 no_edit : (k : ℕ) (l : List ℕ) → rule_of k l ≡ none → Err BadPayload ≡ asks (rule_of k l)
 no_edit k l q = ap asks (sym q)
 
-by_kind : (kind k : ℕ) (l : List ℕ) (a : Asked) → kind ≡ k → a ≡ asks (rule_of k l) → a ≡ asks (rule_of kind l)
+pub by_kind : (kind k : ℕ) (l : List ℕ) (a : Asked) → kind ≡ k → a ≡ asks (rule_of k l) → a ≡ asks (rule_of kind l)
 by_kind kind k l a e q = q ∙ ap (λ (k : ℕ). asks (rule_of k l)) (sym e)
 
 -- a flag is 1 from m on

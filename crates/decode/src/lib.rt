@@ -7,10 +7,10 @@ ghost use Rattle.std.specs.Prelude.{◌≡◌, ◌^◌, ◌≤◌, ◌<◌, leng
 ghost use Rattle.sheet.specs.Bytes.{number};
 ghost use Rattle.sheet.specs.Kinds.{rule_of};
 ghost use Rattle.decode.specs.Asks.{asked_for};
-ghost use Rattle.decode.specs.Kernels.{payload_length, asks};
+ghost use Rattle.decode.specs.Kernels.{payload_length, asks, Turned, Paired};
 
 use sheet::{AT_1, AT_7, AT_25, AT_32, AT_39, AT_63, Edit};
-use storage::{Refusal, Refused};
+use storage::Refusal;
 
 // The number whose bytes are given, the most significant first.
 fn number_of(bytes: &[u8]) -> usize
@@ -22,18 +22,6 @@ fn number_of(bytes: &[u8]) -> usize
         x = x * 256 + byte as usize;
     }
     x
-}
-
-// Kinds 1 and 2: p.
-fn place(kind: usize, payload: &[u8]) -> Result<Edit, Refusal>
-    requires { (length payload.now ≡ 4) × (1 ≤ kind) × (kind ≤ 2) }
-    ensures { result ≡ asks (rule_of kind payload.now) }
-{
-    let p = number_of(payload);
-    if kind == 1 {
-        return Ok(Edit::Set(p));
-    }
-    Ok(Edit::Unset(p))
 }
 
 // Kind 3: the value, p and k, then 7 unused bits.
@@ -70,20 +58,15 @@ fn field(payload: &[u8]) -> Result<Edit, Refusal>
 }
 
 // Kinds 5 and 6: the direction and k, then 7 unused bits.
-fn turn(kind: usize, payload: &[u8]) -> Result<Edit, Refusal>
-    requires { (length payload.now ≡ 5) × (5 ≤ kind) × (kind ≤ 6) }
-    ensures { result ≡ asks (rule_of kind payload.now) }
+fn turn(payload: &[u8]) -> Result<(bool, usize), Refusal>
+    requires { length payload.now ≡ 5 }
+    ensures { Turned payload.now result }
 {
     let x = number_of(payload);
     if x % AT_7 != 0 {
         return Err(Refusal::BadPayload);
     }
-    let right = x >= AT_39;
-    let k = x / AT_7 % AT_32;
-    if kind == 5 {
-        return Ok(Edit::Shift(right, k));
-    }
-    Ok(Edit::Rotate(right, k))
+    Ok((x >= AT_39, x / AT_7 % AT_32))
 }
 
 // Kind 7: 33 bits, then 7 unused bits.
@@ -102,46 +85,47 @@ fn size(payload: &[u8]) -> Result<Edit, Refusal>
 }
 
 // Kinds 9, 10 and 11: p and k.
-fn pair(kind: usize, payload: &[u8]) -> Result<Edit, Refusal>
-    requires { (length payload.now ≡ 8) × (9 ≤ kind) × (kind ≤ 11) }
-    ensures { result ≡ asks (rule_of kind payload.now) }
+fn pair(payload: &[u8]) -> (usize, usize)
+    requires { length payload.now ≡ 8 }
+    ensures { Paired payload.now result }
 {
     let x = number_of(payload);
-    let p = x / AT_32;
-    let k = x % AT_32;
-    if kind == 9 {
-        return Ok(Edit::ToggleRegion(p, k));
-    }
-    if kind == 10 {
-        return Ok(Edit::Open(p, k));
-    }
-    Ok(Edit::Close(p, k))
+    (x / AT_32, x % AT_32)
 }
 
-// A payload of its kind's length.
+// A payload of its kind's length. A kind is the number that stands in the sheet; it is told apart here alone.
 fn decode(kind: usize, payload: &[u8]) -> Result<Edit, Refusal>
     requires { (length payload.now ≡ payload_length kind) × (1 ≤ kind) × (kind ≤ 11) }
     ensures { result ≡ asks (rule_of kind payload.now) }
 {
-    if kind <= 2 {
-        return place(kind, payload);
+    match kind {
+        1 => Ok(Edit::Set(number_of(payload))),
+        2 => Ok(Edit::Unset(number_of(payload))),
+        3 => region(payload),
+        4 => field(payload),
+        5 => {
+            let (right, k) = turn(payload)?;
+            Ok(Edit::Shift(right, k))
+        }
+        6 => {
+            let (right, k) = turn(payload)?;
+            Ok(Edit::Rotate(right, k))
+        }
+        7 => size(payload),
+        8 => Ok(Edit::Reverse),
+        9 => {
+            let (p, k) = pair(payload);
+            Ok(Edit::ToggleRegion(p, k))
+        }
+        10 => {
+            let (p, k) = pair(payload);
+            Ok(Edit::Open(p, k))
+        }
+        _ => {
+            let (p, k) = pair(payload);
+            Ok(Edit::Close(p, k))
+        }
     }
-    if kind == 3 {
-        return region(payload);
-    }
-    if kind == 4 {
-        return field(payload);
-    }
-    if kind <= 6 {
-        return turn(kind, payload);
-    }
-    if kind == 7 {
-        return size(payload);
-    }
-    if kind == 8 {
-        return Ok(Edit::Reverse);
-    }
-    pair(kind, payload)
 }
 
 // What a duty record of a kind asks for in an edition: 13 where the edition does not have the kind, 12 where the payload is bad.

@@ -1,23 +1,17 @@
 -- The head of a sheet.
 use Prim.Native.Nat.{ℕ, ◌≤◌, ◌<◌}
-use mathlib.Core.Path.{◌≡◌, sym, ap, ap₂, ◌∙◌}
+use mathlib.Core.Path.{◌≡◌, sym, ap, ◌∙◌}
 use mathlib.Core.Bool.{Bool, true, false, not, ◌&&◌, false≢true}
 use mathlib.Core.List.{List}
 use lib.ListN.{length, get_or}
 use Rattle.word.proofs.Cases.{by_lt}
 use lib.Dec.{eqb}
-use borrow.Author.Tests.{le-leb, lt-leb, eq-eqb, ne_eqb}
+use borrow.Author.Tests.{lt-leb}
 use Rattle.editions.specs.Frames.{headed}
 
 module _ (s : List ℕ) where
   pub head_short : length s < 4 → false ≡ headed s
   head_short h = sym (ap (λ (t : Bool). t && (eqb (get_or s 0 0) 78 && eqb (get_or s 1 0) 83)) (lt-leb 4 (length s) h))
-
-  pub head_first : 4 ≤ length s → (get_or s 0 0 ≡ 78 → ⊥) → false ≡ headed s
-  head_first h n = sym (ap₂ (λ (t u : Bool). t && (u && eqb (get_or s 1 0) 83)) (le-leb 4 (length s) h) (ne_eqb (get_or s 0 0) 78 n))
-
-  pub head_second : 4 ≤ length s → get_or s 0 0 ≡ 78 → eqb (get_or s 1 0) 83 ≡ headed s
-  head_second h e = sym (ap₂ (λ (t u : Bool). t && (u && eqb (get_or s 1 0) 83)) (le-leb 4 (length s) h) (eq-eqb (get_or s 0 0) 78 e))
 
   pub head_long : headed s ≡ true → 4 ≤ length s
   head_long e = by_lt (length s) 4 (λ h. absurd (false≢true (head_short h ∙ e))) (λ h. h)

@@ -11,24 +11,14 @@ use storage::Refusal;
 fn byte_at(bytes: &[u8], at: usize) -> usize
     ensures { (result ≡ get_or bytes.now at 0) × (result < 256) }
 {
-    if at < bytes.len() {
-        return bytes[at] as usize;
-    }
-    0
+    bytes.get(at).map_or(0, |&byte| usize::from(byte))
 }
 
 // Whether there are four bytes, the letters first.
 pub fn has_head(sheet: &[u8]) -> bool
     ensures { result ≡ headed sheet.now }
 {
-    if sheet.len() < 4 {
-        return false;
-    }
-    let letters = sheet::LETTERS;
-    if sheet[0] != letters[0] {
-        return false;
-    }
-    sheet[1] == letters[1]
+    sheet.len() >= 4 && sheet.starts_with(&sheet::LETTERS)
 }
 
 // The record count R.

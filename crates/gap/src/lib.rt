@@ -27,8 +27,8 @@ fn open_words(words: &mut [u64], p: usize, k: usize)
     words[a] = (words[a] & !mask) | (low & mask);
 }
 
-// The bits from p + k on go k down; those from p on, below p + k, are lost. `open_words` has to clear the low bits before they move up, so that one
-// function of both would clear them for nothing here.
+// The bits from p + k on go k down; those from p on, below p + k, are lost. Not one function with `open_words`, handed the shift: its contract would have
+// to say what the shift does.
 fn close_words(words: &mut [u64], p: usize, k: usize)
     ensures { words.new ≡ words_of (gap_closed p k (member words.old)) (length words.old) }
 {
@@ -46,29 +46,21 @@ fn close_words(words: &mut [u64], p: usize, k: usize)
 pub fn open_gap(words: &mut [u64], b: Bitmap, p: usize, k: usize) -> Result<Bitmap, Refused>
     ensures { Changes (opening p k) words.old b result words.new }
 {
-    let n = b.count;
-    let last = match scans::last_set(words, b) {
-        Err(why) => return Err(Refused(why, b)),
-        Ok(last) => last,
-    };
-    let top = match last {
+    let top = match scans::last_set(words, b).map_err(|why| Refused(why, b))? {
         Some(i) if i >= p => i,
         _ => return bitmap::trim(words, b),
     };
     let Some(end) = top.checked_add(k) else {
         return Err(Refused(Refusal::IndexOver, b));
     };
-    let w = end / 64;
-    if w >= words.len() {
-        return Err(Refused(Refusal::NoSpace, b));
-    }
-    storage::zero_words(words, n, w + 1);
-    let m = n.max(w + 1);
+    let need = end / 64 + 1;
+    let m = storage::grow(words, b, need)?.count;
     open_words(&mut words[..m], p, k);
-    Ok(Bitmap { count: w + 1, ..b })
+    Ok(Bitmap { count: need, ..b })
 }
 
-// Closes k places at p: bits from p on, below p + k, go, and those behind them go k down. Drops trailing zero words.
+// Closes k places at p: bits from p on, below p + k, go, and those behind them go k down. Drops trailing zero words, as `shift_right` of shape does: with
+// the kernel handed in, either would say no less.
 pub fn close_gap(words: &mut [u64], b: Bitmap, p: usize, k: usize) -> Result<Bitmap, Refused>
     ensures { Changes (closing p k) words.old b result words.new }
 {

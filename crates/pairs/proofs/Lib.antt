@@ -1,3 +1,4 @@
 pub mod Tables
 pub mod Scans
+pub mod Fronts
 pub mod Promises

@@ -2,13 +2,15 @@
 //
 // Every public function is total. One function serves every operation, and a call names one: where the body is short enough the compiler takes it into the
 // call, with no test of the operation left in its loops.
+//
+// The eights are not those of arch: two slices are met by one index here, and the shorter one has zeros past its end.
 #![tactic(auto)]
 
 ghost use Rattle.std.specs.Prelude.{◌≡◌, ◌↔◌, ◌+◌, ◌≤◌, min, length, get_or};
 ghost use Rattle.arch.specs.Scans.{Alike, nonzero_len, is_zero};
 ghost use Rattle.pairs.specs.Pairs.{word_by, words_by, end_by, zero_eights};
 
-// A set operation, by what it makes of two memberships.
+// A set operation, by what it makes of two memberships: an enum, as definitions and theorems take the operation as a value.
 #[derive(Clone, Copy, Debug, PartialEq, Eq, Hash)]
 pub enum SetOp {
     And,
@@ -56,6 +58,7 @@ fn some_in_eight(op: SetOp, a: &[u64], b: &[u64], i: usize) -> u64
     ensures { (result ≡ 0) ↔ Alike (words_by op a.now b.now) 0 i (i + 8) }
 {
     let mut some = 0;
+    // By index: on two slices of eight the compiler does not take it into its calls.
     for k in 0..8 {
         some |= op.word(a[i + k], b[i + k]);
     }
@@ -67,6 +70,7 @@ pub fn zero_eights(op: SetOp, a: &[u64], b: &[u64], from: usize) -> usize
     ensures { result ≡ zero_eights (words_by op a.now b.now) (min (length a.now) (length b.now)) from }
 {
     let whole = a.len().min(b.len()).saturating_sub(from) / 8;
+    // By index: an eight is looked at in both slices, from `from` on.
     for i in 0..whole {
         let k = from + 8 * i;
         if some_in_eight(op, a, b, k) != 0 {
@@ -81,12 +85,7 @@ pub fn is_zero(op: SetOp, a: &[u64], b: &[u64]) -> bool
     ensures { result ≡ is_zero (words_by op a.now b.now) }
 {
     let end = end_of(op, a.len(), b.len());
-    for k in zero_eights(op, a, b, 0)..end {
-        if word_at(op, a, b, k) != 0 {
-            return false;
-        }
-    }
-    true
+    (zero_eights(op, a, b, 0)..end).all(|k| word_at(op, a, b, k) == 0)
 }
 
 // An index up to `from` from which on every word is zero, as far as eights tell: where both slices have the words below it.
@@ -96,6 +95,7 @@ fn zero_eights_down(op: SetOp, a: &[u64], b: &[u64], from: usize) -> usize
     if from > a.len().min(b.len()) {
         return from;
     }
+    // By index: an eight is looked at in both slices, from `from` down.
     for i in 0..from / 8 {
         let end = from - 8 * i;
         if some_in_eight(op, a, b, end - 8) != 0 {
@@ -110,10 +110,8 @@ pub fn nonzero_len(op: SetOp, a: &[u64], b: &[u64]) -> usize
     ensures { result ≡ nonzero_len (words_by op a.now b.now) }
 {
     let end = zero_eights_down(op, a, b, end_of(op, a.len(), b.len()));
-    for k in (0..end).rev() {
-        if word_at(op, a, b, k) != 0 {
-            return k + 1;
-        }
+    match (0..end).rfind(|k| word_at(op, a, b, *k) != 0) {
+        Some(last) => last + 1,
+        None => 0,
     }
-    0
 }

@@ -151,9 +151,6 @@ module _ (y : Style) (ok : Allowed y) (b : Bits) (e : ℕ) (past : (j : ℕ) →
   pub shown-end : run.end ≤ run.low → out' ≡ put_at 0 (text_of y b) out
   shown-end l = w.shown ∙ ap (λ (t : List ℕ). put_at 0 t out) (sym (going_end y ok b e past small at run g l))
 
-  pub end_long : run.end ≤ run.low → length out' ≡ length out
-  end_long l = ap length (shown-end l) ∙ length-put 0 (text_of y b) out (omega arith)
-
 -- ---- the call
 
 module _ (y : Style) (ws : List ℕ) (b : Bitmap) (out : List ℕ) where

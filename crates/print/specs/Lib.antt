@@ -3,3 +3,4 @@ pub mod Kernels
 pub mod Forms
 pub mod Plain
 pub mod Promises
+pub mod Held

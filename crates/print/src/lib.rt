@@ -3,7 +3,6 @@
 #![tactic(auto)]
 
 ghost use Rattle.std.specs.Prelude.{◌≡◌, ◌+◌, ◌-◌, ◌*◌, ◌≤◌, ◌<◌, leb, ◌++◌, length};
-ghost use Rattle.storage.specs.Stores.{held};
 ghost use Rattle.storage.specs.Guards.{Passed};
 ghost use Rattle.text.specs.Lists.{list_limit, range};
 ghost use Rattle.style.specs.Promises.{Allowed};
@@ -23,77 +22,14 @@ pub struct Run {
     pub end: usize,
 }
 
-// The next run from i on; an empty one at the length where there is none.
-fn next_run(words: &[u64], b: Bitmap, i: usize) -> Run
-    requires { Passed words.now b × (i ≤ 64 * b.count) }
-    ensures { NextRun (held words.now b).members (64 * b.count) i result }
-{
-    let end = 64 * b.count;
-    let none = Run { low: end, end: end };
-    let low = match scans::next_set(words, b, i) {
-        Ok(Some(low)) => low,
-        Ok(None) => return none,
-        Err(_) => return none,
-    };
-    let next = low + 1;
-    // A run of one bit needs no second scan.
-    if next / 64 < b.count {
-        if (words[next / 64] >> (next % 64)) & 1 == 0 {
-            return Run { low, end: next };
-        }
-    }
-    let Ok(end) = scans::next_clear(words, b, next) else {
-        return none;
-    };
-    Run { low, end }
-}
-
-// The next run from i on; one that began before i is taken from i on. Where there is none, an empty one at the length; where 1 or 2 applies, at 0.
-// {3, 7, 8}: from 4 on it is 7 to 8, from 8 on 8 alone.
-pub fn run_from(words: &[u64], b: Bitmap, i: usize) -> Run
-    ensures { AnswersRun words.now b i result }
-{
-    let Ok(()) = storage::check(words, b) else {
-        return Run { low: 0, end: 0 };
-    };
-    let end = 64 * b.count;
-    if i > end {
-        return Run { low: end, end: end };
-    }
-    next_run(words, b, i)
-}
-
-// How many digits x has.
-fn digits(x: usize) -> usize
-    requires { x < 10_000_000_000 }
-    ensures { result ≡ length (decimal x) }
-{
-    if x < 100_000 {
-        if x < 100 {
-            return if x < 10 { 1 } else { 2 };
-        }
-        if x < 10_000 {
-            return if x < 1_000 { 3 } else { 4 };
-        }
-        return 5;
-    }
-    if x < 10_000_000 {
-        return if x < 1_000_000 { 6 } else { 7 };
-    }
-    if x < 1_000_000_000 {
-        return if x < 100_000_000 { 8 } else { 9 };
-    }
-    10
-}
-
 // How many digits any number has: 1 for 9, 2 for 10.
 pub fn decimal_len(x: usize) -> usize
     ensures { result ≡ decimal_len x }
 {
-    if x < 10_000_000_000 {
-        return digits(x);
+    match x.checked_ilog10() {
+        Some(k) => k as usize + 1,
+        None => 1,
     }
-    10 + digits(x / 10_000_000_000)
 }
 
 // The length of what stands before a piece.
@@ -111,7 +47,7 @@ fn pair_len(a: usize, b: usize, style: Style) -> usize
     requires { Allowed style × (a < b) × (b ≤ list_limit) }
     ensures { result ≡ length (printed style (range a b)) }
 {
-    digits(a + style.first) + 1 + digits(b + style.first)
+    decimal_len(a + style.first) + 1 + decimal_len(b + style.first)
 }
 
 // Whether a run is written as a range, and not number by number.
@@ -132,25 +68,13 @@ fn run_end(at: usize, run: Run, style: Style) -> usize
     }
     let mut p = at;
     for x in run.low..run.end {
-        p = p + gap_len(p, style.blank) + digits(x + style.first);
+        p = p + gap_len(p, style.blank) + decimal_len(x + style.first);
     }
     p
 }
 
-// The length of a bitmap's text. Here and in `print` a loop goes from run to run, and no index is counted: `run_from_means` says that after the last run comes
-// an empty one at the length, so its answer is no `Option`.
-fn text_len(words: &[u64], b: Bitmap, style: Style) -> usize
-    requires { Allowed style × Passed words.now b }
-    ensures { result ≡ length (text_of style (held words.now b)) }
-{
-    let mut at = 0;
-    let mut run = next_run(words, b, 0);
-    while run.low < run.end {
-        at = run_end(at, run, style);
-        run = next_run(words, b, run.end);
-    }
-    at
-}
+// From here on the same pieces are put. The lengths above work out no digit, so a walk shared by both would still need two functions for each piece. `out`
+// and `at` go side by side, as the buffer is lent and each contract says the whole of it: a struct that borrows it would say the same of its field.
 
 // Puts the digits of x up to a place, the last two first. By hand, since std's `Display` writes to a `fmt::Write`, which a part of a lent buffer is not; two
 // digits a turn, so that a `for` would count the turns and work the place out again.
@@ -174,10 +98,10 @@ fn put_digits(out: &mut [u8], at: usize, end: usize, x: usize)
 
 // Puts the digits of x; the place after them.
 fn put_number(out: &mut [u8], at: usize, x: usize) -> usize
-    requires { (x < 10_000_000_000) × (at + length (decimal x) ≤ length out.old) }
+    requires { at + length (decimal x) ≤ length out.old }
     ensures { Puts at (decimal x) result out.old out.new }
 {
-    let end = at + digits(x);
+    let end = at + decimal_len(x);
     put_digits(out, at, end, x);
     end
 }
@@ -248,17 +172,85 @@ fn put_run(out: &mut [u8], at: usize, run: Run, style: Style) -> usize
     p
 }
 
-// Puts the text of a bitmap.
-fn print(words: &[u64], b: Bitmap, out: &mut [u8], style: Style)
-    requires { Allowed style × Passed words.now b × (length (text_of style (held words.now b)) ≤ length out.old) }
-    ensures { out.new ≡ put_at 0 (text_of style (held words.now b)) out.old }
-{
-    let mut at = 0;
-    let mut run = next_run(words, b, 0);
-    while run.low < run.end {
-        at = put_run(out, at, run, style);
-        run = next_run(words, b, run.end);
+// A bitmap that the guard let pass.
+#[derive(Clone, Copy)]
+pub struct Held<'a> {
+    pub words: &'a [u64],
+    pub bitmap: Bitmap,
+    pub ghost passes: { Passed words.now bitmap },
+}
+
+impl Held<'_> {
+    ghost use Rattle.print.specs.Held.{bits_of};
+
+    // The next run from i on; an empty one at the length where there is none.
+    fn next_run(&self, i: usize) -> Run
+        requires { i ≤ 64 * self.now.bitmap.count }
+        ensures { NextRun (bits_of self.now).members (64 * self.now.bitmap.count) i result }
+    {
+        let end = 64 * self.bitmap.count;
+        let none = Run { low: end, end: end };
+        let low = match scans::next_set(self.words, self.bitmap, i) {
+            Ok(Some(low)) => low,
+            Ok(None) => return none,
+            Err(_) => return none,
+        };
+        let next = low + 1;
+        // A run of one bit needs no second scan.
+        if next / 64 < self.bitmap.count {
+            if (self.words[next / 64] >> (next % 64)) & 1 == 0 {
+                return Run { low, end: next };
+            }
+        }
+        let Ok(end) = scans::next_clear(self.words, self.bitmap, next) else {
+            return none;
+        };
+        Run { low, end }
     }
+
+    // The length of a bitmap's text. Here and in `print` a loop goes from run to run, and no index is counted: `run_from_means` says that after the last run
+    // comes an empty one at the length, so its answer is no `Option`.
+    fn text_len(&self, style: Style) -> usize
+        requires { Allowed style }
+        ensures { result ≡ length (text_of style (bits_of self.now)) }
+    {
+        let mut at = 0;
+        let mut run = self.next_run(0);
+        while run.low < run.end {
+            at = run_end(at, run, style);
+            run = self.next_run(run.end);
+        }
+        at
+    }
+
+    // Puts the text of a bitmap.
+    fn print(&self, out: &mut [u8], style: Style)
+        requires { Allowed style × (length (text_of style (bits_of self.now)) ≤ length out.old) }
+        ensures { out.new ≡ put_at 0 (text_of style (bits_of self.now)) out.old }
+    {
+        let mut at = 0;
+        let mut run = self.next_run(0);
+        while run.low < run.end {
+            at = put_run(out, at, run, style);
+            run = self.next_run(run.end);
+        }
+    }
+}
+
+// The next run from i on; one that began before i is taken from i on. Where there is none, an empty one at the length; where 1 or 2 applies, at 0.
+// {3, 7, 8}: from 4 on it is 7 to 8, from 8 on 8 alone.
+pub fn run_from(words: &[u64], b: Bitmap, i: usize) -> Run
+    ensures { AnswersRun words.now b i result }
+{
+    let Ok(()) = storage::check(words, b) else {
+        return Run { low: 0, end: 0 };
+    };
+    let held = Held { words, bitmap: b };
+    let end = 64 * b.count;
+    if i > end {
+        return Run { low: end, end: end };
+    }
+    held.next_run(i)
 }
 
 // Prints the bitmap as a list in a style; the text's length. 15 if the style is not allowed, then 6 if the buffer is shorter, before a byte is written;
@@ -267,13 +259,14 @@ pub fn write_list(words: &[u64], b: Bitmap, out: &mut [u8], style: Style) -> Res
     ensures { Prints style words.now b out.old result out.new }
 {
     storage::check(words, b)?;
+    let held = Held { words, bitmap: b };
     if !style::is_allowed(style) {
         return Err(Refusal::BadStyle);
     }
-    let len = text_len(words, b, style);
+    let len = held.text_len(style);
     if len > out.len() {
         return Err(Refusal::NoSpace);
     }
-    print(words, b, out, style);
+    held.print(out, style);
     Ok(len)
 }

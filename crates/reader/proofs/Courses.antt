@@ -1,6 +1,6 @@
 -- The course of a reading: 14, then 1 and 2 of each store, then the sheet.
 use Prim.Native.Nat.{ℕ, ◌≤◌, ◌<◌}
-use mathlib.Core.Path.{◌≡◌, refl, sym, ap, ap₂, ◌∙◌}
+use mathlib.Core.Path.{◌≡◌, refl, sym, ap, ap₂, ◌∙◌, subst}
 use mathlib.Core.Bool.{Bool, true, false, ◌&&◌}
 use mathlib.Core.List.{List}
 use lib.ListN.{length, replicate, length-replicate, get_or-replicate}
@@ -21,7 +21,7 @@ use Rattle.sheet.specs.Reads.{edition_of, latest, fitting, Course, stopped, went
 use Rattle.reader.specs.Kernels.{Came}
 use Rattle.sheet.proofs.Readings.{same-zeros}
 use Rattle.storage.specs.Refusals.{passing, refusing}
-use Rattle.std.specs.Prelude.{Err, Ok}
+use Rattle.std.specs.Prelude.{Err, Ok, is_err}
 use Rattle.sheet.specs.Reads.{Reading}
 use Rattle.sheet.specs.declared.ReadError.{ReadError}
 use Rattle.storage.specs.declared.Refused.{Refused}
@@ -95,3 +95,9 @@ module _ (n : ℕ) (sheet ws : List ℕ) (o : Bitmap) (res : List ℕ) where
           left : (a : Answer Bits) → Err e ≡ read_answer (went a) → zeroed 0 (length res) res ≡ read_store (went a) res
           left (refused d j) p = refl
           left (Answer.done j s) p = zero_one cc
+
+      -- by whether it is refused: then the store is cleared, else left
+      pub reads_back : (r : Reading) (res' res'' : List ℕ) (t : Bool) → t ≡ is_err r → Came whole res r res' → (t ≡ true → res'' ≡ replicate (length res') 0) → (t ≡ false → res'' ≡ res')
+          → Reads n sheet ws o res r res''
+      reads_back (Ok (k, b)) res' res'' t e h z w = subst (Reads n sheet ws o res (Ok (k, b))) (sym (w e)) (reads_done (Ok (k, b)) res' k b refl h)
+      reads_back (Err why) res' res'' t e h z w = reads-refused (Err why) res' res'' why refl h (z e)

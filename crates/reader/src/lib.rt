@@ -163,11 +163,9 @@ pub fn read(
     if let Err(Refused(why, _)) = storage::check_two(words, b, res, EMPTY) {
         return Err(ReadError(why, 0));
     }
-    match read_into(edition, sheet, words, b, res) {
-        Ok(read) => Ok(read),
-        Err(e) => {
-            res.fill(0);
-            Err(e)
-        }
+    let read = read_into(edition, sheet, words, b, res);
+    if read.is_err() {
+        res.fill(0);
     }
+    read
 }

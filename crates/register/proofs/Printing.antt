@@ -13,7 +13,7 @@ use Rattle.storage.proofs.Views.{bounded_view}
 use Rattle.print.specs.Texts.{fitted, replaced}
 use Rattle.print.specs.Kernels.{put_at}
 use Rattle.print.specs.declared.Run.{Run}
-use Rattle.print.proofs.Buffer.{length-put, put_then, puts_none}
+use Rattle.print.proofs.Buffer.{put_then, puts_none}
 use Rattle.print.proofs.Fitting.{lacks, fitting}
 use Rattle.register.specs.Register.{line, pages_of, foot_of, line_of, lines_of, register_of, register_answer, register_buffer, Registers}
 use Rattle.register.specs.Kernels.{Narrow, Ahead, NextLine, row_for, Ready}
@@ -72,12 +72,6 @@ module _ (b : Bits) (bound : Bounded b) (small : b.count ≤ most_words) (pages 
     lines_long : length (lines_of b k) ≡ 73 * k
     lines_long = length-lines b bound small k g.within
 
-    pub printing_long : length out' ≡ length out
-    printing_long = ap length g.shown ∙ length-put 0 (lines_of b k) out (omega (arith, lines_long, g.within, rd.room, rd.pages_are))
-
-    pub printing_ready : Ready b pages count out'
-    printing_ready = record { pages_are = rd.pages_are; count_is = rd.count_is; room = omega (arith, rd.room, printing_long) }
-
     pub printing-more : k < 50 * pages → (run' : Run) (out'' : List ℕ) → NextLine b (k + 1) run' → out'' ≡ put_at (73 * k) (line_of b k) out' → Printing b out (k + 1) run' out''
     unfolding lines_of
     printing-more h run' out'' n x =
@@ -93,9 +87,6 @@ module _ (b : Bits) (bound : Bounded b) (small : b.count ≤ most_words) (pages 
               ∙ put_then 0 (lines_of b k) (line_of b k) out (omega (arith, lines_long, length-line_of b bound small k l, rd.room, rd.pages_are))
               ∙ ap (λ (n : ℕ). put_at 0 (lines_of b n) out) s;
         }
-
-    pub printing-end : 50 * pages ≤ k → out' ≡ put_at 0 (register_of b) out
-    printing-end h = let e : k ≡ 50 * pages_of b = omega (arith, g.within, rd.pages_are) in g.shown ∙ ap (λ (n : ℕ). put_at 0 (lines_of b n) out) e
 
 -- ---- the call
 

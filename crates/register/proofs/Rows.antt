@@ -8,7 +8,7 @@ use lib.Dec.{eqb}
 use lib.ListN.{length, drop, length-append}
 use borrow.Author.Tests.{lt-ltb, le-ltb, eq-eqb, ne_eqb}
 use Rattle.word.specs.Sets.{choose}
-use Rattle.word.proofs.Cases.{by_lt, by_eq}
+use Rattle.word.proofs.Cases.{by_lt}
 use Rattle.word.proofs.Sets.{count-le}
 use Rattle.storage.specs.Stores.{Bits, Bounded, size}
 use Rattle.storage.specs.Guards.{most_words}
@@ -21,14 +21,6 @@ use Rattle.register.proofs.Lines.{length-line, length-ended}
 use Rattle.register.proofs.Ahead.{Below, cons, drop_below, all_below, runs-most, ahead_none, ahead_some}
 
 -- ---- pages
-
-pub pages_one : (n : ℕ) → n ≡ 0 → 1 ≡ pages_for n
-unfolding pages_for
-pages_one n e = omega arith
-
-pub pages_more : (n : ℕ) → (n ≡ 0 → ⊥) → (n + 48) / 49 ≡ pages_for n
-unfolding pages_for
-pages_more n e = by_eq n 0 (λ z. absurd (e z)) (λ z. omega arith)
 
 pub pages_few : (n : ℕ) → pages_for n ≤ n + 1
 unfolding pages_for

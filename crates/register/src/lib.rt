@@ -3,15 +3,15 @@
 #![tactic(auto)]
 
 ghost use Rattle.std.specs.Prelude.{◌≡◌, ◌+◌, ◌*◌, ◌≤◌, ◌<◌, length, replicate};
-ghost use Rattle.storage.specs.Stores.{held, size};
-ghost use Rattle.storage.specs.Guards.{Passed};
+ghost use Rattle.storage.specs.Stores.{size};
 ghost use Rattle.text.specs.Lists.{space};
 ghost use Rattle.print.specs.Texts.{runs};
 ghost use Rattle.print.specs.Kernels.{put_at, Puts};
+ghost use Rattle.print.specs.Held.{bits_of};
 ghost use Rattle.register.specs.Register.{column, ended, line, pages_for, line_of, register_of, Registers};
 ghost use Rattle.register.specs.Kernels.{Narrow, row_for, NextLine, Ready};
 
-use print::Run;
+use print::{Held, Run};
 use storage::{Bitmap, Refusal};
 
 const SPACE: u8 = 32;
@@ -32,7 +32,7 @@ const LINES: usize = 50;
 
 const RUNS: usize = 49;
 
-// Puts n blanks at a place; the place after them.
+// Puts n blanks at a place; the place after them. The buffer is lent, and each contract says the whole of it, so `out` and `at` stay side by side.
 fn put_blanks(out: &mut [u8], at: usize, n: usize) -> usize
     requires { at + n ≤ length out.old }
     ensures { Puts at (replicate n space) result out.old out.new }
@@ -85,69 +85,55 @@ fn put_row(out: &mut [u8], at: usize, run: Run)
 }
 
 // Puts line k, where `run` is the next to be printed; the run that is then the next.
-fn put_next(
-    words: &[u64],
-    b: Bitmap,
-    out: &mut [u8],
-    k: usize,
-    run: Run,
-    pages: usize,
-    count: usize,
-) -> Run
-    requires { Passed words.now b × Ready (held words.now b) pages count out.old × NextLine (held words.now b) k run × (k < 50 * pages) }
-    ensures { NextLine (held words.now b) (k + 1) result × (out.new ≡ put_at (73 * k) (line_of (held words.now b) k) out.old) }
+fn put_next(held: &Held<'_>, out: &mut [u8], k: usize, run: Run, pages: usize, count: usize) -> Run
+    requires { Ready (bits_of held.now) pages count out.old × NextLine (bits_of held.now) k run × (k < 50 * pages) }
+    ensures { NextLine (bits_of held.now) (k + 1) result × (out.new ≡ put_at (73 * k) (line_of (bits_of held.now) k) out.old) }
 {
     if k % LINES == RUNS {
         put_line(out, LINE * k, k / LINES + 1, pages, count);
         return run;
     }
     put_row(out, LINE * k, run);
-    print::run_from(words, b, run.end)
+    print::run_from(held.words, held.bitmap, run.end)
 }
 
 // Puts all lines.
-fn put_lines(words: &[u64], b: Bitmap, out: &mut [u8], pages: usize, count: usize)
-    requires { Passed words.now b × Ready (held words.now b) pages count out.old }
-    ensures { out.new ≡ put_at 0 (register_of (held words.now b)) out.old }
+fn put_lines(held: &Held<'_>, out: &mut [u8], pages: usize, count: usize)
+    requires { Ready (bits_of held.now) pages count out.old }
+    ensures { out.new ≡ put_at 0 (register_of (bits_of held.now)) out.old }
 {
     let lines = LINES * pages;
-    let mut run = print::run_from(words, b, 0);
+    let mut run = print::run_from(held.words, held.bitmap, 0);
     for k in 0..lines {
-        run = put_next(words, b, out, k, run, pages, count);
+        run = put_next(held, out, k, run, pages, count);
     }
 }
 
 // How many runs there are. From run to run: `run_from` answers an empty one after the last, as `run_from_means` says.
-fn count_runs(words: &[u64], b: Bitmap) -> usize
-    requires { Passed words.now b }
-    ensures { result ≡ length (runs (held words.now b)) }
+fn count_runs(held: &Held<'_>) -> usize
+    ensures { result ≡ length (runs (bits_of held.now)) }
 {
     let mut n = 0;
-    let mut run = print::run_from(words, b, 0);
+    let mut run = print::run_from(held.words, held.bitmap, 0);
     while run.low < run.end {
         n += 1;
-        run = print::run_from(words, b, run.end);
+        run = print::run_from(held.words, held.bitmap, run.end);
     }
     n
 }
 
-// How many pages some runs take.
+// How many pages some runs take: one where there is none.
 fn page_count(runs: usize) -> usize
-    requires { runs ≤ 4_294_967_296 }
     ensures { result ≡ pages_for runs }
 {
-    if runs == 0 {
-        return 1;
-    }
-    (runs + (RUNS - 1)) / RUNS
+    runs.div_ceil(RUNS).max(1)
 }
 
 // How many set bits there are.
-fn count_bits(words: &[u64], b: Bitmap) -> usize
-    requires { Passed words.now b }
-    ensures { result ≡ size (held words.now b) }
+fn count_bits(held: &Held<'_>) -> usize
+    ensures { result ≡ size (bits_of held.now) }
 {
-    scans::count_set_bits(words, b).unwrap_or(0)
+    scans::count_set_bits(held.words, held.bitmap).unwrap_or(0)
 }
 
 // Prints the bitmap as a register; the text's length, 3,650 bytes a page. 6 if the buffer is shorter, before a byte is written; bytes past the text are
@@ -156,11 +142,12 @@ pub fn write_register(words: &[u64], b: Bitmap, out: &mut [u8]) -> Result<usize,
     ensures { Registers words.now b out.old result out.new }
 {
     storage::check(words, b)?;
-    let pages = page_count(count_runs(words, b));
+    let held = Held { words, bitmap: b };
+    let pages = page_count(count_runs(&held));
     let len = LINE * LINES * pages;
     if len > out.len() {
         return Err(Refusal::NoSpace);
     }
-    put_lines(words, b, out, pages, count_bits(words, b));
+    put_lines(&held, out, pages, count_bits(&held));
     Ok(len)
 }

@@ -1,7 +1,8 @@
 // One case: a call on memory that is filled as the line says, and what it answers and leaves compared with the line and the text behind it.
 ghost use Rattle.std.specs.Prelude.{◌≤◌, length, IfSome};
 
-use std::{array, fmt};
+use listing::{Mismatch, unwritten};
+use std::array;
 use storage::{Bitmap, EMPTY};
 use told::Told;
 
@@ -15,27 +16,6 @@ const NUMBERS: u64 = 16;
 
 // The bytes of a register's line.
 const LINE: usize = 73;
-
-// How a case differs from its line.
-#[derive(Clone, Copy)]
-pub enum Mismatch {
-    Answer,
-    Memory,
-}
-
-impl fmt::Display for Mismatch {
-    fn fmt<W: fmt::Write>(&self, f: &mut fmt::Formatter<W>) -> fmt::Result {
-        f.write_str(match self {
-            Mismatch::Answer => "something else is answered",
-            Mismatch::Memory => "something else is left in memory",
-        })
-    }
-}
-
-// What stands in byte k of a buffer before the call; no register has such a byte.
-fn unwritten(k: usize) -> u8 {
-    (128 + k % 128) as u8
-}
 
 // All words of a store and their count, the number that is right, the register, empty where it is refused, and the size of the buffer.
 #[derive(Clone, Copy)]

@@ -7,10 +7,9 @@ ghost use Rattle.std.specs.Prelude.{◌<◌, length};
 mod case;
 mod list;
 mod small;
-mod tally;
 
 use crate::case::Case;
-use crate::tally::{End, Row};
+use listing::{End, Row};
 use std::io;
 use std::io::Read;
 
@@ -21,10 +20,10 @@ const MOST: usize = 1_048_576;
 const LAST: u64 = 15;
 
 // Replays the case of a line.
-fn one(rt: &impl Print, line: u64, case: Case<'_>, tally: &mut Row) -> io::Result<()> {
+fn one(rt: &impl Print, line: u64, case: Case<'_>, tally: &mut Row<17>) -> io::Result<()> {
     let number = case.number;
     let shown = case.replay();
-    tally.add(number, shown.is_err());
+    tally.add(number as usize, shown.is_err());
     if let Err(mismatch) = shown {
         println!(rt; "line {line}: number {number} is right, and {mismatch}")?;
     }
@@ -41,8 +40,8 @@ fn split_line(list: &[u8]) -> (&[u8], &[u8])
     }
 }
 
-// Every line and the text behind it, up to the last or one that can't be read: how many lines, and how the list ends.
-fn lines(rt: &(impl Print + AllocGlobal), list: &[u8], tally: &mut Row) -> io::Result<(u64, End)> {
+// Every line and the text behind it, up to the last or one that can't be read: how the list ends.
+fn lines(rt: &(impl Print + AllocGlobal), list: &[u8], tally: &mut Row<17>) -> io::Result<End> {
     let mut numbers = Vec::new(rt.alloc());
     let mut last = 0u64;
     let mut rest = list;
@@ -51,32 +50,18 @@ fn lines(rt: &(impl Print + AllocGlobal), list: &[u8], tally: &mut Row) -> io::R
         let (line, behind) = split_line(rest);
         let sound = list::read(line, &mut numbers)?;
         if sound && numbers.as_slice() == [LAST, last].as_slice() {
-            let end = if behind.is_empty() {
-                End::Whole
-            } else {
-                End::More
-            };
-            return Ok((last, end));
+            let whole = behind.is_empty();
+            return Ok(if whole { End::Whole } else { End::More(last) });
         }
         if sound && let Some((case, behind)) = Case::split(&numbers, behind) {
             one(rt, last, case, tally)?;
             last = last.saturating_add(case.lines());
             rest = behind;
         } else {
-            return Ok((last, End::Unread));
+            return Ok(End::Unread(last));
         }
     }
-    Ok((last, End::Cut))
-}
-
-// Nothing more where the list is whole.
-fn report(rt: &impl Print, last: u64, end: End) -> io::Result<()> {
-    match end {
-        End::Whole => Ok(()),
-        End::Cut => println!(rt; "the list is cut after line {last}"),
-        End::Unread => println!(rt; "line {last} can't be read"),
-        End::More => println!(rt; "the list goes on after its last line, {last}"),
-    }
+    Ok(End::Cut(last))
 }
 
 fn main(rt: HostRuntime) -> io::Result<()> {
@@ -86,8 +71,8 @@ fn main(rt: HostRuntime) -> io::Result<()> {
     if list.len() == MOST {
         return println!(rt; "the list is too long");
     }
-    let mut tally = Row::default();
-    let (last, end) = lines(&rt, &list, &mut tally)?;
+    let mut tally = Row::new();
+    let end = lines(&rt, &list, &mut tally)?;
     println!(rt; "registers printed: {tally}")?;
-    report(&rt, last, end)
+    print!(rt; "{end}")
 }

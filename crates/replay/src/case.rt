@@ -11,7 +11,7 @@ const TITLE: u64 = 256;
 
 const SPLIT_OFF: u64 = 0xf2;
 
-// The tag of an answer where the call may have changed its store.
+// The tag of an answer where the call may have changed its store: a number of told's and of the list.
 const CHANGED: u64 = 2;
 
 // How a case differs from its line.
@@ -185,8 +185,8 @@ impl<'a> Case<'a> {
         let got = match self.call {
             0xf1 => self.set_many(words),
             SPLIT_OFF => told::split(shape::split_off(words, record, self.arguments.x, other)),
-            0xf4 => self.from_list(words),
             0xf3 => return self.write_list(words),
+            0xf4 => self.from_list(words),
             _ => call::on_words(self, words, other).ok_or(Mismatch::Malformed)?,
         };
         self.compare(got)

@@ -11,7 +11,7 @@ const LONGEST: usize = 20_000;
 // The most digits of a number.
 const DIGITS: u32 = 16;
 
-// The line at hand: its bytes, its numbers, and whether it is a line of the list at all.
+// The line at hand: its bytes, its numbers, and whether it is a line of the list at all. One that is not keeps its numbers: it is reported by its call.
 #[derive(Drop)]
 pub struct Line {
     bytes: Vec<u8>,
@@ -73,15 +73,6 @@ impl Line {
     }
 }
 
-// The value of a hexadecimal digit.
-fn digit(byte: u8) -> Option<u64> {
-    match byte {
-        b'0'..=b'9' => Some(u64::from(byte - b'0')),
-        b'a'..=b'f' => Some(u64::from(byte - b'a') + 10),
-        _ => None,
-    }
-}
-
 // What the bytes between two commas make: the digits' value and how many there are, all ones after a tilde, and whether all that is a number.
 #[derive(Clone, Copy)]
 struct Number {
@@ -111,9 +102,9 @@ impl Number {
             self.sound &= self.digits == 0 && self.flip == 0;
             self.flip = u64::MAX;
         } else {
-            let digit = digit(byte);
+            let digit = listing::digit(byte);
             self.sound &= digit.is_some() && self.digits < DIGITS;
-            self.value = self.value << 4 | digit.unwrap_or(16);
+            self.value = self.value << 4 | u64::from(digit.unwrap_or(16));
             self.digits = self.digits.saturating_add(1);
         }
     }

@@ -7,7 +7,7 @@ ghost use Rattle.std.specs.Prelude.{◌≡◌, ◌+◌, Ok, Err};
 ghost use Rattle.storage.specs.Stores.{reading, size, next_from};
 ghost use Rattle.scans.specs.Searches.{last_set, next_clear};
 
-use storage::{Bitmap, Refusal, Refused};
+use storage::{Bitmap, Refusal};
 use word::Word;
 
 // The lowest set bit.

@@ -131,7 +131,8 @@ pub fn select_u64_portable(table: &[u8; 2048], x: u64, n: usize) -> usize
     select_present(table, x, n)
 }
 
-// The place of the n-th set bit of x, counted from 0; 64 if x has none. Builds the table for this one call.
+// The place of the n-th set bit of x, counted from 0; 64 if x has none, which the clause says with the place, as the Rust's answer does. Builds the table for
+// this one call.
 pub fn select_u64(x: u64, n: usize) -> usize
     ensures { result ≡ nth (bit x) n 64 64 }
 {

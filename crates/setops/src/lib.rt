@@ -1,6 +1,8 @@
 // Set operations of a bitmap with another, in place.
 //
 // Every call refuses for its own store and then for the other's.
+//
+// The calls differ in the operation alone: C calls each by its own name.
 #![tactic(auto)]
 
 ghost use Rattle.std.specs.Prelude.{◌≡◌, ◌≤◌, ◌⊎◌, max, length, get_or, take};
@@ -19,9 +21,8 @@ fn zip_words(op: SetOp, words: &mut [u64], other: &[u64], e: usize)
     requires { (e ≤ length words.old) × (e ≤ length other.now) }
     ensures { Put (λ k. word_by op (get_or words.old k 0) (get_or other.now k 0)) 0 e words.old words.new }
 {
-    // A `zip` of `iter_mut` tells the proof nothing of the words that it leaves.
-    for k in 0..e {
-        words[k] = op.word(words[k], other[k]);
+    for (k, word) in words[..e].iter_mut().enumerate() {
+        *word = op.word(*word, other[k]);
     }
 }
 

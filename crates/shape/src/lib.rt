@@ -15,18 +15,11 @@ use word::Word;
 pub fn toggle(words: &mut [u64], b: Bitmap, i: usize) -> Result<Bitmap, Refused>
     ensures { Changes (toggling i) words.old b result words.new }
 {
-    let n = b.count;
     storage::check(words, b)?;
     let k = i / 64;
-    if k >= words.len() {
-        return Err(Refused(Refusal::NoSpace, b));
-    }
-    storage::zero_words(words, n, k + 1);
-    words[k] = words[k] ^ Word::bit(i);
-    Ok(Bitmap {
-        count: n.max(k + 1),
-        ..b
-    })
+    let grown = storage::grow(words, b, k + 1)?;
+    words[k] ^= Word::bit(i);
+    Ok(grown)
 }
 
 // Flips the bits from i to `last`: whole words, and the other bits of both edge words once more.
@@ -45,7 +38,6 @@ fn flip_region(words: &mut [u64], i: usize, last: usize)
 pub fn toggle_region(words: &mut [u64], b: Bitmap, i: usize, k: usize) -> Result<Bitmap, Refused>
     ensures { Changes (toggling_region i k) words.old b result words.new }
 {
-    let n = b.count;
     storage::check(words, b)?;
     if k == 0 {
         return Ok(b);
@@ -53,39 +45,24 @@ pub fn toggle_region(words: &mut [u64], b: Bitmap, i: usize, k: usize) -> Result
     let Some(last) = i.checked_add(k - 1) else {
         return Err(Refused(Refusal::IndexOver, b));
     };
-    let w = last / 64;
-    if w >= words.len() {
-        return Err(Refused(Refusal::NoSpace, b));
-    }
-    storage::zero_words(words, n, w + 1);
+    let grown = storage::grow(words, b, last / 64 + 1)?;
     flip_region(words, i, last);
-    Ok(Bitmap {
-        count: n.max(w + 1),
-        ..b
-    })
+    Ok(grown)
 }
 
 // Moves every bit k up; grows to the word of the highest. With no bit set nothing changes.
 pub fn shift_left(words: &mut [u64], b: Bitmap, k: usize) -> Result<Bitmap, Refused>
     ensures { Changes (raising k) words.old b result words.new }
 {
-    let n = b.count;
-    let top = match scans::last_set(words, b) {
-        Err(why) => return Err(Refused(why, b)),
-        Ok(None) => return Ok(b),
-        Ok(Some(p)) => p,
+    let Some(top) = scans::last_set(words, b).map_err(|why| Refused(why, b))? else {
+        return Ok(b);
     };
-    let Some(last) = top.checked_add(k) else {
+    let Some(end) = top.checked_add(k) else {
         return Err(Refused(Refusal::IndexOver, b));
     };
-    let w = last / 64;
-    if w >= words.len() {
-        return Err(Refused(Refusal::NoSpace, b));
-    }
-    storage::zero_words(words, n, w + 1);
-    let m = n.max(w + 1);
-    shift::left_words(&mut words[..m], k);
-    Ok(Bitmap { count: m, ..b })
+    let grown = storage::grow(words, b, end / 64 + 1)?;
+    shift::left_words(&mut words[..grown.count], k);
+    Ok(grown)
 }
 
 // Moves every bit k down; drops trailing zero words.
@@ -118,14 +95,9 @@ pub fn truncate_bits(words: &mut [u64], b: Bitmap, k: usize) -> Result<Bitmap, R
 pub fn resize_bits(words: &mut [u64], b: Bitmap, k: usize) -> Result<Bitmap, Refused>
     ensures { Changes (resizing k) words.old b result words.new }
 {
-    let n = b.count;
     storage::check(words, b)?;
     let need = k.div_ceil(64);
-    if need > words.len() {
-        return Err(Refused(Refusal::NoSpace, b));
-    }
-    storage::zero_words(words, n, need);
-    let m = n.max(need);
+    let m = storage::grow(words, b, need)?.count;
     arch::fill_region(&mut words[..m], k, 64 * m, false);
     Ok(Bitmap { count: need, ..b })
 }
@@ -168,13 +140,8 @@ pub fn split_off(
     ensures { Splits at words.old b tail.old result words.new tail.new }
 {
     let n = b.count;
-    let m = match tail_len(words, b, at) {
-        Err(why) => return Err(Refused(why, b)),
-        Ok(m) => m,
-    };
-    if let Err(Refused(why, _)) = storage::check(tail, storage::EMPTY) {
-        return Err(Refused(why, b));
-    }
+    let m = tail_len(words, b, at).map_err(|why| Refused(why, b))?;
+    storage::check(tail, storage::EMPTY).map_err(|Refused(why, _)| Refused(why, b))?;
     if m > tail.len() {
         return Err(Refused(Refusal::NoSpace, b));
     }

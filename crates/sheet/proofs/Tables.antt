@@ -65,23 +65,28 @@ rows_are : rows ≡ kind_at 0 0 ∷ from_rows table
 unfolding bytes_in
 rows_are = refl
 
-from_row : (e : ℕ) (rs : List Row) (k : ℕ) → k < length rs → by_row e (get_or (from_rows rs) k (kind_at 0 0)) ≡ known (size_by e (get_elem? rs k))
-from_row e [] k l = absurd (omega arith)
-from_row e (r ∷ rs) zero l = by_test (leb r.since e)
+from_row : (e : ℕ) (d : Kind) (rs : List Row) (k : ℕ) → k < length rs → by_row e (get_or (from_rows rs) k d) ≡ known (size_by e (get_elem? rs k))
+from_row e d [] k l = absurd (omega arith)
+from_row e d (r ∷ rs) zero l = by_test (leb r.since e)
   where
     by_test : (t : Bool) → choose t (Some (bytes_in r)) None ≡ known (choose t (some (bytes_in r)) none)
     by_test true = refl
     by_test false = refl
-from_row e (r ∷ rs) (suc k) l = from_row e rs k (omega arith)
+from_row e d (r ∷ rs) (suc k) l = from_row e d rs k (omega arith)
 
 -- each kind of the source has the length and the first edition of the definition's table
-pub row_of : (e k : ℕ) → (k ≡ 0 → ⊥) → k ≤ length table → by_row e (get_or rows k (kind_at 0 0)) ≡ known (size_in e k)
+pub row_of : (e k : ℕ) (d : Kind) → (k ≡ 0 → ⊥) → k ≤ length table → by_row e (get_or rows k d) ≡ known (size_in e k)
 unfolding size_in
-row_of e zero n l = absurd (n refl)
-row_of e (suc k) n l = ap (λ (ks : List Kind). by_row e (get_or ks (suc k) (kind_at 0 0))) rows_are ∙ from_row e table k (omega arith)
+row_of e zero d n l = absurd (n refl)
+row_of e (suc k) d n l = ap (λ (ks : List Kind). by_row e (get_or ks (suc k) d)) rows_are ∙ from_row e d table k (omega arith)
 
-pub row_newer : (e k : ℕ) → (k ≡ 0 → ⊥) → k ≤ length table → e < (get_or rows k (kind_at 0 0)).since → None ≡ known (size_in e k)
-row_newer e k n l h = sym (ap (λ (t : Bool). choose t (Some (get_or rows k (kind_at 0 0)).bytes) None) (lt-leb (get_or rows k (kind_at 0 0)).since e h)) ∙ row_of e k n l
+-- a row that is looked up
+module _ (e k : ℕ) (r : Kind) (is : r ≡ get_or rows k r) (n : k ≡ 0 → ⊥) (l : k ≤ length table) where
+  looked_up : by_row e r ≡ known (size_in e k)
+  looked_up = ap (by_row e) is ∙ row_of e k r n l
 
-pub row-bytes : (e k : ℕ) → (k ≡ 0 → ⊥) → k ≤ length table → (get_or rows k (kind_at 0 0)).since ≤ e → Some (get_or rows k (kind_at 0 0)).bytes ≡ known (size_in e k)
-row-bytes e k n l h = sym (ap (λ (t : Bool). choose t (Some (get_or rows k (kind_at 0 0)).bytes) None) (le-leb (get_or rows k (kind_at 0 0)).since e h)) ∙ row_of e k n l
+  pub row_newer : e < r.since → None ≡ known (size_in e k)
+  row_newer h = sym (ap (λ (t : Bool). choose t (Some r.bytes) None) (lt-leb r.since e h)) ∙ looked_up
+
+  pub row-bytes : r.since ≤ e → Some r.bytes ≡ known (size_in e k)
+  row-bytes h = sym (ap (λ (t : Bool). choose t (Some r.bytes) None) (le-leb r.since e h)) ∙ looked_up

@@ -4,7 +4,7 @@
 ghost use Rattle.std.specs.Prelude.{◌≡◌};
 ghost use Rattle.sheet.specs.Kinds.{size_in, known};
 
-use storage::{Bitmap, Refusal, Refused};
+use storage::Refusal;
 
 // The first two bytes of a sheet.
 pub const LETTERS: [u8; 2] = *b"NS";
@@ -97,11 +97,7 @@ pub fn payload_bytes(edition: usize, kind: usize) -> Option<usize>
     if kind == 0 {
         return None;
     }
-    if kind >= 12 {
-        return None;
-    }
-    let rows = KINDS;
-    let row = rows[kind];
+    let row = KINDS.get(kind)?;
     if row.since > edition {
         return None;
     }

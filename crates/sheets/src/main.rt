@@ -11,6 +11,7 @@ use crate::calls::Buffer;
 use crate::readings::Stores;
 use crate::scan::Scan;
 use crate::tally::{Case, Tally};
+use listing::End;
 use std::io;
 use std::io::Read;
 
@@ -61,8 +62,8 @@ fn one(rt: &impl Print, line: u64, case: Case, tally: &mut Tally) -> io::Result<
     Ok(())
 }
 
-// Every line: the one from which on the list can't be read, none where it is whole.
-fn lines(rt: &impl Print, list: &[u8], tally: &mut Tally) -> io::Result<Option<u64>> {
+// Every line, and how the list ends.
+fn lines(rt: &impl Print, list: &[u8], tally: &mut Tally) -> io::Result<End> {
     let mut desk = Desk {
         buffer: Buffer::new(),
         stores: Stores::new(),
@@ -71,7 +72,7 @@ fn lines(rt: &impl Print, list: &[u8], tally: &mut Tally) -> io::Result<Option<u
     let mut whole = false;
     for bytes in list.split_inclusive(|byte| *byte == b'\n') {
         if whole {
-            return Ok(Some(last));
+            return Ok(End::More(last));
         }
         last = last.saturating_add(1);
         let mut scan = Scan::of(bytes);
@@ -79,13 +80,13 @@ fn lines(rt: &impl Print, list: &[u8], tally: &mut Tally) -> io::Result<Option<u
             Some(Line::Case(case)) => one(rt, last, case, tally)?,
             Some(Line::Lent) => {}
             Some(Line::Last(number)) if number == last => whole = true,
-            _ => return Ok(Some(last)),
+            _ => return Ok(End::Unread(last)),
         }
         if !scan.is_at_end() {
-            return Ok(Some(last));
+            return Ok(End::Unread(last));
         }
     }
-    Ok(if whole { None } else { Some(last) })
+    Ok(if whole { End::Whole } else { End::Cut(last) })
 }
 
 fn main(rt: HostRuntime) -> io::Result<()> {
@@ -94,11 +95,14 @@ fn main(rt: HostRuntime) -> io::Result<()> {
     if list.len() == MOST {
         return println!(rt; "the list is too long");
     }
-    let mut tally = Tally::default();
-    let unread = lines(&rt, &list, &mut tally)?;
+    let mut tally = Tally::new();
+    let end = lines(&rt, &list, &mut tally)?;
     tally.report(&rt)?;
-    if let Some(line) = unread {
-        println!(rt; "the list can't be read from line {line} on")?;
+    // One message for each way to end early.
+    match end {
+        End::Whole => Ok(()),
+        End::Cut(line) | End::Unread(line) | End::More(line) => {
+            println!(rt; "the list can't be read from line {line} on")
+        }
     }
-    Ok(())
 }

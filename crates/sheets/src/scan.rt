@@ -1,14 +1,7 @@
 // Reading a line of the list: numbers and byte strings in hexadecimal, one blank after each, and a full stop at the end.
 ghost use Rattle.std.specs.Prelude.{◌≤◌, length, IfSome};
 
-// The value of a hexadecimal digit.
-fn digit(byte: u8) -> Option<u8> {
-    match byte {
-        b'0'..=b'9' => Some(byte - b'0'),
-        b'a'..=b'f' => Some(byte - b'a' + 10),
-        _ => None,
-    }
-}
+use listing::digit;
 
 // What is left of a line. Each method takes what it reads, and is none where that is not as it should be.
 #[derive(Clone, Copy)]
@@ -35,13 +28,7 @@ impl<'a> Scan<'a> {
         if field.is_empty() {
             return None;
         }
-        let mut number = 0u64;
-        for byte in field {
-            number = number
-                .checked_mul(16)?
-                .checked_add(u64::from(digit(*byte)?))?;
-        }
-        Some(number)
+        listing::number(field)
     }
 
     // Numbers into all of `out`.

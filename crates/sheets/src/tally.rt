@@ -1,5 +1,6 @@
 // What was met: for each part and in all, the cases by the number that they should answer, and the mismatches.
-use std::{fmt, io};
+use listing::Row;
+use std::io;
 
 // What a case belongs to.
 #[derive(Clone, Copy)]
@@ -30,56 +31,38 @@ pub struct Case {
     pub agrees: bool,
 }
 
-// The cases by their numbers, which go to 14, all of them, and the mismatches. styles and registers have such a row too: a crate for the three would need
-// a contract, a proof and an edit that fails for these few lines.
-#[derive(Clone, Copy, Default)]
-struct Row {
-    by_number: [u64; 15],
-    cases: u64,
-    wrong: u64,
-}
-
-impl Row {
-    fn add(&mut self, case: Case) {
-        let number = (case.number % 15) as usize;
-        self.by_number[number] = self.by_number[number].saturating_add(1);
-        self.cases = self.cases.saturating_add(1);
-        self.wrong = self.wrong.saturating_add(u64::from(!case.agrees));
-    }
-}
-
-impl fmt::Display for Row {
-    fn fmt<W: fmt::Write>(&self, f: &mut fmt::Formatter<W>) -> fmt::Result {
-        let (cases, wrong) = (self.cases, self.wrong);
-        write!(f, "{cases} cases, {wrong} mismatches; by number")?;
-        for (number, cases) in self.by_number.iter().enumerate() {
-            if *cases > 0 {
-                write!(f, " {number}:{cases}")?;
-            }
-        }
-        Ok(())
-    }
-}
-
 // A row for each part, and one for all.
-#[derive(Clone, Copy, Default)]
+#[derive(Clone, Copy)]
 pub struct Tally {
-    readings: Row,
-    calls: Row,
-    given: Row,
-    read_back: Row,
-    total: Row,
+    readings: Row<15>,
+    calls: Row<15>,
+    given: Row<15>,
+    read_back: Row<15>,
+    total: Row<15>,
 }
 
 impl Tally {
-    pub fn add(&mut self, case: Case) {
-        match case.part {
-            Part::Reading => self.readings.add(case),
-            Part::Call => self.calls.add(case),
-            Part::GivenSheet => self.given.add(case),
-            Part::ReadBack => self.read_back.add(case),
+    pub fn new() -> Tally {
+        Tally {
+            readings: Row::new(),
+            calls: Row::new(),
+            given: Row::new(),
+            read_back: Row::new(),
+            total: Row::new(),
         }
-        self.total.add(case);
+    }
+
+    // Numbers go to 14; of a higher one the rest counts.
+    pub fn add(&mut self, case: Case) {
+        let number = (case.number % 15) as usize;
+        let wrong = !case.agrees;
+        match case.part {
+            Part::Reading => self.readings.add(number, wrong),
+            Part::Call => self.calls.add(number, wrong),
+            Part::GivenSheet => self.given.add(number, wrong),
+            Part::ReadBack => self.read_back.add(number, wrong),
+        }
+        self.total.add(number, wrong);
     }
 
     pub fn report(&self, rt: &impl Print) -> io::Result<()> {

@@ -49,7 +49,7 @@ pub fn left_words(words: &mut [u64], k: usize)
         arch::fill_words(words, 0, whole, 0);
         return;
     }
-    // From the top down, so that each word is read before it is overwritten.
+    // From the top down, so that each word is read before it is overwritten. By index, as in `turn_up`: over `iter_mut` one word is made at a time.
     for i in (whole + 1..n).rev() {
         words[i] = step(words[i - whole - 1], words[i - whole], down, up);
     }
@@ -74,7 +74,7 @@ pub fn right_words(words: &mut [u64], k: usize)
         arch::fill_words(words, n - whole, n, 0);
         return;
     }
-    // From the bottom up, so that each word is read before it is overwritten.
+    // From the bottom up, so that each word is read before it is overwritten. By index, as in `turn_up`.
     let last = n - whole - 1;
     for i in 0..last {
         words[i] = step(words[i + whole], words[i + whole + 1], down, up);
@@ -135,6 +135,7 @@ fn turn_up(words: &mut [u64], up: usize)
 }
 
 // Each bit goes `down` places down, within its word or into the one before; those that pass the start go to the end.
+// Not one function with `turn_up`: order, neighbour and edge would all be arguments.
 fn turn_down(words: &mut [u64], down: usize)
     requires { (0 < length words.old) × (down < 64) }
     ensures { words.new

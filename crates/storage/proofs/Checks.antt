@@ -7,7 +7,7 @@ use native.Mathlib.Omega.{arith}
 use lib.ListN.{length}
 use borrow.Author.Tests.{lt-ltb, le-ltb}
 use Rattle.word.proofs.Cases.{by_lt, zero_one}
-use Rattle.std.specs.Prelude.{Result, Ok, Err, ⊤, IsErr, IsErrAnd}
+use Rattle.std.specs.Prelude.{Result, Ok, Err, ⊤, IsErr, IsErrAnd, MatchResult}
 use Rattle.storage.specs.Refusals.{number_of, Guard, passing, refusing}
 use Rattle.storage.specs.Stores.{Bits, refused, done, Space, Op, with_count, store_limit, checked, held, reading, reading_both, beside, within}
 use Rattle.storage.specs.Guards.{most_words, Stopped, long, over, Passed, PassedTwo, PassedThree}
@@ -170,6 +170,26 @@ module _ (ws : List ℕ) (b : Bitmap) (ls : List ℕ) (l : Bitmap) (rs : List �
 pub raised : {A E : Type 0} {r : Result A E} {e : E} → IsErr r × IsErrAnd r (λ x. x ≡ e) → r ≡ Err e
 raised {r = Ok a} (p, q) = absurd q
 raised {r = Err d} (p, q) = ap Err q
+
+-- a guard's answer by way of `map_err`, which gives back the record r
+pub handed_on : (r : Bitmap) {a m : Guard} (g : Guard) {P : Refused → Refused → Type 0} → MatchResult a (λ u. m ≡ Ok u) (λ e. IsErrAnd m (P e))
+    → ((e d : Refused) → P e d → d ≡ (e.0, r)) → ((u : ⊤) → Ok u ≡ a → passing ≡ g) → ((e : Refused) → Err e ≡ a → refusing r e.0 ≡ g) → m ≡ g
+handed_on r {a = Ok u} g p f pass stop = p ∙ pass u refl
+handed_on r {a = Err e} {m = Err d} g p f pass stop = ap Err (f e d p) ∙ stop e refl
+handed_on r {a = Err e} {m = Ok u} g p f pass stop = absurd p
+
+-- what an answer by way of `map_err` tells of the one before it
+pub mapped_ok : {A E D : Type 0} {a : Result A E} {m : Result A D} (P : E → D → Type 0) {x : A} → MatchResult a (λ y. m ≡ Ok y) (λ e. IsErrAnd m (P e))
+    → m ≡ Ok x → Ok x ≡ a
+mapped_ok {D = D} {a = Ok y} P {x} p q = let t : ◌≡◌ {A = Result _ D} (Ok x) (Ok y) = sym q ∙ p in let u : x ≡ y = cc in ap Ok u
+mapped_ok {a = Err e} {m = Ok y} P p q = absurd p
+mapped_ok {a = Err e} {m = Err d} P p q = zero_one cc
+
+pub mapped_err : {A E D : Type 0} {a : Result A E} {m : Result A D} {P : E → D → Type 0} {d : D} (of : E → D)
+    → m ≡ Err d → MatchResult a (λ y. m ≡ Ok y) (λ e. IsErrAnd m (P e)) → ((e : E) (d : D) → P e d → d ≡ of e) → (e : E) × (Err e ≡ a) × (d ≡ of e)
+mapped_err {a = Ok y} {m} {d = d} of q p f = let t : Ok y ≡ Err d = sym p ∙ q in zero_one cc
+mapped_err {a = Err e} {m = Ok y} of q p f = absurd p
+mapped_err {a = Err e} {m = Err d} of q p f = (e, refl, (let t : d ≡ of e = f e d p in cc))
 
 -- ---- calls that only read
 

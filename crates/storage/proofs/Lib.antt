@@ -3,6 +3,7 @@ pub mod Views
 pub mod Stores
 pub mod Trims
 pub mod Grown
+pub mod Grows
 pub mod Sizes
 pub mod Outcomes
 pub mod Once

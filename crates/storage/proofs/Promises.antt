@@ -166,6 +166,10 @@ pub amount-call : (f : Bits → Amount) (Rest : Bits → ℕ → ℕ → Type 0)
 amount-call f Rest =
     reading_means Err f (λ r. HandsNone (answer_number r) (amount_value r)) (λ b r. Rest b (answer_number r) (amount_value r)) (λ e. (refl, refl))
 
+-- a field is a number as a count is
+pub field-call : (f : Bits → Amount) (Rest : Bits → ℕ → ℕ → Type 0) → ((b : Bits) → Bounded b → Rest b (answer_number (f b)) (amount_value (f b))) → AmountCall f Rest
+field-call = amount-call
+
 pub truth-call : (f : Bits → Truth) (Rest : Bits → ℕ → ℕ → Type 0) → ((b : Bits) → Bounded b → Rest b (answer_number (f b)) (truth_value (f b))) → TruthCall f Rest
 truth-call f Rest =
     reading_means Err f (λ r. HandsNone (answer_number r) (truth_value r)) (λ b r. Rest b (answer_number r) (truth_value r)) (λ e. (refl, refl))

@@ -6,11 +6,14 @@
 ghost use Rattle.std.specs.Prelude.{◌≡◌, Ok};
 ghost use Rattle.storage.specs.Refusals.{number_of, passing, refusing};
 ghost use Rattle.storage.specs.Stores.{checked, zeroed};
+ghost use Rattle.storage.specs.Kernels.{Grows};
 
 // The most words that a store may have.
 pub const LIMIT: usize = 67_108_864;
 
 // A bitmap's record: the words in use, from the start of its store. A new one is made of an old one, as `Bitmap { count: n, ..b }`.
+// A call takes it and its store apart, as both cross from C: a type with the invariant would rule out what is answered with 1 and 2, and one without would
+// say no more.
 #[derive(Clone, Copy, Debug, PartialEq, Eq)]
 pub struct Bitmap {
     pub count: usize,
@@ -80,13 +83,10 @@ pub fn check_two(words: &[u64], b: Bitmap, other: &[u64], o: Bitmap) -> Result<(
     ensures { result ≡ checked words.now b (refusing b) (checked other.now o (refusing b) passing) }
 {
     check(words, b)?;
-    if let Err(Refused(why, _)) = check(other, o) {
-        return Err(Refused(why, b));
-    }
-    Ok(())
+    check(other, o).map_err(|Refused(why, _)| Refused(why, b))
 }
 
-// The same of three.
+// The same of three. One function of any number of stores would need a list of them, built anew for each call.
 pub fn check_three(
     words: &[u64],
     b: Bitmap,
@@ -99,10 +99,7 @@ pub fn check_three(
         ≡ checked words.now b (refusing b) (checked left.now l (refusing b) (checked right.now r (refusing b) passing)) }
 {
     check(words, b)?;
-    if let Err(Refused(why, _)) = check_two(left, l, right, r) {
-        return Err(Refused(why, b));
-    }
-    Ok(())
+    check_two(left, l, right, r).map_err(|Refused(why, _)| Refused(why, b))
 }
 
 // Zeroes the words between two counts, as far as the store has them.
@@ -110,4 +107,18 @@ pub fn zero_words(words: &mut [u64], old: usize, new: usize)
     ensures { words.new ≡ zeroed old new words.old }
 {
     arch::fill_words(words, old, new, 0);
+}
+
+// Room for `need` words: those that come into use are zeroed, and the record counts them. 6 where the store has fewer.
+pub fn grow(words: &mut [u64], b: Bitmap, need: usize) -> Result<Bitmap, Refused>
+    ensures { Grows words.old b need result words.new }
+{
+    if need > words.len() {
+        return Err(Refused(Refusal::NoSpace, b));
+    }
+    zero_words(words, b.count, need);
+    Ok(Bitmap {
+        count: b.count.max(need),
+        ..b
+    })
 }

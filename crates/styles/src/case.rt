@@ -1,7 +1,8 @@
 // One case: a call on memory that is filled as the line says, and what it answers and leaves compared with the line.
 ghost use Rattle.std.specs.Prelude.{◌≤◌};
 
-use std::{array, fmt};
+use listing::{Mismatch, unwritten};
+use std::array;
 use storage::{Bitmap, EMPTY};
 use style::Style;
 use told::Told;
@@ -40,27 +41,6 @@ impl TryFrom<u64> for Part {
             _ => Err(UnknownPart),
         }
     }
-}
-
-// How a case differs from its line.
-#[derive(Clone, Copy)]
-pub enum Mismatch {
-    Answer,
-    Memory,
-}
-
-impl fmt::Display for Mismatch {
-    fn fmt<W: fmt::Write>(&self, f: &mut fmt::Formatter<W>) -> fmt::Result {
-        f.write_str(match self {
-            Mismatch::Answer => "something else is answered",
-            Mismatch::Memory => "something else is left in memory",
-        })
-    }
-}
-
-// What stands in byte k of a buffer before the call; no text has such a byte.
-fn unwritten(k: usize) -> u8 {
-    (128 + k % 128) as u8
 }
 
 // The part, style, capacity and count of the store, what is right, number and count or length; the size of the buffer, the length of the text, the words

@@ -7,7 +7,8 @@ mod list;
 mod tally;
 
 use crate::case::Case;
-use crate::tally::{End, Tally};
+use crate::tally::Tally;
+use listing::End;
 use std::io;
 use std::io::Read;
 
@@ -21,47 +22,33 @@ const LAST: u64 = 15;
 fn one(rt: &impl Print, line: u64, case: &Case<'_>, tally: &mut Tally) -> io::Result<()> {
     let number = case.number;
     let shown = case.replay();
-    tally.add(case.part, number, shown.is_err());
+    tally.add(case.part, number as usize, shown.is_err());
     if let Err(mismatch) = shown {
         println!(rt; "line {line}: number {number} is right, and {mismatch}")?;
     }
     Ok(())
 }
 
-// Every line, up to the last or one that can't be read: how many, and how the list ends.
-fn lines(
-    rt: &(impl Print + AllocGlobal),
-    list: &[u8],
-    tally: &mut Tally,
-) -> io::Result<(u64, End)> {
+// Every line, up to the last or one that can't be read: how the list ends.
+fn lines(rt: &(impl Print + AllocGlobal), list: &[u8], tally: &mut Tally) -> io::Result<End> {
     let mut numbers = Vec::new(rt.alloc());
     let mut last = 0u64;
-    let mut end = End::Cut;
+    let mut whole = false;
     for line in list.split_inclusive(|byte| *byte == b'\n') {
-        if end == End::Whole {
-            return Ok((last, End::More));
+        if whole {
+            return Ok(End::More(last));
         }
         last = last.saturating_add(1);
         let sound = list::read(line, &mut numbers)?;
         if sound && numbers.as_slice() == [LAST, last].as_slice() {
-            end = End::Whole;
+            whole = true;
         } else if sound && let Some(case) = Case::of(&numbers) {
             one(rt, last, &case, tally)?;
         } else {
-            return Ok((last, End::Unread));
+            return Ok(End::Unread(last));
         }
     }
-    Ok((last, end))
-}
-
-// Nothing more where the list is whole.
-fn report(rt: &impl Print, last: u64, end: End) -> io::Result<()> {
-    match end {
-        End::Whole => Ok(()),
-        End::Cut => println!(rt; "the list is cut after line {last}"),
-        End::Unread => println!(rt; "line {last} can't be read"),
-        End::More => println!(rt; "the list goes on after its last line, {last}"),
-    }
+    Ok(if whole { End::Whole } else { End::Cut(last) })
 }
 
 fn main(rt: HostRuntime) -> io::Result<()> {
@@ -70,8 +57,8 @@ fn main(rt: HostRuntime) -> io::Result<()> {
     if list.len() == MOST {
         return println!(rt; "the list is too long");
     }
-    let mut tally = Tally::default();
-    let (last, end) = lines(&rt, &list, &mut tally)?;
+    let mut tally = Tally::new();
+    let end = lines(&rt, &list, &mut tally)?;
     tally.report(&rt)?;
-    report(&rt, last, end)
+    print!(rt; "{end}")
 }

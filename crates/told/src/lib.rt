@@ -77,7 +77,8 @@ pub fn changed() -> Told
     four(0, 2, 0, 0)
 }
 
-// The answers of each kind by a function with a name: `From` would hide at the call which answer is told, and two of them tell a `Result` of a number.
+// The answers of each kind by a function with a name: `From` would hide at the call which answer is told. `amount` and `field` are two, as a count is a
+// `usize` and a field's bits are a `u64`.
 
 // What is tested, or the refusal.
 pub fn truth(t: Result<bool, Refusal>) -> Told

@@ -34,11 +34,6 @@ pub(crate) fn far(op: SetOp, a: &[u64], b: &[u64], from: usize) -> Option<usize>
     ensures { NextBeyond (words_by op a.now b.now) from result }
 {
     let end = pairs::end_of(op, a.len(), b.len());
-    for k in pairs::zero_eights(op, a, b, from)..end {
-        let w = pairs::word_at(op, a, b, k);
-        if w != 0 {
-            return Some(64 * k + Word::trailing_zeros(w));
-        }
-    }
-    None
+    let k = (pairs::zero_eights(op, a, b, from)..end).find(|k| pairs::word_at(op, a, b, *k) != 0)?;
+    Some(64 * k + Word::trailing_zeros(pairs::word_at(op, a, b, k)))
 }

@@ -1,6 +1,8 @@
 // Walks over the numbers that two bitmaps make together, with no result built. The shorter bitmap reads as zero past its words.
 //
 // Every call refuses for the first store and then for the second, and changes nothing. Each kernel takes the words in use of the two bitmaps.
+//
+// The calls differ in the operation alone: C calls each by its own name.
 #![tactic(auto)]
 
 mod kernels;

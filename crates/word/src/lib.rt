@@ -8,6 +8,7 @@ ghost use Rattle.word.specs.Sets.{count_below, least_from, top_below};
 ghost use Rattle.word.specs.Places.{bit};
 ghost use Rattle.word.specs.Words.{low_mask, single, mirrored, without_least, low_product, funneled};
 
+// The place of the Rust's names: std's methods under them, with contracts that speak of sets.
 #[derive(Clone, Copy, Debug, PartialEq, Eq, Hash)]
 pub struct Word(pub u64);
 

@@ -3,7 +3,6 @@
 
 ghost use Rattle.std.specs.Prelude.{◌≡◌, ◌∷◌, ◌+◌, ◌*◌, ◌^◌, ◌<◌, ◌≤◌, length};
 ghost use Rattle.std.proofs.lemmas.List.Edits.{sets};
-ghost use Rattle.word.specs.Sets.{val};
 ghost use Rattle.sheet.specs.Bytes.{bytes};
 ghost use Rattle.sheet.specs.Kinds.{size_in};
 ghost use Rattle.editions.specs.Frames.{count_in};
@@ -61,20 +60,13 @@ fn copy(buffer: &mut [u8], at: usize, payload: &[u8])
     buffer[at..end].copy_from_slice(payload);
 }
 
-// 1 for true.
-fn digit(flag: bool) -> usize
-    ensures { (result ≡ val flag) × (result < 2) }
-{
-    flag as usize
-}
-
 // 13, 3 or 4 of a duty record, or its payload as one number, what is over 64 bits apart.
 fn payload_parts(kind: usize, f: Fields) -> Result<(usize, usize), Refusal>
     ensures { result ≡ parts_of (checked_of (duty kind f)) }
 {
     let p = f.p as usize;
     let k = f.k as usize;
-    let flag = digit(f.flag);
+    let flag = usize::from(f.flag);
     match kind {
         1 | 2 => Ok((0, p)),
         3 => Ok((flag * AT_7 + p / AT_25, p % AT_25 * AT_39 + k * AT_7)),
@@ -168,7 +160,7 @@ fn add_duty(buffer: &mut [u8], length: usize, kind: usize, f: Fields) -> Result<
     Ok(length + 3 + n)
 }
 
-// Adds a record at the end of the sheet that is the buffer's first `length` bytes, and raises R.
+// Adds a record at the end of the sheet that is the buffer's first `length` bytes, and raises R. Kind, fields and length are numbers, as they cross from C.
 pub fn add(
     buffer: &mut [u8],
     length: usize,

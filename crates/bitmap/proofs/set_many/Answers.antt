@@ -3,7 +3,7 @@ use mathlib.Core.Path.{sym, ◌∙◌}
 use native.Mathlib.Omega.{arith}
 use Rattle.storage.proofs.Checks.{passed}
 use Rattle.storage.proofs.Stores.{changes_raised}
-use Rattle.bitmap.proofs.Grows.{no_room}
+use Rattle.storage.proofs.Grows.{no_room}
 use Rattle.bitmap.proofs.Many.{many_refused, many_changes}
 use Rattle.bitmap.proofs.set_many.Goals as goal
 

@@ -1,18 +1,15 @@
--- Whether the operation makes only zero words. Loop: the words made below k are 0.
-use native.Mathlib.Omega.{arith}
-use Rattle.arch.proofs.Scans.{alike_one, alike_join}
-use Rattle.pairs.proofs.Scans.{past_end, zero-not, zero-all, eights_zero}
-use mathlib.Core.Path.{sym, ◌∙◌}
+-- Whether the operation makes only zero words: behind the eights that are, each word up to the end is asked.
+use Rattle.std.proofs.Common.{rules, ◌≡◌, get_or, refl}
+use Rattle.std.proofs.lemmas.Iterator.{YieldsList-from_range, cases_from_all}
+use borrow.Author.Tests.{tests}
+use Rattle.pairs.specs.Pairs.{words_by}
+use Rattle.pairs.proofs.Scans.{zero_from_all}
 use Rattle.pairs.proofs.is_zero.Goals as goal
 
-pub loop-k-init : goal.loop-k-init
-loop-k-init c = (eights_zero _ _ _ _ c.zero_eights-k.ensures).1
-
-pub returns-then-word_at-ne0 : goal.returns-then-word_at-ne0
-returns-then-word_at-ne0 c = zero-not _ _ (λ z. c.if-word_at-ne0.true (c.word_at.ensures ∙ z))
-
-pub loop-k-preserved : goal.loop-k-preserved
-loop-k-preserved c = alike_join c.loop-k.invariant (alike_one _ _ _ (sym c.word_at.ensures ∙ c.if-word_at-ne0.false)) (omega arith)
-
 pub returns : goal.returns
-returns c = zero-all _ (alike_join c.loop-k.invariant (past_end _ _ _ _ c.end_of-end.ensures _) (omega arith))
+returns c =
+    let g = c.args in
+    let ws = words_by g.op g.a.now g.b.now in
+    zero_from_all _ _ _ _ _ _ _ c.zero_eights.ensures c.end_of-end.ensures
+    (cases_from_all _ _ c.all.result (λ k. get_or ws k 0 ≡ 0) (λ k. get_or ws k 0 ≡ 0 → ⊥) c.all.ensures.ran (YieldsList-from_range _ _ _ refl refl)
+    (λ x q t. search (rules, tests)) (λ x q t. search (rules, tests)))

@@ -1,30 +1,27 @@
--- The length of what the operation makes, without trailing zero words. Loop: the words made from k on are 0.
-use native.Mathlib.Omega.{arith}
-use Rattle.arch.proofs.Scans.{alike_to, alike_one, alike_join, nonzero_at, nonzero_none}
-use Rattle.pairs.proofs.Scans.{past_end, end-within}
-use mathlib.Core.Path.{◌≡◌, sym, ◌∙◌}
-use Prim.Native.Nat.{◌+◌, ◌-◌}
+-- The length of what the operation makes, without trailing zero words: those from `end` on are 0, and so are those behind the last other one below it.
+use Rattle.std.proofs.Common.{rules, ◌≡◌, get_or, arith}
+use borrow.Author.Tests.{tests}
+use Rattle.pairs.specs.Pairs.{words_by}
+use Rattle.pairs.proofs.Scans.{last_from_rfind, length_at, length_none}
 use Rattle.pairs.proofs.nonzero_len.Goals as goal
 
-pub loop-k-init : goal.loop-k-init
-loop-k-init c = (
-  omega (
-    arith,
-    end-within c.args.op c.args.a.now
-        c.args.b.now _ c.end_of.ensures,
-    c.zero_eights_down-end.ensures.0,
-  ),
-  alike_join
-      c.zero_eights_down-end.ensures.1 (past_end _ _ _ _ c.end_of.ensures _) (omega arith),
-)
+pub overflow_add-result : goal.overflow_add-result
+overflow_add-result c =
+    let g = c.args in
+    let last = last_from_rfind _ _ (λ k. get_or (words_by g.op g.a.now g.b.now) k 0 ≡ 0 → ⊥) (λ k. get_or (words_by g.op g.a.now g.b.now) k 0 ≡ 0)
+    (λ x q t. search (rules, tests)) (λ x q t. search (rules, tests)) _ _ c.rfind.result c.rfind.ensures.ran in
+    omega (arith, (rw c.in-Some.is at last).0)
 
-pub returns-then-word_at-ne0 : goal.returns-then-word_at-ne0
-returns-then-word_at-ne0 c =
-    let e : c.loop-k.k - 1 + 1 ≡ c.loop-k.k = omega arith in
-    e ∙ nonzero_at _ _ (omega arith) c.loop-k.invariant.0 c.loop-k.invariant.1 (λ z. c.if-word_at-ne0.true (c.word_at.ensures ∙ z))
+pub returns-in-Some : goal.returns-in-Some
+returns-in-Some c =
+    let g = c.args in
+    let last = last_from_rfind _ _ (λ k. get_or (words_by g.op g.a.now g.b.now) k 0 ≡ 0 → ⊥) (λ k. get_or (words_by g.op g.a.now g.b.now) k 0 ≡ 0)
+    (λ x q t. search (rules, tests)) (λ x q t. search (rules, tests)) _ _ c.rfind.result c.rfind.ensures.ran in
+    length_at _ _ _ _ _ c.end_of.ensures c.zero_eights_down-end.ensures _ (rw c.in-Some.is at last)
 
-pub loop-k-preserved : goal.loop-k-preserved
-loop-k-preserved c = (omega arith, alike_join (alike_one _ _ _ (sym c.word_at.ensures ∙ c.if-word_at-ne0.false)) c.loop-k.invariant.1 (omega arith))
-
-pub returns : goal.returns
-returns c = nonzero_none _ (alike_to _ _ c.loop-k.invariant.1 (omega arith) (omega arith))
+pub returns-in-None : goal.returns-in-None
+returns-in-None c =
+    let g = c.args in
+    let last = last_from_rfind _ _ (λ k. get_or (words_by g.op g.a.now g.b.now) k 0 ≡ 0 → ⊥) (λ k. get_or (words_by g.op g.a.now g.b.now) k 0 ≡ 0)
+    (λ x q t. search (rules, tests)) (λ x q t. search (rules, tests)) _ _ c.rfind.result c.rfind.ensures.ran in
+    length_none _ _ _ _ _ c.end_of.ensures c.zero_eights_down-end.ensures (rw c.in-None.is at last)

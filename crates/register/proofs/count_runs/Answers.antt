@@ -19,18 +19,18 @@ fewer : {ws : List ℕ} {b : Bitmap} {n : ℕ} {run : Run} → Passed ws b → A
 fewer {ws} {b} {n} {run} p g h = ahead_below (held ws b) (bounded_view ws b.count) n run g h
 
 pub loop-run-init : goal.loop-run-init
-loop-run-init c = (next_first _ _ c.requires _ c.run_from-run.ensures, omega arith)
+loop-run-init c = (next_first _ _ c.args.held.now.passes _ c.run_from-run.ensures, omega arith)
 
 pub overflow_add-n : goal.overflow_add-n
-overflow_add-n c = omega (arith, c.requires, fewer c.requires c.loop-run.invariant.0 c.loop-run-test.true, runs_fit _ _ c.requires)
+overflow_add-n c = omega (arith, c.args.held.now.passes, fewer c.args.held.now.passes c.loop-run.invariant.0 c.loop-run-test.true, runs_fit _ _ c.args.held.now.passes)
 
 pub loop-run-smaller : goal.loop-run-smaller
-loop-run-smaller c = omega (arith, c.loop-run-test.true, within _ _ c.requires _ _ c.loop-run.invariant.0, next_from _ _ c.requires _ _ c.loop-run.invariant.0 _ c.run_from-run-in-loop-run.ensures)
+loop-run-smaller c = omega (arith, c.loop-run-test.true, within _ _ c.args.held.now.passes _ _ c.loop-run.invariant.0, next_from _ _ c.args.held.now.passes _ _ c.loop-run.invariant.0 _ c.run_from-run-in-loop-run.ensures)
 
 pub loop-run-preserved : goal.loop-run-preserved
 loop-run-preserved c = (
-  next_more _ _ c.requires _ _ c.loop-run.invariant.0 _ c.run_from-run-in-loop-run.ensures,
-  omega (arith, fewer c.requires c.loop-run.invariant.0 c.loop-run-test.true),
+  next_more _ _ c.args.held.now.passes _ _ c.loop-run.invariant.0 _ c.run_from-run-in-loop-run.ensures,
+  omega (arith, fewer c.args.held.now.passes c.loop-run.invariant.0 c.loop-run-test.true),
 )
 
 pub returns : goal.returns

@@ -1,9 +1,8 @@
 -- How many pages some runs take: one where there is none.
-use Rattle.register.proofs.Rows.{pages_one, pages_more}
+use native.Mathlib.Omega.{arith}
+use Rattle.register.specs.Register.{pages_for}
 use Rattle.register.proofs.page_count.Goals as goal
 
-pub returns-then-runs-eq0 : goal.returns-then-runs-eq0
-returns-then-runs-eq0 c = pages_one _ c.if-runs-eq0.true
-
 pub returns : goal.returns
-returns c = pages_more _ c.if-runs-eq0.false
+unfolding pages_for
+returns c = omega (arith, c.max.ensures, c.div_ceil.ensures)

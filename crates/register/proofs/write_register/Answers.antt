@@ -12,17 +12,8 @@ use Rattle.register.proofs.write_register.Goals as goal
 pub returns-in_err-check : goal.returns-in_err-check
 returns-in_err-check c = registers_raised _ _ _ c.from_residual.ensures (sym c.in_err-check.was ∙ c.check.ensures)
 
-pub count_runs-requires : goal.count_runs-requires
-count_runs-requires c =
-    let ok : Passed c.args.words.now c.args.b =
-    passed _ _ (sym c.in_ok-check.was ∙ c.check.ensures) in
-    ok
-
-pub page_count-pages-requires : goal.page_count-pages-requires
-page_count-pages-requires c =
-    let ok : Passed c.args.words.now c.args.b =
-    passed _ _ (sym c.in_ok-check.was ∙ c.check.ensures) in
-    omega (arith, c.count_runs.ensures, ok, runs_fit _ _ ok)
+pub invariant_of-held : goal.invariant_of-held
+invariant_of-held c = record { passes = passed _ _ (sym c.in_ok-check.was ∙ c.check.ensures) }
 
 pub overflow_mul-len-2 : goal.overflow_mul-len-2
 overflow_mul-len-2 c =
@@ -35,24 +26,6 @@ returns-then-len-out c =
     let ok : Passed c.args.words.now c.args.b =
     passed _ _ (sym c.in_ok-check.was ∙ c.check.ensures) in
     registers_short _ _ _ ok _ (c.page_count-pages.ensures ∙ ap pages_for c.count_runs.ensures) c.if-len-out.true
-
-pub count_bits-requires : goal.count_bits-requires
-count_bits-requires c =
-    let ok : Passed c.args.words.now c.args.b =
-    passed _ _ (sym c.in_ok-check.was ∙ c.check.ensures) in
-    ok
-
-pub put_lines-requires : goal.put_lines-requires
-put_lines-requires c =
-    let ok : Passed c.args.words.now c.args.b =
-    passed _ _ (sym c.in_ok-check.was ∙ c.check.ensures) in (
-      ok,
-      record {
-        pages_are = c.page_count-pages.ensures ∙ ap pages_for c.count_runs.ensures;
-        count_is = c.count_bits.ensures;
-        room = omega (arith, c.if-len-out.false);
-      },
-    )
 
 pub returns : goal.returns
 returns c =

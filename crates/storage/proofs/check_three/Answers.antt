@@ -1,15 +1,14 @@
 -- The first store's refusal, and where it has none what is found of the two others in their order.
 use mathlib.Core.Path.{sym, ◌∙◌}
-use Rattle.storage.proofs.Checks.{guard_stops, guard_goes_on, raised, stops_giving_two, passes_giving_two}
+use Rattle.std.proofs.Common.{rules}
+use Rattle.storage.proofs.Checks.{guard_stops, guard_goes_on, raised, stops_giving_two, passes_giving_two, handed_on}
 use Rattle.storage.proofs.check_three.Goals as goal
 
 pub returns-in_err-check : goal.returns-in_err-check
 returns-in_err-check c = raised c.from_residual.ensures ∙ guard_stops _ _ _ _ _ (sym c.in_err-check.was ∙ c.check.ensures)
 
-pub returns-in-Err : goal.returns-in-Err
-returns-in-Err c =
-    guard_goes_on _ _ _ _ _ _ (sym c.in_ok-check.was ∙ c.check.ensures) (stops_giving_two _ _ _ _ _ _ (sym c.in-Err.is ∙ c.check_two.ensures))
-
 pub returns : goal.returns
 returns c =
-    guard_goes_on _ _ _ _ _ _ (sym c.in_ok-check.was ∙ c.check.ensures) (passes_giving_two _ _ _ _ _ _ (sym c.in_default.is ∙ c.check_two.ensures))
+    guard_goes_on _ _ _ _ _ _ (sym c.in_ok-check.was ∙ c.check.ensures)
+    (handed_on c.args.b _ c.map_err.ensures.cases (λ e d h. search rules)
+    (λ u q. passes_giving_two _ _ _ _ _ _ (q ∙ c.check_two.ensures)) (λ e q. stops_giving_two _ _ _ _ _ _ (q ∙ c.check_two.ensures)))

@@ -1,8 +1,8 @@
--- The first e words become the operation's of both slices. Loop: below k they are, from k on they are as they were.
+-- The first e words become the operation's of both slices. Loop: of those e the first k are, the others are as they were.
 use lib.ListN.{get_or}
 use Rattle.word.proofs.Sweep.{Swept}
 use Rattle.pairs.specs.Pairs.{words_by}
 use Rattle.combine.proofs.kernels.zip_words.Given as goal
 
 abbrev pub invariant-loop-k : goal.invariant-loop-k
-invariant-loop-k l = Swept l.initial.words (λ i. get_or (words_by l.op l.left l.right) i 0) 0 l.k l.words
+invariant-loop-k l = Swept l.initial.word-items (λ i. get_or (words_by l.op l.left l.right) i 0) 0 l.k l.word-items

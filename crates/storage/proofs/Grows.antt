@@ -9,7 +9,7 @@ use Rattle.storage.specs.declared.Bitmap.{Bitmap}
 use Rattle.storage.specs.declared.Refusal.TheVariants.{NoSpace}
 use Rattle.storage.specs.declared.Refused.{Refused}
 use Rattle.storage.proofs.Checks.{raised}
-use Rattle.bitmap.specs.Kernels.{Grows}
+use Rattle.storage.specs.Kernels.{Grows}
 
 pub no_room : (op : Op) (ws ws' : List ℕ) (b : Bitmap) (need : ℕ) {r : Change} {e : Refused} → IsErr r × IsErrAnd r (λ x. x ≡ e)
     → Grows ws b need (Err e) ws' → Changes op ws b (refusing b NoSpace) ws → Changes op ws b r ws'
