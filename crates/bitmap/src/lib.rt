@@ -33,7 +33,7 @@ pub fn set(words: &mut [u64], b: Bitmap, i: usize) -> Result<Bitmap, Refused>
     Ok(grown)
 }
 
-// Clears bit i; never grows.
+// Clears bit i; never grows. Not by `keep_places`: the word count stays.
 pub fn unset(words: &mut [u64], b: Bitmap, i: usize) -> Result<Bitmap, Refused>
     ensures { Changes (unsetting i) words.old b result words.new }
 {
@@ -173,7 +173,8 @@ pub fn andnoti(words: &mut [u64], b: Bitmap, i: usize) -> Result<Bitmap, Refused
     keep_places(words, b, i, !Word::bit(i))
 }
 
-// Flips bit i; grows to its word. Trailing zero words go where that word is the last and is then zero.
+// Flips bit i; grows to its word. Trailing zero words go where that word is the last and is then zero: after `set` it never is, and one function of both
+// would look all the same.
 pub fn xori(words: &mut [u64], b: Bitmap, i: usize) -> Result<Bitmap, Refused>
     ensures { Changes (flipping_bit i) words.old b result words.new }
 {

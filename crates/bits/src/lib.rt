@@ -86,7 +86,8 @@ fn count_places(x: u64, from: usize, end: usize) -> usize
     Word::count_ones((x >> from) & Word::low_mask(end - from))
 }
 
-// The set bits from i on, below `end`: the two edge words by their places, the words between whole.
+// The set bits from i on, below `end`: the two edge words by their places, the words between whole. The guard gives `store_limit`, here and below: a type for
+// such words would be built at each call.
 fn count_between(words: &[u64], i: usize, end: usize) -> usize
     requires { (i ≤ end) × (end ≤ 64 * length words.now) × (length words.now ≤ store_limit) }
     ensures { result ≡ count_below (λ j. member words.now (i + j)) (end - i) }
@@ -163,7 +164,7 @@ fn skip_words(words: &[u64], r: usize) -> Option<Skip>
 {
     let from = skip_eights(words, r);
     let mut left = from.left;
-    // By index, as that is what is answered: an enumerated rest of the words counts from `from.at` on.
+    // By index, as that is what is answered: `enumerate` and `skip` would say no more.
     for at in from.at..words.len() {
         let c = Word::count_ones(words[at]);
         if left < c {

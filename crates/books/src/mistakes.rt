@@ -35,6 +35,7 @@ fn trim_before_rotation(rt: &impl Print) -> io::Result<()> {
     show::change(rt, shift::rotate_right(&mut same, trimmed, 1), &same)
 }
 
+// One edition's line. It is printed as numbers, 0 where the sheet is read; notes has the like, with the list where this prints every word.
 fn reading(rt: &impl Print, edition: usize, sheet: &[u8]) -> io::Result<()> {
     let mut store = [7; 2];
     let (number, record, count) = match reader::read(edition, sheet, &[0], EMPTY, &mut store) {

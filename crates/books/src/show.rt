@@ -16,7 +16,7 @@ impl fmt::Display for Words<'_> {
     }
 }
 
-// Number, word count, words.
+// Printed as numbers: the refusal's, or 0 where there is none, the word count, the words.
 pub(crate) fn change(rt: &impl Print, c: Result<Bitmap, Refused>, words: &[u64]) -> io::Result<()> {
     let (number, count) = match c {
         Ok(b) => (0, b.count),

@@ -12,7 +12,7 @@ ghost use Rattle.decode.specs.Kernels.{payload_length, asks, Turned, Paired};
 use sheet::{AT_1, AT_7, AT_25, AT_32, AT_39, AT_63, Edit};
 use storage::Refusal;
 
-// The number whose bytes are given, the most significant first.
+// The number whose bytes are given, the most significant first. `u64::from_be_bytes` takes eight, and a part of a payload has 1, 4, 5 or 8.
 fn number_of(bytes: &[u8]) -> usize
     requires { length bytes.now ≤ 8 }
     ensures { (result ≡ number bytes.now) × (result < 256 ^ length bytes.now) }
@@ -24,7 +24,7 @@ fn number_of(bytes: &[u8]) -> usize
     x
 }
 
-// Kind 3: the value, p and k, then 7 unused bits.
+// Kind 3: the value, p and k, then 7 unused bits, which this and two others test: a function of the test would be as long as the test.
 fn region(payload: &[u8]) -> Result<Edit, Refusal>
     requires { length payload.now ≡ 9 }
     ensures { result ≡ asks (rule_of 3 payload.now) }
@@ -93,7 +93,7 @@ fn pair(payload: &[u8]) -> (usize, usize)
     (x / AT_32, x % AT_32)
 }
 
-// A payload of its kind's length. A kind is the number that stands in the sheet; it is told apart here alone.
+// A payload of its kind's length. A kind stays the number that stands in the sheet, as `rule_of` takes it.
 fn decode(kind: usize, payload: &[u8]) -> Result<Edit, Refusal>
     requires { (length payload.now ≡ payload_length kind) × (1 ≤ kind) × (kind ≤ 11) }
     ensures { result ≡ asks (rule_of kind payload.now) }

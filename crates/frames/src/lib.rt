@@ -7,7 +7,7 @@ ghost use Rattle.frames.specs.Frames.{end_in, fault_by};
 
 use storage::Refusal;
 
-// The byte at a place, 0 past the end.
+// The byte at a place, 0 past the end. arch has the same of words: a generic one would be as long as either.
 fn byte_at(bytes: &[u8], at: usize) -> usize
     ensures { (result ≡ get_or bytes.now at 0) × (result < 256) }
 {
@@ -21,14 +21,14 @@ pub fn has_head(sheet: &[u8]) -> bool
     sheet.len() >= 4 && sheet.starts_with(&sheet::LETTERS)
 }
 
-// The record count R.
+// The record count R, of any bytes: `u16::from_be_bytes` would be given the same two.
 pub fn record_count(sheet: &[u8]) -> usize
     ensures { result ≡ count_in sheet.now }
 {
     byte_at(sheet, 2) * 256 + byte_at(sheet, 3)
 }
 
-// Where the record at a place ends, if the sheet has it whole.
+// Where the record at a place ends, if the sheet has it whole. `u16::from_be_bytes` would take the two bytes of its length by the same places.
 pub fn record_end(sheet: &[u8], at: usize) -> Option<usize>
     ensures { result ≡ end_in sheet.now at }
 {

@@ -1,5 +1,5 @@
 // What the programs that replay a list have in common: hexadecimal numbers, unwritten memory, the cases by what they should answer, how a case differs
-// from its line, and how a list ends.
+// from its line, and how a list ends. Each has its own loop over the lines, as what a line is differs: a shared one would be handed all but the count.
 #![tactic(auto)]
 
 ghost use Rattle.std.specs.Prelude.{◌≡◌, ℕ, ◌+◌, ◌-◌, ◌%◌, ◌^◌, min, replicate, slice_set, slice_index_or, if◌then◌else◌, nat_lt};
@@ -7,7 +7,7 @@ ghost use Rattle.listing.specs.Numbers.{digit_of, number_from};
 
 use std::fmt;
 
-// The value of a hexadecimal digit.
+// The value of a hexadecimal digit. `char::to_digit` takes capitals too, which no list has.
 pub fn digit(byte: u8) -> Option<u8>
     ensures { result ≡ digit_of byte }
 {
@@ -18,7 +18,7 @@ pub fn digit(byte: u8) -> Option<u8>
     }
 }
 
-// A hexadecimal number below 2^64; 0 without digits.
+// A hexadecimal number below 2^64; 0 without digits, which `u64::from_str_radix` refuses.
 pub fn number(digits: &[u8]) -> Option<u64>
     ensures { result ≡ number_from 0 digits.now }
 {
@@ -104,6 +104,7 @@ impl fmt::Display for Mismatch {
 }
 
 // How a list ends: after its last line, before it, at a line that can't be read, or with more behind its last line; the number is the line's.
+// No `Result`: all four are how a list ends, and each is printed; an error of reading or printing goes by `io::Result` beside it.
 #[derive(Clone, Copy, Debug, PartialEq, Eq)]
 pub enum End {
     Whole,

@@ -34,19 +34,20 @@ pub fn move_up(words: &mut [u64], whole: usize)
     ensures { words.new ≡ up_words whole words.old }
 {
     let n = words.len().saturating_sub(whole);
-    // From the top down, so that each piece is read before it is overwritten.
+    // From the top down, so that each piece is read before it is overwritten; by its number, as it is read and written in the same words.
     for k in (0..n.div_ceil(PIECE)).rev() {
         let from = k * PIECE;
         move_piece(words, from, from + whole, PIECE.min(n - from));
     }
 }
 
-// Each word goes `whole` words down, as far as there is room; the highest stay as they were.
+// Each word goes `whole` words down, as far as there is room; the highest stay as they were. Order and places differ from `move_up`: what they share is
+// `move_piece`.
 pub fn move_down(words: &mut [u64], whole: usize)
     ensures { words.new ≡ down_words whole words.old }
 {
     let n = words.len().saturating_sub(whole);
-    // From the bottom up, so that each piece is read before it is overwritten.
+    // From the bottom up, so that each piece is read before it is overwritten; by its number, as above.
     for k in 0..n.div_ceil(PIECE) {
         let to = k * PIECE;
         move_piece(words, to + whole, to, PIECE.min(n - to));

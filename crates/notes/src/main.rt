@@ -23,7 +23,7 @@ fn list(rt: &impl Print, words: &[u64], b: Bitmap) -> io::Result<()> {
     Ok(())
 }
 
-// One edition's line.
+// One edition's line. It is printed as numbers, 0 where the sheet is read.
 fn line(rt: &impl Print, edition: usize, sheet: &[u8]) -> io::Result<()> {
     let mut store = [0; 128];
     let (number, record, b) = match reader::read(edition, sheet, &[0], EMPTY, &mut store) {

@@ -3,7 +3,7 @@
 // Every public function is total. One function serves every operation, and a call names one: where the body is short enough the compiler takes it into the
 // call, with no test of the operation left in its loops.
 //
-// The eights are not those of arch: two slices are met by one index here, and the shorter one has zeros past its end.
+// The eights are not those of arch: an eight is looked at in two slices here, where both have it. All other words are looked at one by one.
 #![tactic(auto)]
 
 ghost use Rattle.std.specs.Prelude.{◌≡◌, ◌↔◌, ◌+◌, ◌≤◌, min, length, get_or};
@@ -70,7 +70,7 @@ pub fn zero_eights(op: SetOp, a: &[u64], b: &[u64], from: usize) -> usize
     ensures { result ≡ zero_eights (words_by op a.now b.now) (min (length a.now) (length b.now)) from }
 {
     let whole = a.len().min(b.len()).saturating_sub(from) / 8;
-    // By index: an eight is looked at in both slices, from `from` on.
+    // By index, as `some_in_eight` takes it.
     for i in 0..whole {
         let k = from + 8 * i;
         if some_in_eight(op, a, b, k) != 0 {
@@ -88,14 +88,15 @@ pub fn is_zero(op: SetOp, a: &[u64], b: &[u64]) -> bool
     (zero_eights(op, a, b, 0)..end).all(|k| word_at(op, a, b, k) == 0)
 }
 
-// An index up to `from` from which on every word is zero, as far as eights tell: where both slices have the words below it.
+// An index up to `from` from which on every word is zero, as far as eights tell: where both slices have the words below it. Other places than those of
+// `zero_eights`, another order and another answer: what is common is `some_in_eight`.
 fn zero_eights_down(op: SetOp, a: &[u64], b: &[u64], from: usize) -> usize
     ensures { (result ≤ from) × Alike (words_by op a.now b.now) 0 result from }
 {
     if from > a.len().min(b.len()) {
         return from;
     }
-    // By index: an eight is looked at in both slices, from `from` down.
+    // By index, as `some_in_eight` takes it.
     for i in 0..from / 8 {
         let end = from - 8 * i;
         if some_in_eight(op, a, b, end - 8) != 0 {

@@ -42,7 +42,8 @@ fn gap_len(at: usize, blank: bool) -> usize
     if blank { 2 } else { 1 }
 }
 
-// The length of a range of two numbers or more.
+// The length of a range of two numbers or more. `Allowed` and `Printable` are asked, here and below, and no types: six of the eight contracts that ask them
+// have a bound of places or numbers beside, which would stay.
 fn pair_len(a: usize, b: usize, style: Style) -> usize
     requires { Allowed style × (a < b) × (b ≤ list_limit) }
     ensures { result ≡ length (printed style (range a b)) }
@@ -106,7 +107,8 @@ fn put_number(out: &mut [u8], at: usize, x: usize) -> usize
     end
 }
 
-// Puts the digits of x at a place, where the buffer has room for them; the place after them, or the same place where nothing is put.
+// Puts the digits of x at a place, where the buffer has room for them; the place after them, or the same place where nothing is put, as `PutsDecimal` says.
+// `put_number` does not test the room: its contract asks for it, and its callers have measured.
 pub fn put_decimal(out: &mut [u8], at: usize, x: usize) -> usize
     ensures { PutsDecimal at x result out.old out.new }
 {
@@ -238,7 +240,7 @@ impl Held<'_> {
 }
 
 // The next run from i on; one that began before i is taken from i on. Where there is none, an empty one at the length; where 1 or 2 applies, at 0.
-// {3, 7, 8}: from 4 on it is 7 to 8, from 8 on 8 alone.
+// {3, 7, 8}: from 4 on it is 7 to 8, from 8 on 8 alone. Empty runs, and no `Option`, as `AnswersRun` says.
 pub fn run_from(words: &[u64], b: Bitmap, i: usize) -> Run
     ensures { AnswersRun words.now b i result }
 {

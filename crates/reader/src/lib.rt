@@ -59,7 +59,8 @@ fn perform(
     }
 }
 
-// The record at a place, its frame whole: a remark does nothing.
+// The record at a place, its frame whole: a remark does nothing. `Padded` is said of a store and its record here, above and below: a struct of them would be
+// taken apart at each call of the library.
 fn turn(
     edition: usize,
     sheet: &[u8],
@@ -73,6 +74,7 @@ fn turn(
         (held words.old b)) words.old b result words.new }
 {
     let first = sheet[at] as usize;
+    // A duty record has the top bit of the first byte, as the format says.
     if first < 128 {
         return Ok(b);
     }
@@ -93,6 +95,7 @@ fn each_record(
 {
     let mut count = old;
     let mut at = 4;
+    // By number, as a refusal says which record it came to.
     for i in 0..n {
         let Some(end) = frames::record_end(sheet, at) else {
             return Err(ReadError(Refusal::CutRecord, i + 1));

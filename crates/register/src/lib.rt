@@ -42,7 +42,7 @@ fn put_blanks(out: &mut [u8], at: usize, n: usize) -> usize
     end
 }
 
-// Puts a number, right-aligned in its column; the place after it.
+// Puts a number, right-aligned in its column; the place after it. Numbers are reckoned on the way, so a type for a narrow one would be built for each.
 fn put_column(out: &mut [u8], at: usize, x: usize) -> usize
     requires { Narrow x × (at + 12 ≤ length out.old) }
     ensures { Puts at (column x) result out.old out.new }
@@ -104,6 +104,7 @@ fn put_lines(held: &Held<'_>, out: &mut [u8], pages: usize, count: usize)
 {
     let lines = LINES * pages;
     let mut run = print::run_from(held.words, held.bitmap, 0);
+    // By number, as `put_next` tells by it the last line of a page, and where the line stands.
     for k in 0..lines {
         run = put_next(held, out, k, run, pages, count);
     }
@@ -129,7 +130,7 @@ fn page_count(runs: usize) -> usize
     runs.div_ceil(RUNS).max(1)
 }
 
-// How many set bits there are.
+// How many set bits there are. The guard has let the bitmap pass, so no refusal comes and the 0 is never taken.
 fn count_bits(held: &Held<'_>) -> usize
     ensures { result ≡ size (bits_of held.now) }
 {

@@ -57,7 +57,7 @@ impl<'a> Case<'a> {
         (self.text.len() / LINE) as u64
     }
 
-    // A buffer with the text, and unwritten behind it.
+    // A buffer with the text, and unwritten behind it: an array, as what lies past the lent part is compared too.
     fn written(&self) -> [u8; BUFFER] {
         array::from_fn(|k| match self.text.get(k) {
             Some(byte) => *byte,

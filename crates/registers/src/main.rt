@@ -16,10 +16,10 @@ use std::io::Read;
 // The bytes that no list has.
 const MOST: usize = 1_048_576;
 
-// Stands for a capacity on the last line, which has its own number and no more.
+// Stands for a capacity on the last line, which has its own number and no more: a number of the list.
 const LAST: u64 = 15;
 
-// Replays the case of a line.
+// Replays the case of a line. As in styles but for the tally: one function of both would be handed the replay and the count.
 fn one(rt: &impl Print, line: u64, case: Case<'_>, tally: &mut Row<17>) -> io::Result<()> {
     let number = case.number;
     let shown = case.replay();
@@ -45,6 +45,7 @@ fn lines(rt: &(impl Print + AllocGlobal), list: &[u8], tally: &mut Row<17>) -> i
     let mut numbers = Vec::new(rt.alloc());
     let mut last = 0u64;
     let mut rest = list;
+    // Not `split_inclusive`, as in styles: the text behind a line has line ends too, and the line says how long it is.
     while !rest.is_empty() {
         last = last.saturating_add(1);
         let (line, behind) = split_line(rest);

@@ -1,4 +1,4 @@
-// The calls by their numbers, 16 times the kind and the place in it: no enum, for the number stands once, beside the call that it is.
+// The calls by their numbers in the list, 16 times the kind and the place in it. No variants: each would be one more name for the call in its arm.
 use crate::case::{Arguments, Case};
 use crate::store::{Lent, LentMut};
 use crate::{changing, kernels, reading};

@@ -6,7 +6,7 @@ use storage::Refusal;
 use style::PLAIN;
 use told::Told;
 
-// In place of a call: the list names the call whose cases stand above.
+// Numbers of the list. In place of a call: the list names the call whose cases stand above.
 const TITLE: u64 = 256;
 
 const SPLIT_OFF: u64 = 0xf2;
@@ -14,7 +14,7 @@ const SPLIT_OFF: u64 = 0xf2;
 // The tag of an answer where the call may have changed its store: a number of told's and of the list.
 const CHANGED: u64 = 2;
 
-// How a case differs from its line.
+// How a case differs from its line. Not listing's `Mismatch`, which has one name for all memory and none for a line that can't be read.
 #[derive(Clone, Copy)]
 pub enum Mismatch {
     Answer,
@@ -34,7 +34,7 @@ impl fmt::Display for Mismatch {
     }
 }
 
-// An answer in the numbers of the list.
+// An answer in the numbers of the list: not a `Told`, whose number is a `u32`, where a line may have any.
 #[derive(Clone, Copy, PartialEq)]
 struct Answer {
     number: u64,
@@ -182,6 +182,7 @@ impl<'a> Case<'a> {
 
     fn make(&self, words: &mut [u64], other: &mut [u64]) -> Result<(), Mismatch> {
         let record = self.first.record();
+        // Here the calls that read the list, are compared with it, or write the second store, by their numbers as in `call`.
         let got = match self.call {
             0xf1 => self.set_many(words),
             SPLIT_OFF => told::split(shape::split_off(words, record, self.arguments.x, other)),

@@ -43,7 +43,8 @@ pub(crate) fn scan(call: u64, words: &[u64]) -> Option<Told> {
     Some(got)
 }
 
-// The guard of a store of x words and a count; an answer that no line has where x is more than the list may ask for.
+// The guard of a store of x words and a count; an answer that no line has where x is more than the list may ask for: `None` would say that there is no
+// such call.
 fn guard(x: usize, y: usize) -> Told {
     let store = [0u64; GUARDED];
     match store.get(..x) {

@@ -18,7 +18,7 @@ use std::{fmt, io, mem};
 // The most lines of a list.
 const MOST: u64 = 100_000_000;
 
-// Cases and mismatches; malformed lines are mismatches.
+// Cases and mismatches; malformed lines are mismatches. Not a row of listing, as no number is counted by itself.
 #[derive(Clone, Copy, Default)]
 struct Tally {
     cases: u64,

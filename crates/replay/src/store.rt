@@ -94,7 +94,7 @@ impl<'a> Given<'a> {
     }
 }
 
-// Bytes as a list gives them, and the pattern behind them.
+// Bytes as a list gives them, and the pattern behind them: an array, as a call writes a part of it and the whole is compared.
 #[derive(Clone, Copy)]
 pub struct Text {
     pub bytes: [u8; BYTES],

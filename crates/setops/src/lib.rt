@@ -16,7 +16,7 @@ ghost use Rattle.setops.specs.Setops.{combining, uniting};
 use pairs::SetOp;
 use storage::{Bitmap, Refusal, Refused};
 
-// The operation on the words below e.
+// The operation on the words below e, in place: a store can't be lent twice, so combine has its own, which writes into a third.
 fn zip_words(op: SetOp, words: &mut [u64], other: &[u64], e: usize)
     requires { (e ≤ length words.old) × (e ≤ length other.now) }
     ensures { Put (λ k. word_by op (get_or words.old k 0) (get_or other.now k 0)) 0 e words.old words.new }
@@ -26,7 +26,8 @@ fn zip_words(op: SetOp, words: &mut [u64], other: &[u64], e: usize)
     }
 }
 
-// The words that the operation makes of those in use and the other's. A word that comes into use is zero before, one that falls out of use after.
+// The words that the operation makes of those in use and the other's, in place, as above. A word that comes into use is zero before, one that falls out of
+// use after.
 fn put(op: SetOp, words: &mut [u64], n: usize, other: &[u64], end: usize)
     requires { (n ≤ length words.old) × (end ≤ length words.old) × (end ≡ end_by op n (length other.now)) }
     ensures { Put (λ k. get_or (words_by op (take n words.old) other.now) k 0) 0 (max n end)

@@ -40,7 +40,7 @@ pub struct Kind {
     pub since: usize,
 }
 
-// The kinds 1 to 11; row 0 is no kind.
+// The kinds 1 to 11, each at the number that stands in the sheet; row 0 is no kind.
 pub const KINDS: [Kind; 12] = [
     Kind { bytes: 0, since: 0 },
     Kind { bytes: 4, since: 1 },
@@ -75,7 +75,7 @@ pub enum Edit {
     Close(usize, usize),
 }
 
-// The fields that an addition is given; a kind uses its own. The flag is the value of `set_region`, or the direction.
+// The fields that an addition is given, all of them, as they cross from C; a kind uses its own. The flag is the value of `set_region`, or the direction.
 #[derive(Clone, Copy, Debug, PartialEq, Eq)]
 pub struct Fields {
     pub p: u32,

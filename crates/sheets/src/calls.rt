@@ -13,10 +13,10 @@ const PAYLOAD: usize = 65_600;
 
 const CHANGES: u64 = 16;
 
-// Stands for a start, where an addition has its duty.
+// Stands for a start, where an addition has its duty: a number of the list.
 const START: u64 = 2;
 
-// A number of document 01, and the length of the sheet.
+// A number of document 01, 0 for no refusal, and the length of the sheet: as the list has them, so that they are compared as numbers.
 #[derive(Clone, Copy, PartialEq)]
 struct Answer {
     number: u64,
@@ -87,7 +87,7 @@ struct Lent {
     ghost has_room: { size ≤ 200000 },
 }
 
-// The buffer, and the bytes that it should have.
+// The buffer, and the bytes that it should have. Arrays of the most bytes, made once for all lines: `lent` says how many of them a line lends.
 #[derive(Drop)]
 pub struct Buffer {
     bytes: [u8; BUFFER],

@@ -34,7 +34,7 @@ struct Desk {
 }
 
 impl Desk {
-    // A line, by its letter: one of the hexadecimal digits.
+    // A line, by its letter: one of the hexadecimal digits, as the list has them.
     fn line(&mut self, scan: &mut Scan<'_>) -> Option<Line> {
         match scan.number()? {
             0xa => Some(Line::Case(self.buffer.call(scan)?)),
@@ -98,7 +98,7 @@ fn main(rt: HostRuntime) -> io::Result<()> {
     let mut tally = Tally::new();
     let end = lines(&rt, &list, &mut tally)?;
     tally.report(&rt)?;
-    // One message for each way to end early.
+    // Not the text of `End`: the output of this program has one message for all three.
     match end {
         End::Whole => Ok(()),
         End::Cut(line) | End::Unread(line) | End::More(line) => {

@@ -12,13 +12,13 @@ const OLDEST: usize = 64;
 
 const STORE: usize = 128;
 
-// Says of a result store that it must be as it was, where the list would give how many words follow.
+// Says of a result store that it must be as it was, where the list would give how many words follow: a number of the list.
 const UNTOUCHED: u64 = 256;
 
 // What every word of a result store holds before the reading, with its place added.
 const PATTERN: u64 = 0xa5a5_a5a5_a5a5_a500;
 
-// The numbers of document 01: number, record and word count.
+// Number of document 01, 0 for no refusal, record and word count: as the list has them.
 #[derive(Clone, Copy, PartialEq)]
 struct Answer {
     number: u64,
@@ -43,7 +43,7 @@ impl From<Result<(usize, Bitmap), ReadError>> for Answer {
     }
 }
 
-// The old bitmap, and the capacity of the result's store.
+// The old bitmap, and the capacity of the result's store. An array and not a `Vec`: 64 words are the most, and no line needs memory of its own.
 #[derive(Clone, Copy)]
 pub struct Stores {
     words: [u64; OLDEST],

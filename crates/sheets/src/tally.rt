@@ -31,7 +31,7 @@ pub struct Case {
     pub agrees: bool,
 }
 
-// A row for each part, and one for all.
+// A row for each part, and one for all. The parts are other ones than in styles, and each is met by its name.
 #[derive(Clone, Copy)]
 pub struct Tally {
     readings: Row<15>,

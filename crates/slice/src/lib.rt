@@ -49,7 +49,7 @@ pub fn get_field(words: &[u64], b: Bitmap, i: usize, width: usize) -> Result<u64
     Ok(from & Word::low_mask(width))
 }
 
-// Word k takes the bits of x at the places of the mask.
+// Word k takes the bits of x at the places of the mask. arch has another, which gives all places one value.
 fn overlay(words: &mut [u64], k: usize, x: u64, mask: u64)
     requires { k < length words.old }
     ensures { words.new ≡ set words.old k (overlaid (get_or words.old k 0) x mask) }

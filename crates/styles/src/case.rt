@@ -44,7 +44,7 @@ impl TryFrom<u64> for Part {
 }
 
 // The part, style, capacity and count of the store, what is right, number and count or length; the size of the buffer, the length of the text, the words
-// of the store before and after the call, and the text, eight bytes a number.
+// of the store before and after the call, and the text, eight bytes a number, so that its length stands beside it.
 #[derive(Drop)]
 pub struct Case<'a> {
     pub part: Part,

@@ -15,10 +15,10 @@ use std::io::Read;
 // The bytes that no list has.
 const MOST: usize = 1_048_576;
 
-// Stands for a part on the last line, which has its own number and no more.
+// Stands for a part on the last line, which has its own number and no more: a number of the list.
 const LAST: u64 = 15;
 
-// Replays the case of a line.
+// Replays the case of a line. As in registers but for the tally: one function of both would be handed the replay and the count.
 fn one(rt: &impl Print, line: u64, case: &Case<'_>, tally: &mut Tally) -> io::Result<()> {
     let number = case.number;
     let shown = case.replay();

@@ -3,7 +3,7 @@ use crate::case::Part;
 use listing::Row;
 use std::io;
 
-// A row for each part, and one for all.
+// A row for each part, and one for all. The parts are other ones than in sheets, and each is met by its name.
 #[derive(Clone, Copy)]
 pub struct Tally {
     texts: Row<17>,

@@ -9,6 +9,7 @@ use storage::{Bitmap, Refusal, Refused};
 
 // Document 01's number; a tag, 0 where there is no value, 1 where there is one, 2 where the call may have changed its store; the value, for a
 // changing call the word count; a second value.
+// Without `PartialEq`: replay compares all four as the numbers of its list, and the lists of styles and registers have the number and the value alone.
 #[derive(Clone, Copy)]
 pub struct Told {
     pub number: u32,
@@ -77,8 +78,8 @@ pub fn changed() -> Told
     four(0, 2, 0, 0)
 }
 
-// The answers of each kind by a function with a name: `From` would hide at the call which answer is told. `amount` and `field` are two, as a count is a
-// `usize` and a field's bits are a `u64`.
+// The answers of each kind by a function with a name, as a call then says which answer is told. `amount` and `field` are two: std has no `From<usize>` for
+// `u64`, and one function of both would need a trait of its own for two lines.
 
 // What is tested, or the refusal.
 pub fn truth(t: Result<bool, Refusal>) -> Told

@@ -1,6 +1,7 @@
 // Walks to the lowest set bit, from a place on, of what an operation makes of the words in use of two bitmaps; the shorter list reads as zero past its end.
 //
-// A walk is cut in two where a call seldom goes on: each part is short enough for the compiler to take it into the call, with the operation known.
+// A walk is cut in two where a call seldom goes on: each part is short enough for the compiler to take it into the call, with the operation known. The guard
+// gives `store_limit`: a type for such words would be built at each call.
 ghost use Rattle.std.specs.Prelude.{◌+◌, ◌/◌, ◌≤◌, length};
 ghost use Rattle.pairs.specs.Pairs.{words_by};
 ghost use Rattle.storage.specs.Stores.{store_limit};

@@ -100,6 +100,7 @@ fn moved_down(x: u64, n: usize) -> u64
     x >> n
 }
 
+// As `moved_down`, by the other operator: a function of both would have to be handed it.
 fn moved_up(x: u64, n: usize) -> u64
     ensures { result ≡ x * 2 ^ n % 2 ^ 64 }
 {

@@ -21,15 +21,13 @@ pub fn start(buffer: &mut [u8]) -> Result<usize, Refusal>
     if buffer.len() < 4 {
         return Err(Refusal::NoSpace);
     }
-    let letters = sheet::LETTERS;
-    buffer[0] = letters[0];
-    buffer[1] = letters[1];
-    buffer[2] = 0;
-    buffer[3] = 0;
+    let [first, second] = sheet::LETTERS;
+    copy(buffer, 0, &[first, second, 0, 0]);
     Ok(4)
 }
 
-// The n low bytes of x at a position.
+// The n low bytes of x at a position, from the last to the first. By index: `iter_mut().rev()` hands out bytes without their places, and `sets` has places.
+// `to_be_bytes` has eight bytes, so `n ≤ 8` would be asked here and of `put_parts`, and `bytes` goes on past eight.
 fn put(buffer: &mut [u8], at: usize, n: usize, x: usize)
     requires { at + n ≤ length buffer.old }
     ensures { buffer.new ≡ sets buffer.old at (bytes n x) }
@@ -51,7 +49,7 @@ fn put_parts(buffer: &mut [u8], at: usize, n: usize, high: usize, low: usize)
     put(buffer, at + over, n - over, low);
 }
 
-// A payload at a position.
+// Bytes at a position.
 fn copy(buffer: &mut [u8], at: usize, payload: &[u8])
     requires { at + length payload.now ≤ length buffer.old }
     ensures { buffer.new ≡ sets buffer.old at payload.now }
@@ -60,7 +58,7 @@ fn copy(buffer: &mut [u8], at: usize, payload: &[u8])
     buffer[at..end].copy_from_slice(payload);
 }
 
-// 13, 3 or 4 of a duty record, or its payload as one number, what is over 64 bits apart.
+// 13, 3 or 4 of a duty record, or its payload as one number, what is over 64 bits apart. By the kind's number, as `duty` takes it and C gives it.
 fn payload_parts(kind: usize, f: Fields) -> Result<(usize, usize), Refusal>
     ensures { result ≡ parts_of (checked_of (duty kind f)) }
 {
@@ -90,14 +88,15 @@ fn payload_parts(kind: usize, f: Fields) -> Result<(usize, usize), Refusal>
     }
 }
 
-// The bytes of a kind's payload.
+// The bytes of a kind's payload; 0 for a newer one, as `or_zero` says, which `payload_parts` has refused by then.
 fn payload_size(kind: usize) -> usize
     ensures { result ≡ or_zero (size_in latest kind) }
 {
     sheet::payload_bytes(sheet::LATEST, kind).unwrap_or(0)
 }
 
-// Whether a record with n bytes of payload has no room, or is one too many.
+// Whether a record with n bytes of payload has no room, or is one too many. The buffer and the sheet's length come from C apart, so `Given` is said of both,
+// here and below.
 fn roomless(buffer: &[u8], length: usize, n: usize) -> bool
     requires given { Given buffer.now length }
     requires small { n ≤ most }
@@ -145,7 +144,7 @@ fn add_remark(
     Ok(length + 3 + n)
 }
 
-// A duty record at the end of the sheet.
+// A duty record at the end of the sheet. Its payload is a number and a remark's are bytes: what the two have in common is in `roomless` and `put_head`.
 fn add_duty(buffer: &mut [u8], length: usize, kind: usize, f: Fields) -> Result<usize, Refusal>
     requires { Given buffer.old length }
     ensures { Writes (placed_by buffer.old length (checked_of (duty kind f))) result buffer.new }
