@@ -4,12 +4,11 @@ use mathlib.Core.List.{List}
 use Prim.Native.Nat.{ℕ}
 use Rattle.std.specs.Prelude.{Err, IsErr, IsErrAnd}
 use Rattle.storage.specs.Refusals.{Change, refusing}
-use Rattle.storage.specs.Stores.{Op, Changes}
+use Rattle.storage.specs.Stores.{Op, Changes, Grows}
 use Rattle.storage.specs.declared.Bitmap.{Bitmap}
 use Rattle.storage.specs.declared.Refusal.TheVariants.{NoSpace}
 use Rattle.storage.specs.declared.Refused.{Refused}
 use Rattle.storage.proofs.Checks.{raised}
-use Rattle.storage.specs.Kernels.{Grows}
 
 pub no_room : (op : Op) (ws ws' : List ℕ) (b : Bitmap) (need : ℕ) {r : Change} {e : Refused} → IsErr r × IsErrAnd r (λ x. x ≡ e)
     → Grows ws b need (Err e) ws' → Changes op ws b (refusing b NoSpace) ws → Changes op ws b r ws'

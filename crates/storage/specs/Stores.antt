@@ -1,6 +1,6 @@
 -- What a call makes of a bitmap. Its meaning is a set of numbers and a word count; a call is an operation on those, and the words follow:
 -- word k in use is the set's, a word that falls out of use is 0, and a word outside both counts is as it was (01, "Words that enter and leave use").
-use Rattle.std.specs.Prelude.{ℕ, ◌+◌, ◌-◌, ◌*◌, ◌/◌, ◌^◌, ◌≤◌, max, ◌≡◌, Bool, false, ◌&&◌, List, length, get_or, ltb, leb, eqb, Some, None, Ok}
+use Rattle.std.specs.Prelude.{ℕ, ◌+◌, ◌-◌, ◌*◌, ◌/◌, ◌^◌, ◌≤◌, ◌<◌, max, ◌≡◌, Bool, false, ◌&&◌, List, length, get_or, ltb, leb, eqb, Some, None, Ok, Err}
 use Rattle.word.specs.Sets.{choose, xorb, count_below, least_from, top_below}
 use Rattle.word.specs.Places.{word_of, member, tab_from}
 use Rattle.arch.specs.Scans.{filled_words}
@@ -174,3 +174,8 @@ Changes op ws b r ws' = Leaves (outcome op ws b) ws b r ws'
 -- a call that makes a bitmap in a store with no earlier count: no word was in use, and a refusal returns 0
 abbrev pub Makes : Op → List ℕ → Change → List ℕ → Type 0
 Makes op ws r ws' = Changes op ws no_words r ws'
+
+-- room for `need` words in the store ws, in which the bitmap was b: the words that come into use are 0 and counted, or 6 where there are fewer
+abbrev pub Grows : List ℕ → Bitmap → ℕ → Change → List ℕ → Type 0
+Grows ws b need (Ok grown) ws' = (need ≤ length ws) × (ws' ≡ zeroed b.count need ws) × (grown.count ≡ max b.count need)
+Grows ws b need (Err e) ws' = (length ws < need) × (ws' ≡ ws) × (e ≡ (NoSpace, b))

@@ -5,8 +5,7 @@
 
 ghost use Rattle.std.specs.Prelude.{◌≡◌, Ok};
 ghost use Rattle.storage.specs.Refusals.{number_of, passing, refusing};
-ghost use Rattle.storage.specs.Stores.{checked, zeroed};
-ghost use Rattle.storage.specs.Kernels.{Grows};
+ghost use Rattle.storage.specs.Stores.{checked, zeroed, Grows};
 
 // The most words that a store may have.
 pub const LIMIT: usize = 67_108_864;
