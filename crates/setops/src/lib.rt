@@ -38,11 +38,12 @@ fn put(op: SetOp, words: &mut [u64], n: usize, other: &[u64], end: usize)
     storage::zero_words(words, end, n);
 }
 
-// How many of the other's words an operation on n words needs: zero words at the other's end need no space, and are looked for only where n is too little.
+// How many of the other's words an operation on n words needs: zero words at the other's end need no space, and are looked for only where n is too little,
+// or where the operation would go through them and change nothing.
 fn needed(op: SetOp, n: usize, other: &[u64]) -> usize
     ensures { (result ≡ nonzero_len other.now) ⊎ ((result ≡ length other.now) × (end_by op n result ≤ n)) }
 {
-    if pairs::end_of(op, n, other.len()) <= n {
+    if op != SetOp::Xor && pairs::end_of(op, n, other.len()) <= n {
         return other.len();
     }
     arch::nonzero_len(other)
