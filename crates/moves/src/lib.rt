@@ -1,12 +1,22 @@
 // Moves of whole words in place. A piece is read whole before any of it is written, so that the compiler makes one memory move of it.
 #![tactic(auto)]
 
-ghost use Rattle.std.specs.Prelude.{◌≡◌, ◌+◌, ◌≤◌, length};
+ghost use Rattle.std.specs.Prelude.{◌≡◌, ◌+◌, ◌-◌, ◌≤◌, min, length};
 ghost use Rattle.moves.specs.Moves.{up_words, down_words, turned_words};
-ghost use Rattle.moves.specs.Kernels.{Moved};
+ghost use Rattle.moves.specs.Kernels.{Moved, Swapped};
 
 // The most words that move as one piece.
 const PIECE: usize = 1024;
+
+// The most words of the shorter part that std's `rotate_right` holds outside while the others move. What is longer it turns by blocks and then reverses
+// twice, which takes up to twice as long as blocks alone.
+const ROOM: usize = 512;
+
+// The most words that are held here: std's room costs 4,096 bytes to clear, and its moves go by 16 bytes.
+const HELD: usize = 256;
+
+// The most that a small array holds, which costs less to clear.
+const FEW: usize = 32;
 
 // Every word of `from`, to `to`. By std's `copy_from_slice` the compiler keeps the array of a piece, and a move takes 2.7 times as long.
 fn copy_words(to: &mut [u64], from: &[u64])
@@ -54,12 +64,69 @@ pub fn move_down(words: &mut [u64], whole: usize)
     }
 }
 
-// The last m words go before the others; by as many words as there are, or more, nothing turns.
-#[tactic(auto, using(crate::proofs::Swaps::turned_past), unfolding(crate::specs::Moves::turned_words))]
+// The m words before index b change places with as many that end at `end`.
+fn swap_words(words: &mut [u64], a: usize, b: usize, m: usize)
+    requires { (a + m ≤ b) × (b + m ≤ length words.old) }
+    ensures { Swapped a b m words.old words.new }
+{
+    let (front, back) = words.split_at_mut(b);
+    front[a..a + m].swap_with_slice(&mut back[..m]);
+}
+
+// The last m words go before the others; the fewer of the two are held outside meanwhile.
+fn turn_through(words: &mut [u64], m: usize, held: &mut [u64])
+    requires { (m ≤ length words.old) × (min m (length words.old - m) ≤ length held.old) }
+    ensures { words.new ≡ turned_words m words.old }
+{
+    let rest = words.len() - m;
+    if m <= rest {
+        held[..m].copy_from_slice(&words[rest..]);
+        move_up(words, m);
+        words[..m].copy_from_slice(&held[..m]);
+    } else {
+        held[..rest].copy_from_slice(&words[..rest]);
+        move_down(words, rest);
+        words[m..].copy_from_slice(&held[..rest]);
+    }
+}
+
+// The same, with room for those that are held; by none or by all nothing turns.
+#[tactic(auto, unfolding(crate::specs::Moves::turned_words))]
+fn turn_held(words: &mut [u64], m: usize)
+    requires { m ≤ length words.old }
+    ensures { words.new ≡ turned_words m words.old }
+{
+    let short = m.min(words.len() - m);
+    if short == 0 {
+        return;
+    }
+    if short <= FEW {
+        turn_through(words, m, &mut [0; FEW]);
+    } else if short <= HELD {
+        turn_through(words, m, &mut [0; HELD]);
+    } else {
+        words.rotate_right(m);
+    }
+}
+
+// The last m words go before the others; by as many words as there are, or more, nothing turns. What is left to turn are the first `low` words and the
+// `high` after them: the shorter part changes places with as many words of the longer, and those that then stand last are where they belong.
 pub fn turn_words(words: &mut [u64], m: usize)
     ensures { words.new ≡ turned_words m words.old }
 {
-    if m < words.len() {
-        words.rotate_right(m);
+    let n = words.len();
+    if m >= n {
+        return;
     }
+    let (mut low, mut high) = (n - m, m);
+    while low.min(high) > ROOM {
+        if high <= low {
+            low -= high;
+            swap_words(words, low, low + high, high);
+        } else {
+            high -= low;
+            swap_words(words, 0, low + high, low);
+        }
+    }
+    turn_held(&mut words[..low + high], high);
 }
