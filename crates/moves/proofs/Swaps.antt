@@ -1,7 +1,7 @@
 -- The last words before the others: through a buffer, and by swaps.
-use mathlib.Core.Path.{◌≡◌, refl, sym, ap, ◌∙◌}
+use mathlib.Core.Path.{◌≡◌, sym, ap, ◌∙◌}
 use mathlib.Core.List.{List, ◌++◌}
-use Prim.Native.Nat.{ℕ, ◌+◌, ◌-◌, ◌≤◌, ◌<◌, min}
+use Prim.Native.Nat.{ℕ, ◌+◌, ◌-◌, ◌≤◌, ◌<◌}
 use native.Mathlib.Omega.{arith}
 use borrow.Rule.Slice.PartMut.{put_mid}
 use lib.ListN.{length, get_or, take, drop, length-append, length-drop, get_or-append}
@@ -38,11 +38,7 @@ module _ (ws : List ℕ) (m : ℕ) (h : m ≤ length ws) where
       ap (λ (x : ℕ). get_or ws' x 0) {y = m + (k - m)} (omega arith) ∙ high (k - m) (omega arith)
       ∙ sym (turned_high (k - m) (omega arith)) ∙ ap (λ (x : ℕ). get_or (turned_words m ws) x 0) (omega arith)))
 
--- nothing turns by no word, by all of them or by more
-pub turned_none : (ws : List ℕ) (m : ℕ) → m ≤ length ws → min m (length ws - m) ≡ 0 → ws ≡ turned_words m ws
-turned_none ws m h e =
-    turned_is ws m h ws refl (λ i l. ap (λ (x : ℕ). get_or ws x 0) (omega arith)) (λ i l. ap (λ (x : ℕ). get_or ws x 0) (omega arith))
-
+-- nothing turns by as many words as there are, or by more
 pub turned_past : (ws : List ℕ) (m : ℕ) → length ws ≤ m → ws ≡ turned_words m ws
 turned_past ws m h = sym ((turned m ws).stays h)
 

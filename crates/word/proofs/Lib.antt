@@ -4,6 +4,7 @@ pub mod Places
 pub mod Sets
 pub mod Words
 pub mod Reverse
+pub mod Product
 pub mod Lists
 pub mod Sweep
 pub mod Ends

@@ -50,7 +50,8 @@ impl Word {
         swapped(e, 0x0000_0000_ffff_ffff, 32)
     }
 
-    // The product's low 64 bits.
+    // The product's low 64 bits. The lemma is for whoever makes it by halves, as an edit does: with it only a right one is proved.
+    #[tactic(auto, using(crate::proofs::Product::by_halves))]
     pub fn wrapping_mul(x: u64, y: u64) -> u64
         ensures { result ≡ low_product 64 x y }
     {
