@@ -3,7 +3,7 @@ use mathlib.Core.Path.{◌≡◌, refl, sym, ap, ◌∙◌, subst}
 use mathlib.Core.Bool.{Bool, true, false}
 use mathlib.Core.List.{List, [], ◌∷◌, ◌++◌}
 use Prim.Native.Nat.{ℕ, zero, suc, ◌+◌, ◌*◌, ◌/◌, ◌%◌, ◌^◌, ◌≤◌, ◌<◌}
-use native.Mathlib.Nat.{pow-suc}
+use native.Mathlib.Nat.{pow-suc, div-div-eq-div-mul}
 use native.Mathlib.Omega.{arith}
 use lib.ListN.{length, length-append}
 use lib.Dec.{ltb}
@@ -87,6 +87,15 @@ digits-most (suc k) n h =
     by_lt n 10
     (λ l. omega (arith, one-digit n l))
     (λ l. omega (arith, length_more n l, digits-most k (n / 10) (omega (arith, pow-suc 10 (suc k)))))
+
+-- those of a number and of what is left of it without its last k
+pub digits-left : (k n : ℕ) → 10 ^ k ≤ n → length (decimal n) ≡ k + length (decimal (n / 10 ^ k))
+digits-left zero n h = let e : n ≡ n / 10 ^ 0 = omega arith in omega (arith, ap (λ (x : ℕ). length (decimal x)) e)
+digits-left (suc k) n h =
+    let p : 10 ^ suc k ≡ 10 ^ k * 10 = pow-suc 10 k in
+    let r : 1 ≤ 10 ^ k = ten_pos k in
+    let e : n / 10 / 10 ^ k ≡ n / 10 ^ suc k = div-div-eq-div-mul n 10 (10 ^ k) ∙ ap (λ (x : ℕ). n / x) (omega arith) in
+    omega (arith, length_more n (omega arith), digits-left k (n / 10) (omega arith), ap (λ (x : ℕ). length (decimal x)) e)
 
 pub digits_some : (n : ℕ) → 0 < length (decimal n)
 digits_some n = by_lt n 10 (λ l. omega (arith, one-digit n l)) (λ l. omega (arith, length_more n l))

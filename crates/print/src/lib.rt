@@ -22,14 +22,37 @@ pub struct Run {
     pub end: usize,
 }
 
+// How many digits x has. By comparing: std's logarithm, and a test for more than ten digits, take more of `write_list`'s time.
+fn digits(x: usize) -> usize
+    requires { x < 10_000_000_000 }
+    ensures { result ≡ length (decimal x) }
+{
+    if x < 100_000 {
+        if x < 100 {
+            return if x < 10 { 1 } else { 2 };
+        }
+        if x < 10_000 {
+            return if x < 1_000 { 3 } else { 4 };
+        }
+        return 5;
+    }
+    if x < 10_000_000 {
+        return if x < 1_000_000 { 6 } else { 7 };
+    }
+    if x < 1_000_000_000 {
+        return if x < 100_000_000 { 8 } else { 9 };
+    }
+    10
+}
+
 // How many digits any number has: 1 for 9, 2 for 10.
 pub fn decimal_len(x: usize) -> usize
     ensures { result ≡ decimal_len x }
 {
-    match x.checked_ilog10() {
-        Some(k) => k as usize + 1,
-        None => 1,
+    if x < 10_000_000_000 {
+        return digits(x);
     }
+    10 + digits(x / 10_000_000_000)
 }
 
 // The length of what stands before a piece.
@@ -48,7 +71,7 @@ fn pair_len(a: usize, b: usize, style: Style) -> usize
     requires { Allowed style × (a < b) × (b ≤ list_limit) }
     ensures { result ≡ length (printed style (range a b)) }
 {
-    decimal_len(a + style.first) + 1 + decimal_len(b + style.first)
+    digits(a + style.first) + 1 + digits(b + style.first)
 }
 
 // Whether a run is written as a range, and not number by number.
@@ -69,7 +92,7 @@ fn run_end(at: usize, run: Run, style: Style) -> usize
     }
     let mut p = at;
     for x in run.low..run.end {
-        p = p + gap_len(p, style.blank) + decimal_len(x + style.first);
+        p = p + gap_len(p, style.blank) + digits(x + style.first);
     }
     p
 }
@@ -99,10 +122,10 @@ fn put_digits(out: &mut [u8], at: usize, end: usize, x: usize)
 
 // Puts the digits of x; the place after them.
 fn put_number(out: &mut [u8], at: usize, x: usize) -> usize
-    requires { at + length (decimal x) ≤ length out.old }
+    requires { (x < 10_000_000_000) × (at + length (decimal x) ≤ length out.old) }
     ensures { Puts at (decimal x) result out.old out.new }
 {
-    let end = at + decimal_len(x);
+    let end = at + digits(x);
     put_digits(out, at, end, x);
     end
 }

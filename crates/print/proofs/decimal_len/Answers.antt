@@ -1,16 +1,12 @@
--- How many digits x has: one more than its logarithm by ten, and one for zero, which has none.
-use native.Mathlib.Nat.{pow-suc}
+-- How many digits x has: those of the first ten places, and those that stand before them.
+use Prim.Native.Nat.{◌/◌}
 use native.Mathlib.Omega.{arith}
-use Rattle.print.proofs.Decimals.{one-digit, digits_are}
+use Rattle.print.proofs.Decimals.{digits-left}
+use Rattle.print.proofs.Pieces.{ten_digits}
 use Rattle.print.proofs.decimal_len.Goals as goal
 
-pub returns-in-Some : goal.returns-in-Some
-returns-in-Some c =
-    omega (
-      arith,
-      digits_are c.in-Some.k c.args.x
-          c.in-Some.ensures.power_le (omega (arith, c.in-Some.ensures.next_power_gt, pow-suc 10 c.in-Some.k)),
-    )
+pub overflow_add-result : goal.overflow_add-result
+overflow_add-result c = omega (arith, c.digits-2.ensures, ten_digits (c.args.x / 10_000_000_000) (omega arith))
 
-pub returns-in-None : goal.returns-in-None
-returns-in-None c = omega (arith, one-digit c.args.x (omega (arith, c.in-None.ensures.none)))
+pub returns : goal.returns
+returns c = omega (arith, c.digits-2.ensures, digits-left 10 c.args.x c.if-x-lt10000000000.false)

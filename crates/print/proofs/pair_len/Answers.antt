@@ -7,7 +7,7 @@ pub overflow_add-result : goal.overflow_add-result
 overflow_add-result c =
     omega (
       arith,
-      c.decimal_len.ensures,
+      c.digits.ensures,
       ten_digits _ (counted _ c.requires.0 c.args.a (omega (arith, c.requires.1, c.requires.2))),
     )
 
@@ -15,8 +15,8 @@ pub overflow_add-result-2 : goal.overflow_add-result-2
 overflow_add-result-2 c =
     omega (
       arith,
-      c.decimal_len.ensures,
-      c.decimal_len-2.ensures,
+      c.digits.ensures,
+      c.digits-2.ensures,
       ten_digits _
           (counted _ c.requires.0 c.args.a
           (omega (arith, c.requires.1, c.requires.2))),
@@ -27,8 +27,8 @@ pub returns : goal.returns
 returns c =
     omega (
       arith,
-      c.decimal_len.ensures,
-      c.decimal_len-2.ensures,
+      c.digits.ensures,
+      c.digits-2.ensures,
       two_length c.args.style c.args.a c.args.b
           (λ e. omega (arith, c.requires.1, e)),
     )

@@ -25,7 +25,11 @@ overflow_add-a c =
     )
 
 pub put_number-next-requires : goal.put_number-next-requires
-put_number-next-requires c = first_room _ _ _ _ _ c.requires.3 _ _ c.put_gap-start.ensures
+put_number-next-requires c = (
+  counted _ c.requires.0 _
+      (below c.requires.1 c.requires.2),
+  first_room _ _ _ _ _ c.requires.3 _ _ c.put_gap-start.ensures,
+)
 
 pub overflow_cast-out : goal.overflow_cast-out
 overflow_cast-out c = omega (arith, c.requires.0.joiner.printable.1)
@@ -54,10 +58,13 @@ overflow_add-b c =
     )
 
 pub put_number-requires : goal.put_number-requires
-put_number-requires c =
-    last-room _ _ _ _ _ c.requires.3 _ _
-    c.put_gap-start.ensures _ _ c.put_number-next.ensures
-    (apart c.requires.1)
+put_number-requires c = (
+  counted _ c.requires.0 _
+      c.requires.2,
+  last-room _ _ _ _ _ c.requires.3 _ _
+      c.put_gap-start.ensures _ _ c.put_number-next.ensures
+      (apart c.requires.1),
+)
 
 pub shape_of-out : goal.shape_of-out
 shape_of-out c =

@@ -11,7 +11,10 @@ pub overflow_add-x : goal.overflow_add-x
 overflow_add-x c = omega (arith, counted _ c.requires.0 _ c.requires.1)
 
 pub put_number-requires : goal.put_number-requires
-put_number-requires c = first_room _ _ _ _ _ c.requires.2 _ _ c.put_gap-start.ensures
+put_number-requires c = (
+  counted _ c.requires.0 _ c.requires.1,
+  first_room _ _ _ _ _ c.requires.2 _ _ c.put_gap-start.ensures,
+)
 
 pub returns : goal.returns
 returns c =

@@ -2,7 +2,7 @@
 use mathlib.Core.Path.{refl, sym, ◌∙◌}
 use native.Mathlib.Omega.{arith}
 use borrow.Author.Tests.{leb-true, leb-false}
-use Rattle.print.proofs.Pieces.{single-length, whole-place, whole_short, counting_start, counting_short, counting_more, counting_end}
+use Rattle.print.proofs.Pieces.{single-length, counted, whole-place, whole_short, counting_start, counting_short, counting_more, counting_end}
 use Rattle.print.proofs.run_end.Goals as goal
 
 pub is_range-requires : goal.is_range-requires
@@ -72,14 +72,17 @@ overflow_add-p-in-loop-x c =
       counting_short _ c.requires.0 c.args.at _ _
           c.requires.1.some
           c.requires.1.limit _ _ c.loop-x.invariant
-          c.loop-x-test.true _ _ c.gap_len-in-loop-x.ensures (c.decimal_len.ensures ∙ single-length _ _),
+          c.loop-x-test.true _ _ c.gap_len-in-loop-x.ensures (c.digits.ensures ∙ single-length _ _),
     )
+
+pub digits-requires : goal.digits-requires
+digits-requires c = counted _ c.requires.0 _ (omega (arith, c.requires.1.limit, c.loop-x-test.true))
 
 pub loop-x-preserved : goal.loop-x-preserved
 loop-x-preserved c =
     counting_more _ c.requires.0 _ _ _
     c.requires.1.some c.requires.1.limit _ _
-    c.loop-x.invariant c.loop-x-test.true _ _ c.gap_len-in-loop-x.ensures (c.decimal_len.ensures ∙ single-length _ _)
+    c.loop-x.invariant c.loop-x-test.true _ _ c.gap_len-in-loop-x.ensures (c.digits.ensures ∙ single-length _ _)
 
 pub returns : goal.returns
 returns c =
