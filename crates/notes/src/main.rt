@@ -37,12 +37,13 @@ fn line(rt: &impl Print, edition: usize, sheet: &[u8]) -> io::Result<()> {
 }
 
 fn main(rt: HostRuntime) -> io::Result<()> {
-    let mut sheet = Vec::new(rt.alloc());
-    rt.reader().take(MOST as u64).read_to_end(&mut sheet)?;
-    if sheet.len() == MOST {
+    let mut room = [0u8; MOST];
+    let mut left = &mut room[..];
+    let n = io::copy(&mut rt.reader().take(MOST as u64), &mut left)? as usize;
+    if n >= MOST {
         let number = Refusal::NoSpace.number();
         return println!(rt; "0 {number} 0 0");
     }
-    line(&rt, 1, &sheet)?;
-    line(&rt, 2, &sheet)
+    line(&rt, 1, &room[..n])?;
+    line(&rt, 2, &room[..n])
 }
