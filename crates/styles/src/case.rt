@@ -12,6 +12,9 @@ const STORE: usize = 4;
 
 const BUFFER: usize = 2_048;
 
+// The most numbers of a line: those that each case has, and the text's.
+pub(crate) const LONGEST: usize = 19 + BUFFER / 8;
+
 // The largest number of an answer.
 const NUMBERS: u64 = 16;
 
@@ -65,7 +68,7 @@ pub struct Case<'a> {
 
 impl<'a> Case<'a> {
     // The case that has exactly these numbers, if there is one with room here.
-    pub fn of(numbers: &'a [u64]) -> Option<Case<'a>> {
+    pub(crate) fn of(numbers: &'a [u64]) -> Option<Case<'a>> {
         let (&[part, first, joiner, blank, shortest], rest) = numbers.split_first_chunk::<5>()?;
         let (&[capacity, count, number, answer, size, length], rest) = rest.split_first_chunk::<
             6,
@@ -151,7 +154,7 @@ impl<'a> Case<'a> {
     }
 
     // Makes the call, and compares its answer and what it leaves.
-    pub fn replay(&self) -> Result<(), Mismatch> {
+    pub(crate) fn replay(&self) -> Result<(), Mismatch> {
         match self.part {
             Part::Text => {
                 let mut store = self.before;

@@ -30,8 +30,8 @@ fn one(rt: &impl Print, line: u64, case: &Case<'_>, tally: &mut Tally) -> io::Re
 }
 
 // Every line, up to the last or one that can't be read: how the list ends.
-fn lines(rt: &(impl Print + AllocGlobal), list: &[u8], tally: &mut Tally) -> io::Result<End> {
-    let mut numbers = Vec::new(rt.alloc());
+fn lines(rt: &impl Print, list: &[u8], tally: &mut Tally) -> io::Result<End> {
+    let mut room = [0u64; case::LONGEST];
     let mut last = 0u64;
     let mut whole = false;
     for line in list.split_inclusive(|byte| *byte == b'\n') {
@@ -39,10 +39,10 @@ fn lines(rt: &(impl Print + AllocGlobal), list: &[u8], tally: &mut Tally) -> io:
             return Ok(End::More(last));
         }
         last = last.saturating_add(1);
-        let sound = list::read(line, &mut numbers)?;
-        if sound && numbers.as_slice() == [LAST, last].as_slice() {
+        let numbers = list::read(line, &mut room);
+        if numbers == Some([LAST, last].as_slice()) {
             whole = true;
-        } else if sound && let Some(case) = Case::of(&numbers) {
+        } else if let Some(case) = numbers.and_then(Case::of) {
             one(rt, last, &case, tally)?;
         } else {
             return Ok(End::Unread(last));
@@ -51,14 +51,26 @@ fn lines(rt: &(impl Print + AllocGlobal), list: &[u8], tally: &mut Tally) -> io:
     Ok(if whole { End::Whole } else { End::Cut(last) })
 }
 
-fn main(rt: HostRuntime) -> io::Result<()> {
-    let mut list = Vec::new(rt.alloc());
-    rt.reader().take(MOST as u64).read_to_end(&mut list)?;
-    if list.len() == MOST {
+// Reads until the room is full or the input ends: how many bytes there are then.
+fn load(rt: &impl Input, room: &mut [u8; MOST]) -> io::Result<usize> {
+    let mut left = &mut room[..];
+    let n = io::copy(&mut rt.reader().take(MOST as u64), &mut left)?;
+    Ok(n as usize)
+}
+
+// The list is the first n bytes; where it fills the room, some may be missing.
+fn replay(rt: &impl Print, room: &[u8; MOST], n: usize) -> io::Result<()> {
+    if n >= MOST {
         return println!(rt; "the list is too long");
     }
     let mut tally = Tally::new();
-    let end = lines(&rt, &list, &mut tally)?;
-    tally.report(&rt)?;
+    let end = lines(rt, &room[..n], &mut tally)?;
+    tally.report(rt)?;
     print!(rt; "{end}")
+}
+
+fn main(rt: HostRuntime) -> io::Result<()> {
+    let mut room = [0u8; MOST];
+    let n = load(&rt, &mut room)?;
+    replay(&rt, &room, n)
 }

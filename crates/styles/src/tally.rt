@@ -13,7 +13,7 @@ pub struct Tally {
 }
 
 impl Tally {
-    pub fn new() -> Tally {
+    pub(crate) fn new() -> Tally {
         Tally {
             texts: Row::new(),
             sets: Row::new(),
@@ -22,7 +22,7 @@ impl Tally {
         }
     }
 
-    pub fn add(&mut self, part: Part, number: usize, wrong: bool) {
+    pub(crate) fn add(&mut self, part: Part, number: usize, wrong: bool) {
         match part {
             Part::Text => self.texts.add(number, wrong),
             Part::Set => self.sets.add(number, wrong),
@@ -31,7 +31,7 @@ impl Tally {
         self.total.add(number, wrong);
     }
 
-    pub fn report(&self, rt: &impl Print) -> io::Result<()> {
+    pub(crate) fn report(&self, rt: &impl Print) -> io::Result<()> {
         println!(rt; "texts read: {}", self.texts)?;
         println!(rt; "sets printed: {}", self.sets)?;
         println!(rt; "sets printed and read back: {}", self.round_trips)?;
