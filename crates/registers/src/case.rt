@@ -11,6 +11,9 @@ const STORE: usize = 1_600;
 
 const BUFFER: usize = 40_000;
 
+// The most numbers of a line: those that each case has, and the words.
+pub(crate) const LONGEST: usize = 5 + STORE;
+
 // The largest number of an answer.
 const NUMBERS: u64 = 16;
 
@@ -30,7 +33,7 @@ pub struct Case<'a> {
 
 impl<'a> Case<'a> {
     // The case that has exactly these numbers and its text first in the list, if there is one with room here; and the rest of the list.
-    pub fn split<'l: 'a>(numbers: &'a [u64], list: &'l [u8]) -> Option<(Case<'a>, &'l [u8])>
+    pub(crate) fn split<'l: 'a>(numbers: &'a [u64], list: &'l [u8]) -> Option<(Case<'a>, &'l [u8])>
         ensures { IfSome result (λ p. length p.1.now ≤ length list.now) }
     {
         let (&[capacity, count, number, length, size], words) = numbers.split_first_chunk::<5>()?;
@@ -53,7 +56,7 @@ impl<'a> Case<'a> {
     }
 
     // How many lines of the list the text is.
-    pub fn lines(&self) -> u64 {
+    pub(crate) fn lines(&self) -> u64 {
         (self.text.len() / LINE) as u64
     }
 
@@ -70,7 +73,7 @@ impl<'a> Case<'a> {
     }
 
     // Prints the register of the set into the first bytes of a buffer, and compares the answer and the buffer.
-    pub fn replay(&self) -> Result<(), Mismatch> {
+    pub(crate) fn replay(&self) -> Result<(), Mismatch> {
         let mut out: [u8; BUFFER] = array::from_fn(unwritten);
         let record = Bitmap {
             count: self.count,

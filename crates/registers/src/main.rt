@@ -41,20 +41,22 @@ fn split_line(list: &[u8]) -> (&[u8], &[u8])
 }
 
 // Every line and the text behind it, up to the last or one that can't be read: how the list ends.
-fn lines(rt: &(impl Print + AllocGlobal), list: &[u8], tally: &mut Row<17>) -> io::Result<End> {
-    let mut numbers = Vec::new(rt.alloc());
+fn lines(rt: &impl Print, list: &[u8], tally: &mut Row<17>) -> io::Result<End> {
+    let mut room = [0u64; case::LONGEST];
     let mut last = 0u64;
     let mut rest = list;
     // Not `split_inclusive`, as in styles: the text behind a line has line ends too, and the line says how long it is.
     while !rest.is_empty() {
         last = last.saturating_add(1);
         let (line, behind) = split_line(rest);
-        let sound = list::read(line, &mut numbers)?;
-        if sound && numbers.as_slice() == [LAST, last].as_slice() {
+        let numbers = list::read(line, &mut room);
+        if numbers == Some([LAST, last].as_slice()) {
             let whole = behind.is_empty();
             return Ok(if whole { End::Whole } else { End::More(last) });
         }
-        if sound && let Some((case, behind)) = Case::split(&numbers, behind) {
+        if let Some(numbers) = numbers
+            && let Some((case, behind)) = Case::split(numbers, behind)
+        {
             one(rt, last, case, tally)?;
             last = last.saturating_add(case.lines());
             rest = behind;
@@ -65,15 +67,27 @@ fn lines(rt: &(impl Print + AllocGlobal), list: &[u8], tally: &mut Row<17>) -> i
     Ok(End::Cut(last))
 }
 
-fn main(rt: HostRuntime) -> io::Result<()> {
-    small::print(&rt)?;
-    let mut list = Vec::new(rt.alloc());
-    rt.reader().take(MOST as u64).read_to_end(&mut list)?;
-    if list.len() == MOST {
+// Reads until the room is full or the input ends: how many bytes there are then.
+fn load(rt: &impl Input, room: &mut [u8; MOST]) -> io::Result<usize> {
+    let mut left = &mut room[..];
+    let n = io::copy(&mut rt.reader().take(MOST as u64), &mut left)?;
+    Ok(n as usize)
+}
+
+// The list is the first n bytes; where it fills the room, some may be missing.
+fn replay(rt: &impl Print, room: &[u8; MOST], n: usize) -> io::Result<()> {
+    if n >= MOST {
         return println!(rt; "the list is too long");
     }
     let mut tally = Row::new();
-    let end = lines(&rt, &list, &mut tally)?;
+    let end = lines(rt, &room[..n], &mut tally)?;
     println!(rt; "registers printed: {tally}")?;
     print!(rt; "{end}")
+}
+
+fn main(rt: HostRuntime) -> io::Result<()> {
+    small::print(&rt)?;
+    let mut room = [0u8; MOST];
+    let n = load(&rt, &mut room)?;
+    replay(&rt, &room, n)
 }
