@@ -96,7 +96,7 @@ pub struct Buffer {
 }
 
 impl Buffer {
-    pub fn new() -> Buffer {
+    pub(crate) fn new() -> Buffer {
         Buffer {
             bytes: [0; BUFFER],
             wanted: [0; BUFFER],
@@ -105,7 +105,7 @@ impl Buffer {
     }
 
     // A buffer: its size and seed, from where on the seed's bytes stand, the length of its sheet, and its first bytes.
-    pub fn lend(&mut self, scan: &mut Scan<'_>) -> Option<()> {
+    pub(crate) fn lend(&mut self, scan: &mut Scan<'_>) -> Option<()> {
         let [size, seed, from, length] = scan.numbers::<4>()?;
         let (size, seed, from) = (size as usize, seed as usize, from as usize);
         if size > BUFFER {
@@ -118,7 +118,7 @@ impl Buffer {
     }
 
     // The sheet; none where a writer call was told of a longer one than the buffer.
-    pub fn sheet(&self) -> Option<&[u8]> {
+    pub(crate) fn sheet(&self) -> Option<&[u8]> {
         self.bytes.get(..self.lent.length as usize)
     }
 
@@ -146,7 +146,7 @@ impl Buffer {
     }
 
     // A call, and what it answers and leaves against what is right.
-    pub fn call(&mut self, scan: &mut Scan<'_>) -> Option<Case> {
+    pub(crate) fn call(&mut self, scan: &mut Scan<'_>) -> Option<Case> {
         let mut payload = [0u8; PAYLOAD];
         let part = Part::from(scan.number()?);
         let call = Call::read(scan)?;

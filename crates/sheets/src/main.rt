@@ -89,15 +89,21 @@ fn lines(rt: &impl Print, list: &[u8], tally: &mut Tally) -> io::Result<End> {
     Ok(if whole { End::Whole } else { End::Cut(last) })
 }
 
-fn main(rt: HostRuntime) -> io::Result<()> {
-    let mut list = Vec::new(rt.alloc());
-    rt.reader().take(MOST as u64).read_to_end(&mut list)?;
-    if list.len() == MOST {
+// Reads until the room is full or the input ends: how many bytes there are then.
+fn load(rt: &impl Input, room: &mut [u8; MOST]) -> io::Result<usize> {
+    let mut left = &mut room[..];
+    let n = io::copy(&mut rt.reader().take(MOST as u64), &mut left)?;
+    Ok(n as usize)
+}
+
+// The list is the first n bytes; where it fills the room, some may be missing.
+fn replay(rt: &impl Print, room: &[u8; MOST], n: usize) -> io::Result<()> {
+    if n >= MOST {
         return println!(rt; "the list is too long");
     }
     let mut tally = Tally::new();
-    let end = lines(&rt, &list, &mut tally)?;
-    tally.report(&rt)?;
+    let end = lines(rt, &room[..n], &mut tally)?;
+    tally.report(rt)?;
     // Not the text of `End`: the output of this program has one message for all three.
     match end {
         End::Whole => Ok(()),
@@ -105,4 +111,10 @@ fn main(rt: HostRuntime) -> io::Result<()> {
             println!(rt; "the list can't be read from line {line} on")
         }
     }
+}
+
+fn main(rt: HostRuntime) -> io::Result<()> {
+    let mut room = [0u8; MOST];
+    let n = load(&rt, &mut room)?;
+    replay(&rt, &room, n)
 }

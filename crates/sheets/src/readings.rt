@@ -43,7 +43,7 @@ impl From<Result<(usize, Bitmap), ReadError>> for Answer {
     }
 }
 
-// The old bitmap, and the capacity of the result's store. An array and not a `Vec`: 64 words are the most, and no line needs memory of its own.
+// The old bitmap, and the capacity of the result's store.
 #[derive(Clone, Copy)]
 pub struct Stores {
     words: [u64; OLDEST],
@@ -55,7 +55,7 @@ pub struct Stores {
 }
 
 impl Stores {
-    pub fn new() -> Stores {
+    pub(crate) fn new() -> Stores {
         Stores {
             words: [0; OLDEST],
             length: 0,
@@ -64,7 +64,7 @@ impl Stores {
         }
     }
 
-    pub fn read(scan: &mut Scan<'_>) -> Option<Stores> {
+    pub(crate) fn read(scan: &mut Scan<'_>) -> Option<Stores> {
         let [capacity, count, length] = scan.numbers::<3>()?;
         let (capacity, count, length) = (capacity as usize, count as usize, length as usize);
         let mut words = [0; OLDEST];
@@ -102,7 +102,7 @@ impl Stores {
     }
 
     // A reading of the sheet by one edition, and what it answers and leaves against what is right.
-    pub fn reading(&self, scan: &mut Scan<'_>, sheet: &[u8]) -> Option<Case> {
+    pub(crate) fn reading(&self, scan: &mut Scan<'_>, sheet: &[u8]) -> Option<Case> {
         let [part, edition, number, record, count, follow] = scan.numbers::<6>()?;
         let wanted = self.wanted(scan, follow)?;
         let mut store = self.result();

@@ -10,7 +10,7 @@ pub struct Scan<'a> {
 }
 
 impl<'a> Scan<'a> {
-    pub fn of(line: &'a [u8]) -> Scan<'a> {
+    pub(crate) fn of(line: &'a [u8]) -> Scan<'a> {
         Scan { rest: line }
     }
 
@@ -23,7 +23,7 @@ impl<'a> Scan<'a> {
     }
 
     // A number below 2^64, of at least one digit.
-    pub fn number(&mut self) -> Option<u64> {
+    pub(crate) fn number(&mut self) -> Option<u64> {
         let field = self.field()?;
         if field.is_empty() {
             return None;
@@ -32,21 +32,21 @@ impl<'a> Scan<'a> {
     }
 
     // Numbers into all of `out`.
-    pub fn fill(&mut self, out: &mut [u64]) -> Option<()> {
+    pub(crate) fn fill(&mut self, out: &mut [u64]) -> Option<()> {
         for number in out {
             *number = self.number()?;
         }
         Some(())
     }
 
-    pub fn numbers<const N: usize>(&mut self) -> Option<[u64; N]> {
+    pub(crate) fn numbers<const N: usize>(&mut self) -> Option<[u64; N]> {
         let mut numbers = [0; N];
         self.fill(&mut numbers)?;
         Some(numbers)
     }
 
     // A byte string into the front of `out`: its length, how many bytes are written out, and these; the later ones repeat the last three.
-    pub fn bytes(&mut self, out: &mut [u8]) -> Option<usize>
+    pub(crate) fn bytes(&mut self, out: &mut [u8]) -> Option<usize>
         ensures { IfSome result (λ n. n ≤ length out.new) }
     {
         let [length, given] = self.numbers::<2>()?;
@@ -68,7 +68,7 @@ impl<'a> Scan<'a> {
     }
 
     // Whether the line ends here.
-    pub fn is_at_end(&self) -> bool {
+    pub(crate) fn is_at_end(&self) -> bool {
         self.rest == b".\n".as_slice()
     }
 }

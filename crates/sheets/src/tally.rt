@@ -42,7 +42,7 @@ pub struct Tally {
 }
 
 impl Tally {
-    pub fn new() -> Tally {
+    pub(crate) fn new() -> Tally {
         Tally {
             readings: Row::new(),
             calls: Row::new(),
@@ -53,7 +53,7 @@ impl Tally {
     }
 
     // Numbers go to 14; of a higher one the rest counts.
-    pub fn add(&mut self, case: Case) {
+    pub(crate) fn add(&mut self, case: Case) {
         let number = (case.number % 15) as usize;
         let wrong = !case.agrees;
         match case.part {
@@ -65,7 +65,7 @@ impl Tally {
         self.total.add(number, wrong);
     }
 
-    pub fn report(&self, rt: &impl Print) -> io::Result<()> {
+    pub(crate) fn report(&self, rt: &impl Print) -> io::Result<()> {
         println!(rt; "readings: {}", self.readings)?;
         println!(rt; "writer calls: {}", self.calls)?;
         println!(rt; "additions to a sheet given: {}", self.given)?;
