@@ -107,7 +107,7 @@ pub struct Case<'a> {
 
 impl<'a> Case<'a> {
     // The case that has exactly these numbers, if there is one with room here.
-    pub fn of(numbers: &'a [u64]) -> Option<Case<'a>> {
+    pub(crate) fn of(numbers: &'a [u64]) -> Option<Case<'a>> {
         let (&[call, seed], rest) = numbers.split_first_chunk::<2>()?;
         let (arguments, rest) = Arguments::split(rest)?;
         let (answer, rest) = Answer::split(rest)?;
@@ -136,7 +136,7 @@ impl<'a> Case<'a> {
     }
 
     // The name that a title has.
-    pub fn title(&self) -> Option<Text> {
+    pub(crate) fn title(&self) -> Option<Text> {
         if self.call == TITLE {
             Some(Text::of(self.list, self.pattern))
         } else {
@@ -145,7 +145,7 @@ impl<'a> Case<'a> {
     }
 
     // Makes the call, on as much of its stores as the line says.
-    pub fn replay(&self) -> Result<(), Mismatch> {
+    pub(crate) fn replay(&self) -> Result<(), Mismatch> {
         let mut first = self.first.filled();
         let mut second = self.second.filled();
         self.make(

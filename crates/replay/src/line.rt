@@ -1,72 +1,115 @@
 // A line of the list: hexadecimal numbers with a comma between, byte 10 at the end. A number without digits is 0; a tilde before it stands for its
 // complement.
 use crate::case::Case;
-use std::alloc::Global;
 use std::io;
-use std::io::{BufRead, Read};
+use std::io::Read;
+
+// The bytes that are read at once.
+const AHEAD: usize = 65_536;
 
 // The most bytes of a line; what is behind them is another line.
 const LONGEST: usize = 20_000;
 
+// The numbers of a line that are kept: no case has so many.
+const NUMBERS: usize = 1_024;
+
 // The most digits of a number.
 const DIGITS: u32 = 16;
 
-// The line at hand: its bytes, its numbers, and whether it is a line of the list at all. One that is not keeps its numbers: it is reported by its call.
+// Bytes of the input, and which of them are not yet taken: a `BufReader` would take memory.
+#[derive(Drop)]
+pub struct Ahead {
+    bytes: [u8; AHEAD],
+    at: usize,
+    end: usize,
+}
+
+impl Ahead {
+    pub(crate) fn new() -> Ahead {
+        Ahead {
+            bytes: [0; AHEAD],
+            at: 0,
+            end: 0,
+        }
+    }
+
+    // The next byte; none where the input ends.
+    fn next(&mut self, rt: &impl Input) -> io::Result<Option<u8>> {
+        if self.at >= self.end {
+            let mut left = &mut self.bytes[..];
+            self.end = io::copy(&mut rt.reader().take(AHEAD as u64), &mut left)? as usize;
+            self.at = 0;
+        }
+        if self.at >= self.end {
+            return Ok(None);
+        }
+        let byte = self.bytes.get(self.at).copied();
+        self.at += 1;
+        Ok(byte)
+    }
+}
+
+// The line at hand: its numbers, and whether it is a line of the list at all. One that is not keeps its numbers: it is reported by its call.
 #[derive(Drop)]
 pub struct Line {
-    bytes: Vec<u8>,
-    numbers: Vec<u64>,
+    numbers: [u64; NUMBERS],
+    count: usize,
     sound: bool,
 }
 
 impl Line {
-    pub fn new(alloc: Global) -> Line {
+    pub(crate) fn new() -> Line {
         Line {
-            bytes: Vec::new(alloc),
-            numbers: Vec::new(alloc),
+            numbers: [0; NUMBERS],
+            count: 0,
             sound: false,
         }
     }
 
-    // Reads the next line; false where there is none.
-    pub fn read(&mut self, input: &mut impl BufRead) -> io::Result<bool> {
-        self.bytes.clear();
-        let n = input
-            .take(LONGEST as u64)
-            .read_until(b'\n', &mut self.bytes)?;
-        self.parse()?;
-        Ok(n > 0)
+    // Reads the next line; false where there is none. One that is too long ends before its last byte, as if that were its end.
+    pub(crate) fn read(&mut self, rt: &impl Input, ahead: &mut Ahead) -> io::Result<bool> {
+        let mut number = Number::new();
+        self.count = 0;
+        self.sound = true;
+        for place in 0..LONGEST {
+            match ahead.next(rt)? {
+                Some(b',') => {
+                    self.push(number);
+                    number = Number::new();
+                }
+                Some(b'\n') => {
+                    self.push(number);
+                    return Ok(true);
+                }
+                Some(byte) if place + 1 < LONGEST => number.take(byte),
+                _ => {
+                    self.push(number);
+                    self.sound = false;
+                    return Ok(place > 0);
+                }
+            }
+        }
+        self.sound = false;
+        Ok(true)
     }
 
-    // A line that is too long ends before its last byte, as if that were its end.
-    fn parse(&mut self) -> io::Result<()> {
-        let bytes = self.bytes.as_slice();
-        let whole = bytes.ends_with(b"\n");
-        let end = if whole || bytes.len() == LONGEST {
-            1
-        } else {
-            0
-        };
-        let text = &bytes[..bytes.len() - end];
-        self.sound = whole;
-        self.numbers.clear();
-        for field in text.split(|byte| *byte == b',') {
-            let number = Number::of(field);
-            self.sound &= number.sound;
-            self.numbers.push(number.value ^ number.flip)?;
+    fn push(&mut self, number: Number) {
+        self.sound &= number.sound && self.count < NUMBERS;
+        if self.count < NUMBERS {
+            self.numbers[self.count] = number.value ^ number.flip;
+            self.count += 1;
         }
-        Ok(())
     }
 
     // The call, as far as a malformed line has it.
-    pub fn call(&self) -> u64 {
-        self.numbers.first().copied().unwrap_or(0)
+    pub(crate) fn call(&self) -> u64 {
+        self.numbers[0]
     }
 
     // The case or title that the line is.
-    pub fn case(&self) -> Option<Case<'_>> {
+    pub(crate) fn case(&self) -> Option<Case<'_>> {
         if self.sound {
-            Case::of(&self.numbers)
+            Case::of(self.numbers.get(..self.count)?)
         } else {
             None
         }
@@ -83,17 +126,14 @@ struct Number {
 }
 
 impl Number {
-    fn of(field: &[u8]) -> Number {
-        let mut number = Number {
+    // Of no bytes.
+    fn new() -> Number {
+        Number {
             value: 0,
             digits: 0,
             flip: 0,
             sound: true,
-        };
-        for byte in field {
-            number.take(*byte);
         }
-        number
     }
 
     // One more byte. The tilde is the first; a byte that is no digit counts as 16, for the call that a malformed line is reported with.

@@ -11,8 +11,7 @@ mod reading;
 mod store;
 
 use case::{Case, Mismatch};
-use line::Line;
-use std::io::BufReader;
+use line::{Ahead, Line};
 use std::{fmt, io, mem};
 
 // The most lines of a list.
@@ -76,12 +75,12 @@ fn one(rt: &impl Print, number: u64, line: &Line, tallies: &mut Tallies) -> io::
 }
 
 // Replays every line.
-fn all(rt: &(impl Input + Print + AllocGlobal)) -> io::Result<Tally> {
-    let mut input = BufReader::new(rt.alloc(), rt.reader())?;
-    let mut line = Line::new(rt.alloc());
+fn all(rt: &(impl Input + Print)) -> io::Result<Tally> {
+    let mut ahead = Ahead::new();
+    let mut line = Line::new();
     let mut tallies = Tallies::default();
     for number in 1..=MOST {
-        if !line.read(&mut input)? {
+        if !line.read(rt, &mut ahead)? {
             return Ok(tallies.all);
         }
         one(rt, number, &line, &mut tallies)?;

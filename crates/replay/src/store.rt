@@ -51,7 +51,7 @@ pub struct Given<'a> {
 
 impl<'a> Given<'a> {
     // The store whose words are the first of the numbers, and the rest of these; none where the store has no room here.
-    pub fn split(
+    pub(crate) fn split(
         pattern: Pattern,
         capacity: u64,
         count: u64,
@@ -74,7 +74,7 @@ impl<'a> Given<'a> {
         ))
     }
 
-    pub fn record(&self) -> Bitmap {
+    pub(crate) fn record(&self) -> Bitmap {
         Bitmap {
             count: self.count,
             ..EMPTY
@@ -82,14 +82,14 @@ impl<'a> Given<'a> {
     }
 
     // Word k: the words in use, and the pattern behind them.
-    pub fn word(&self, k: usize) -> u64 {
+    pub(crate) fn word(&self, k: usize) -> u64 {
         match self.words.get(k) {
             Some(word) => *word,
             None => self.pattern.word(k),
         }
     }
 
-    pub fn filled(&self) -> [u64; WORDS] {
+    pub(crate) fn filled(&self) -> [u64; WORDS] {
         array::from_fn(|k| self.word(k))
     }
 }
@@ -103,7 +103,7 @@ pub struct Text {
 }
 
 impl Text {
-    pub fn of(list: &[u64], pattern: Pattern) -> Text {
+    pub(crate) fn of(list: &[u64], pattern: Pattern) -> Text {
         let bytes = array::from_fn(|k| match list.get(k) {
             Some(x) => byte(*x),
             None => byte(pattern.word(k) % 256),
@@ -114,7 +114,7 @@ impl Text {
         }
     }
 
-    pub fn as_slice(&self) -> &[u8] {
+    pub(crate) fn as_slice(&self) -> &[u8] {
         &self.bytes[..self.length]
     }
 }
