@@ -60,11 +60,12 @@ impl<'a> Case<'a> {
         (self.text.len() / LINE) as u64
     }
 
-    // A buffer with the text, and unwritten behind it: an array, as what lies past the lent part is compared too.
-    fn written(&self) -> [u8; BUFFER] {
-        array::from_fn(|k| match self.text.get(k) {
-            Some(byte) => *byte,
-            None => unwritten(k),
+    // Whether a buffer has the text, and is unwritten behind it: byte by byte, as a second buffer would take as much stack again.
+    fn is_left(&self, out: &[u8; BUFFER]) -> bool {
+        let mut bytes = out.iter().enumerate();
+        bytes.all(|(k, byte)| match self.text.get(k) {
+            Some(right) => *byte == *right,
+            None => *byte == unwritten(k),
         })
     }
 
@@ -82,7 +83,7 @@ impl<'a> Case<'a> {
         let got = register::write_register(self.words, record, &mut out[..self.size]);
         if !self.answered(told::amount(got)) {
             Err(Mismatch::Answer)
-        } else if out != self.written() {
+        } else if !self.is_left(&out) {
             Err(Mismatch::Memory)
         } else {
             Ok(())
