@@ -2,8 +2,9 @@
 // from its line, and how a list ends. Each has its own loop over the lines, as what a line is differs: a shared one would be handed all but the count.
 #![tactic(auto)]
 
-ghost use Rattle.std.specs.Prelude.{◌≡◌, ℕ, ◌+◌, ◌-◌, ◌%◌, ◌^◌, min, replicate, slice_set, slice_index_or, if◌then◌else◌, nat_lt};
+ghost use Rattle.std.specs.Prelude.{◌≡◌, ◌+◌, ◌%◌};
 ghost use Rattle.listing.specs.Numbers.{digit_of, number_from};
+ghost use Rattle.listing.specs.Rows.{NoCase, OneMore};
 
 use std::fmt;
 
@@ -47,9 +48,7 @@ pub struct Row<const N: usize> {
 
 impl<const N: usize> Row<N> {
     pub fn new() -> Row<N>
-        ensures by_number { result.by_number ≡ replicate N 0 }
-        ensures cases { result.cases ≡ 0 }
-        ensures wrong { result.wrong ≡ 0 }
+        ensures { NoCase N result.by_number result.cases result.wrong }
     {
         Row {
             by_number: [0; N],
@@ -60,9 +59,7 @@ impl<const N: usize> Row<N> {
 
     // A case, the number that is right, and whether it is a mismatch. No count goes past its type's end.
     pub fn add(&mut self, number: usize, wrong: bool)
-        ensures by_number { self.new.by_number ≡ (if nat_lt number N then slice_set self.old.by_number number (min (slice_index_or self.old.by_number number 0 + 1) (2 ^ 64 - 1)) else self.old.by_number) }
-        ensures cases { self.new.cases ≡ min (self.old.cases + 1) (2 ^ 64 - 1) }
-        ensures wrong { self.new.wrong ≡ (if wrong then min (self.old.wrong + 1) (2 ^ 64 - 1) else self.old.wrong) }
+        ensures { OneMore N number wrong self.old.by_number self.old.cases self.old.wrong self.new.by_number self.new.cases self.new.wrong }
     {
         if number < N {
             self.by_number[number] = self.by_number[number].saturating_add(1);
