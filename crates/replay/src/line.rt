@@ -1,6 +1,7 @@
 // A line of the list: hexadecimal numbers with a comma between, byte 10 at the end. A number without digits is 0; a tilde before it stands for its
 // complement.
 use crate::case::Case;
+use crate::store::{BYTES, WORDS};
 use std::io;
 use std::io::Read;
 
@@ -10,8 +11,8 @@ const AHEAD: usize = 65_536;
 // The most bytes of a line; what is behind them is another line.
 const LONGEST: usize = 20_000;
 
-// The numbers of a line that are kept: no case has so many.
-const NUMBERS: usize = 1_024;
+// The most numbers of a line: those that each case has, the words of the three stores and of the result, and the list.
+const NUMBERS: usize = 17 + 4 * WORDS + BYTES;
 
 // The most digits of a number.
 const DIGITS: u32 = 16;
