@@ -100,12 +100,24 @@ impl<'a> Case<'a> {
         })
     }
 
-    // A buffer with the text, and unwritten behind it.
-    fn written(&self) -> [u8; BUFFER] {
-        array::from_fn(|k| match self.text.get(k / 8) {
+    // Byte k of a buffer with the text, and unwritten behind it.
+    fn byte(&self, k: usize) -> u8 {
+        match self.text.get(k / 8) {
             Some(word) if k < self.length => word.to_be_bytes()[k % 8],
             _ => unwritten(k),
-        })
+        }
+    }
+
+    // The buffer before the call: one for all parts, so that it stands on the stack once.
+    fn buffer(&self) -> [u8; BUFFER] {
+        let is_text = matches!(self.part, Part::Text);
+        array::from_fn(|k| { if is_text { self.byte(k) } else { unwritten(k) } })
+    }
+
+    // Whether a buffer has the text, and is unwritten behind it.
+    fn is_left(&self, out: &[u8; BUFFER]) -> bool {
+        let mut bytes = out.iter().enumerate();
+        bytes.all(|(k, byte)| *byte == self.byte(k))
     }
 
     fn compare(&self, got: Told, same_memory: bool) -> Result<(), Mismatch> {
@@ -134,16 +146,14 @@ impl<'a> Case<'a> {
         told::amount(print::write_list(&self.before[..self.capacity], record, out, self.style))
     }
 
-    fn printed(&self) -> Result<(), Mismatch> {
-        let mut out: [u8; BUFFER] = array::from_fn(unwritten);
+    fn printed(&self, out: &mut [u8; BUFFER]) -> Result<(), Mismatch> {
         let got = self.print(&mut out[..self.size]);
-        self.compare(got, out == self.written())
+        self.compare(got, self.is_left(out))
     }
 
     // Where the set is not printed, its number is the answer. It is read into a store of ones, all in use.
-    fn round_trip(&self) -> Result<(), Mismatch> {
-        let mut out: [u8; BUFFER] = array::from_fn(unwritten);
-        let got = self.print(&mut out);
+    fn round_trip(&self, out: &mut [u8; BUFFER]) -> Result<(), Mismatch> {
+        let got = self.print(&mut out[..]);
         if got.number != 0 {
             return self.compare(got, true);
         }
@@ -155,13 +165,14 @@ impl<'a> Case<'a> {
 
     // Makes the call, and compares its answer and what it leaves.
     pub(crate) fn replay(&self) -> Result<(), Mismatch> {
+        let mut buffer = self.buffer();
         match self.part {
             Part::Text => {
                 let mut store = self.before;
-                self.read(&mut store, self.count, &self.written()[..self.length])
+                self.read(&mut store, self.count, &buffer[..self.length])
             }
-            Part::Set => self.printed(),
-            Part::RoundTrip => self.round_trip(),
+            Part::Set => self.printed(&mut buffer),
+            Part::RoundTrip => self.round_trip(&mut buffer),
         }
     }
 }
