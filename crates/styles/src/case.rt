@@ -2,7 +2,6 @@
 ghost use Rattle.std.specs.Prelude.{◌≤◌};
 
 use listing::{Mismatch, unwritten};
-use std::array;
 use storage::{Bitmap, EMPTY};
 use style::Style;
 use told::Told;
@@ -108,10 +107,12 @@ impl<'a> Case<'a> {
         }
     }
 
-    // The buffer before the call: one for all parts, so that it stands on the stack once.
-    fn buffer(&self) -> [u8; BUFFER] {
+    // Makes a buffer what it is before the call.
+    fn fill(&self, out: &mut [u8; BUFFER]) {
         let is_text = matches!(self.part, Part::Text);
-        array::from_fn(|k| { if is_text { self.byte(k) } else { unwritten(k) } })
+        for (k, byte) in out.iter_mut().enumerate() {
+            *byte = if is_text { self.byte(k) } else { unwritten(k) };
+        }
     }
 
     // Whether a buffer has the text, and is unwritten behind it.
@@ -165,7 +166,9 @@ impl<'a> Case<'a> {
 
     // Makes the call, and compares its answer and what it leaves.
     pub(crate) fn replay(&self) -> Result<(), Mismatch> {
-        let mut buffer = self.buffer();
+        // One for all parts, and none that is moved: each would stand on the stack by itself.
+        let mut buffer = [0; BUFFER];
+        self.fill(&mut buffer);
         match self.part {
             Part::Text => {
                 let mut store = self.before;
