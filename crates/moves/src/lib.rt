@@ -90,15 +90,16 @@ fn turn_through(words: &mut [u64], m: usize, held: &mut [u64])
     }
 }
 
-// The same, with room for those that are held. One word by itself turns by std's method too, which needs no room for it.
+// The same, with room for those that are held. One word of few turns by std's method too, which needs no room for it.
 #[tactic(auto, unfolding(crate::specs::Moves::turned_words))]
 fn turn_held(words: &mut [u64], m: usize)
     requires { m ≤ length words.old }
     ensures { words.new ≡ turned_words m words.old }
 {
     match m.min(words.len() - m) {
-        2..=FEW => turn_through(words, m, &mut [0; FEW]),
-        2..=HELD => turn_through(words, m, &mut [0; HELD]),
+        1 if words.len() <= FEW => words.rotate_right(m),
+        1..=FEW => turn_through(words, m, &mut [0; FEW]),
+        1..=HELD => turn_through(words, m, &mut [0; HELD]),
         _ => words.rotate_right(m),
     }
 }
