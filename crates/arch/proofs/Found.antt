@@ -1,6 +1,6 @@
 -- What searches of a slice find, and eights of words as words.
-use Rattle.std.proofs.Common.{◌≡◌, ℕ, zero, suc, ◌+◌, ◌-◌, ◌*◌, ◌/◌, ◌%◌, ◌<◌, ◌≤◌, Bool, true, false, List, [], length, get_or, take, drop, refl, sym, ap, ◌∙◌, subst, arith, Bor, get_or-take, get_or-drop, length-drop, length-take-le, Iter}
-use Rattle.std.proofs.lemmas.List.{drop-drop, take_all}
+use Rattle.std.proofs.Common.{◌≡◌, ℕ, zero, suc, ◌+◌, ◌-◌, ◌*◌, ◌/◌, ◌%◌, ◌<◌, ◌≤◌, Bool, true, false, List, [], length, get_or, take, drop, refl, sym, ap, ◌∙◌, subst, arith, Bor, get_or-take, get_or-drop, length-take-le, Iter}
+use Rattle.std.proofs.lemmas.List.{drop-drop}
 use Rattle.std.specs.Prelude.{Option, Some, None, MatchOption, IfSome, IsSomeAnd}
 use Rattle.std.specs.List.{AllWithin, HoldsAt}
 use Rattle.std.specs.Option.{option_map, unwrap_or}
@@ -9,8 +9,8 @@ use Rattle.std.specs.Slice.Iter.{iter_rest, iter_steps_back}
 use Rattle.std.specs.Iterator.Adapters.{IterYieldsInReverse}
 use Rattle.std.specs.Iterator.Runs.{SomeRun, CallKeepsClosure, AllItemsGive, IsFirstToGive, ItemsMapToReversed}
 use denote.Param.Members.{Mut, Called}
-use Rattle.arch.specs.Scans.{Alike, first_other, word_found, nonzero_len}
-use Rattle.arch.proofs.Scans.{alike_to, alike_join, other_at, other_none, found_at, found_none, nonzero_at, nonzero_none}
+use Rattle.arch.specs.Scans.{Alike, nonzero_len}
+use Rattle.arch.proofs.Scans.{alike_to, alike_join, nonzero_at, nonzero_none}
 
 -- ---- the last element that a closure takes
 
@@ -116,36 +116,6 @@ eights_left ws first eights Yes r f e l = go r
         (λ i. (first + 8 * (i + 1) ≤ length ws) × Alike ws 0 (first + 8 * (i + 1)) (length ws))
     go None s = (omega arith, alike_to first (length ws) (zeros 0 s) (omega arith) (omega arith))
     go (Some i) s = (omega (arith, s.0), zeros (i + 1) s.2)
-
--- the words from m on, as a part of their own
-pub rest_alike : (ws : List ℕ) (x m e : ℕ) → AllWithin (λ w. w ≡ x) (drop m ws) 0 e → Alike ws x m (m + e)
-rest_alike ws x m e s = record {
-  at = λ k p q. ap (λ (n : ℕ). get_or ws n 0) (omega arith) ∙ sym (get_or-drop m ws (k - m) 0) ∙ s (k - m) 0 (omega arith) (omega arith);
-}
-
--- a search for a word other than x in the words from m on, where those before are x
-pub found_in_rest : (ws : List ℕ) (x m : ℕ) (r : Option ℕ) → m ≤ length ws → Alike ws x 0 m
-    → MatchOption r (AllWithin (λ w. w ≡ x) (take (length ws - m) (drop m ws)) 0 (length (take (length ws - m) (drop m ws))))
-    (λ i. (i < length (take (length ws - m) (drop m ws))) × HoldsAt (λ w. w ≡ x → ⊥) (take (length ws - m) (drop m ws)) i
-    × AllWithin (λ w. w ≡ x) (take (length ws - m) (drop m ws)) 0 i)
-    → MatchOption r (None ≡ word_found ws (first_other x ws)) (λ i. Some (m + i, get_or ws (m + i) 0) ≡ word_found ws (first_other x ws))
-found_in_rest ws x m r h s f = go r (subst (λ (ys : List ℕ). MatchOption r (AllWithin (λ w. w ≡ x) ys 0 (length ys)) (λ i. (i < length ys) × HoldsAt (λ w. w ≡ x → ⊥) ys i × AllWithin (λ w. w ≡ x) ys 0 i)) whole f)
-  where
-    whole : take (length ws - m) (drop m ws) ≡ drop m ws
-    whole = take_all (length ws - m) (drop m ws) (omega (arith, length-drop m ws))
-
-    go : (r : Option ℕ)
-        → MatchOption r (AllWithin (λ w. w ≡ x) (drop m ws) 0 (length (drop m ws)))
-        (λ i. (i < length (drop m ws)) × HoldsAt (λ w. w ≡ x → ⊥) (drop m ws) i × AllWithin (λ w. w ≡ x) (drop m ws) 0 i)
-        → MatchOption r (None ≡ word_found ws (first_other x ws)) (λ i. Some (m + i, get_or ws (m + i) 0) ≡ word_found ws (first_other x ws))
-    go None f =
-        found_none ws (length ws) (first_other x ws)
-        (other_none ws x (length ws) (alike_to 0 (length ws) (alike_join s (rest_alike ws x m (length (drop m ws)) f) (omega arith)) (omega arith) (omega (arith, length-drop m ws))) (omega arith))
-        (omega arith)
-    go (Some i) f =
-        found_at ws (m + i) (first_other x ws)
-        (other_at ws x (m + i) (alike_join s (rest_alike ws x m i f.2) (omega arith)) (omega (arith, length-drop m ws)) (λ e. f.1 0 (get_or-drop m ws i 0 ∙ e)))
-        (omega (arith, length-drop m ws))
 
 -- a search from the back for a word other than 0 below m, where those from m on are 0
 pub left_in_rest : (ws : List ℕ) (m : ℕ) (r : Option ℕ) → m ≤ length ws → Alike ws 0 m (length ws)

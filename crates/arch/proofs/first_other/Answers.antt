@@ -1,20 +1,10 @@
--- The words of the eights are x, and of the rest those before the one found, all of them where none is found.
-use Rattle.std.proofs.Common.{◌≡◌, ◌∙◌, rules}
-use borrow.Author.Tests.{tests}
-use Rattle.std.proofs.lemmas.Iterator.{YieldsList-from_slice, IsFirst-from_position}
-use Rattle.arch.proofs.Found.{found_in_rest}
+-- The first word other than x with its index, or nothing. Loop: every word below i is x.
+use Rattle.std.proofs.Common.{arith}
+use Rattle.arch.proofs.Scans.{other_at, other_none, found_at, found_none}
 use Rattle.arch.proofs.first_other.Goals as goal
 
-pub returns-in_err-i : goal.returns-in_err-i
-returns-in_err-i c =
-    let f = found_in_rest _ _ _ _ c.equal_eights-passed.ensures.0 c.equal_eights-passed.ensures.1
-    (IsFirst-from_position _ _ _ (λ w. w ≡ c.args.x → ⊥) (λ w. w ≡ c.args.x) c.position.ensures.ran (YieldsList-from_slice _ c.iter.ensures.rest)
-    (λ x q k. search (rules, tests)) (λ x q k. search (rules, tests))) in
-    c.from_residual.ensures ∙ rw c.in_err-i.was at f
+pub returns-then-word-x : goal.returns-then-word-x
+returns-then-word-x c = found_at _ _ _ (other_at _ _ _ c.loop-i.invariant (omega arith) c.if-word-x.true) (omega arith)
 
 pub returns : goal.returns
-returns c =
-    let f = found_in_rest _ _ _ _ c.equal_eights-passed.ensures.0 c.equal_eights-passed.ensures.1
-    (IsFirst-from_position _ _ _ (λ w. w ≡ c.args.x → ⊥) (λ w. w ≡ c.args.x) c.position.ensures.ran (YieldsList-from_slice _ c.iter.ensures.rest)
-    (λ x q k. search (rules, tests)) (λ x q k. search (rules, tests))) in
-    rw c.in_ok-i.was at f
+returns c = found_none _ _ _ (other_none _ _ _ c.loop-i.invariant (omega arith)) (omega arith)
