@@ -60,8 +60,10 @@ impl<'a> Scan<'a> {
             *byte = digit(*high)? << 4 | digit(*low)?;
         }
         if let Some(last) = first.last_chunk::<3>() {
-            for (byte, again) in later.iter_mut().zip(last.iter().cycle()) {
-                *byte = *again;
+            for part in later.chunks_mut(3) {
+                for (byte, again) in part.iter_mut().zip(last) {
+                    *byte = *again;
+                }
             }
         }
         Some(length)
