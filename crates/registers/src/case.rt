@@ -20,6 +20,15 @@ const NUMBERS: u64 = 16;
 // The bytes of a register's line.
 const LINE: usize = 73;
 
+// Whether the bytes of a buffer from a place on are unwritten. Each is looked at, which takes less time than to stop at the first that is not.
+fn is_unwritten(bytes: &[u8], from: usize) -> bool {
+    let bytes = bytes.iter().enumerate();
+    bytes.fold(
+        true,
+        |all: bool, (k, byte)| all & (*byte == unwritten(from.wrapping_add(k))),
+    )
+}
+
 // All words of a store and their count, the number that is right, the register, empty where it is refused, and the size of the buffer.
 #[derive(Clone, Copy)]
 pub struct Case<'a> {
@@ -60,13 +69,12 @@ impl<'a> Case<'a> {
         (self.text.len() / LINE) as u64
     }
 
-    // Whether a buffer has the text, and is unwritten behind it: byte by byte, as a second buffer would take as much stack again.
+    // Whether a buffer has the text, and is unwritten behind it: part by part, as a second buffer would take as much stack again.
     fn is_left(&self, out: &[u8; BUFFER]) -> bool {
-        let mut bytes = out.iter().enumerate();
-        bytes.all(|(k, byte)| match self.text.get(k) {
-            Some(right) => *byte == *right,
-            None => *byte == unwritten(k),
-        })
+        match out.split_at_checked(self.text.len()) {
+            Some((text, behind)) => *text == *self.text && is_unwritten(behind, text.len()),
+            None => false,
+        }
     }
 
     fn answered(&self, got: Told) -> bool {

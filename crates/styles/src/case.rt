@@ -17,6 +17,15 @@ pub(crate) const LONGEST: usize = 19 + BUFFER / 8;
 // The largest number of an answer.
 const NUMBERS: u64 = 16;
 
+// Whether the bytes of a buffer from a place on are unwritten. Each is looked at, which takes less time than to stop at the first that is not.
+fn is_unwritten(bytes: &[u8], from: usize) -> bool {
+    let bytes = bytes.iter().enumerate();
+    bytes.fold(
+        true,
+        |all: bool, (k, byte)| all & (*byte == unwritten(from.wrapping_add(k))),
+    )
+}
+
 // What a case does.
 #[derive(Clone, Copy)]
 pub enum Part {
@@ -99,26 +108,31 @@ impl<'a> Case<'a> {
         })
     }
 
-    // Byte k of a buffer with the text, and unwritten behind it.
-    fn byte(&self, k: usize) -> u8 {
-        match self.text.get(k / 8) {
-            Some(word) if k < self.length => word.to_be_bytes()[k % 8],
-            _ => unwritten(k),
-        }
-    }
-
     // Makes a buffer what it is before the call.
     fn fill(&self, out: &mut [u8; BUFFER]) {
-        let is_text = matches!(self.part, Part::Text);
         for (k, byte) in out.iter_mut().enumerate() {
-            *byte = if is_text { self.byte(k) } else { unwritten(k) };
+            *byte = unwritten(k);
+        }
+        if matches!(self.part, Part::Text) {
+            for (part, word) in out[..self.length].chunks_mut(8).zip(self.text) {
+                for (byte, right) in part.iter_mut().zip(word.to_be_bytes()) {
+                    *byte = right;
+                }
+            }
         }
     }
 
     // Whether a buffer has the text, and is unwritten behind it.
     fn is_left(&self, out: &[u8; BUFFER]) -> bool {
-        let mut bytes = out.iter().enumerate();
-        bytes.all(|(k, byte)| *byte == self.byte(k))
+        let (text, behind) = out.split_at(self.length);
+        for (part, word) in text.chunks(8).zip(self.text) {
+            for (byte, right) in part.iter().zip(word.to_be_bytes()) {
+                if *byte != right {
+                    return false;
+                }
+            }
+        }
+        is_unwritten(behind, self.length)
     }
 
     fn compare(&self, got: Told, same_memory: bool) -> Result<(), Mismatch> {
