@@ -80,13 +80,13 @@ fn turn_through(words: &mut [u64], m: usize, held: &mut [u64])
 {
     let rest = words.len() - m;
     if m <= rest {
-        held[..m].copy_from_slice(&words[rest..]);
+        copy_words(&mut held[..m], &words[rest..]);
         move_up(words, m);
-        words[..m].copy_from_slice(&held[..m]);
+        copy_words(&mut words[..m], &held[..m]);
     } else {
-        held[..rest].copy_from_slice(&words[..rest]);
+        copy_words(&mut held[..rest], &words[..rest]);
         move_down(words, rest);
-        words[m..].copy_from_slice(&held[..rest]);
+        copy_words(&mut words[m..], &held[..rest]);
     }
 }
 
@@ -105,7 +105,8 @@ fn turn_held(words: &mut [u64], m: usize)
 }
 
 // The last m words go before the others; by as many words as there are, or more, nothing turns. What is left to turn are the first `low` words and the
-// `high` after them: the shorter part changes places with as many words of the longer, and those that then stand last are where they belong.
+// `high` after them: the shorter part changes places with as many words of the longer, and those that then stand last are where they belong. Two parts
+// of one length are turned by that alone.
 pub fn turn_words(words: &mut [u64], m: usize)
     ensures { words.new ≡ turned_words m words.old }
 {
@@ -114,7 +115,7 @@ pub fn turn_words(words: &mut [u64], m: usize)
         return;
     }
     let (mut low, mut high) = (n - m, m);
-    while low.min(high) > ROOM {
+    while low.min(high) > ROOM || low == high && low > HELD {
         if high <= low {
             low -= high;
             swap_words(words, low, low + high, high);

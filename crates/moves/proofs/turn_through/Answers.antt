@@ -9,12 +9,12 @@ pub returns-then-m-rest : goal.returns-then-m-rest
 returns-then-m-rest c =
     turned_up_lem _ _ _ _ (omega arith)
     (held_part _ _ _ _ _ (last_long c.args.words.now c.args.m (omega arith))
-    c.copy_from_slice.ensures.after c.copy_from_slice-then-m-rest.ensures.after)
+    c.copy_words.ensures c.copy_words-then-m-rest.ensures)
     (gone_up _ _ _ c.move_up.ensures)
 
 pub returns-else-m-rest : goal.returns-else-m-rest
 returns-else-m-rest c =
     turned_down_lem _ _ _ _ (omega arith)
     (held_part _ _ _ _ _ (length-take-le _ _ (omega arith))
-    c.copy_from_slice-else-m-rest.ensures.after c.copy_from_slice-else-m-rest-2.ensures.after)
+    c.copy_words-else-m-rest.ensures c.copy_words-else-m-rest-2.ensures)
     (gone_down _ _ _ c.move_down.ensures)
