@@ -107,17 +107,13 @@ fn turn_held(words: &mut [u64], m: usize)
     }
 }
 
-// The last m words go before the others; by as many words as there are, or more, nothing turns. What is left to turn are the first `low` words and the
-// `high` after them: the shorter part changes places with as many words of the longer, and those that then stand last are where they belong. Two parts
-// of one length are turned by that alone.
-pub fn turn_words(words: &mut [u64], m: usize)
+// The last m words go before the others. What is left to turn are the first `low` words and the `high` after them: the shorter part changes places with as
+// many words of the longer, and those that then stand last are where they belong. Two parts of one length are turned by that alone.
+fn turn_blocks(words: &mut [u64], m: usize)
+    requires { m ≤ length words.old }
     ensures { words.new ≡ turned_words m words.old }
 {
-    let n = words.len();
-    if m >= n {
-        return;
-    }
-    let (mut low, mut high) = (n - m, m);
+    let (mut low, mut high) = (words.len() - m, m);
     while low.min(high) > ROOM || low == high && low > HELD {
         if high <= low {
             low -= high;
@@ -128,4 +124,15 @@ pub fn turn_words(words: &mut [u64], m: usize)
         }
     }
     turn_held(&mut words[..low + high], high);
+}
+
+// The last m words go before the others; by none, by as many words as there are, or by more, nothing turns. A turn by odd bits alone has no words to turn,
+// and pays for no room.
+#[tactic(auto, using(crate::proofs::Swaps::turned_past), unfolding(crate::specs::Moves::turned_words))]
+pub fn turn_words(words: &mut [u64], m: usize)
+    ensures { words.new ≡ turned_words m words.old }
+{
+    if 0 < m && m < words.len() {
+        turn_blocks(words, m);
+    }
 }

@@ -2,11 +2,8 @@
 use mathlib.Core.Path.{refl, sym, ◌∙◌}
 use native.Mathlib.Omega.{arith}
 use lib.Seq.{length-take-le}
-use Rattle.moves.proofs.Swaps.{turned_past, turning_none, turning_low, turning_high, turning_all}
-use Rattle.moves.proofs.turn_words.Goals as goal
-
-pub returns-then-m-n : goal.returns-then-m-n
-returns-then-m-n c = turned_past _ _ (omega arith)
+use Rattle.moves.proofs.Swaps.{turning_none, turning_low, turning_high, turning_all}
+use Rattle.moves.proofs.turn_blocks.Goals as goal
 
 pub loop-low-init : goal.loop-low-init
 loop-low-init c = (omega arith, refl, omega arith, turning_none _ _ (omega arith))
