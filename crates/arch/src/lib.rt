@@ -38,8 +38,7 @@ fn equal_eights(words: &[u64], x: u64) -> usize
     8 * passed.unwrap_or(eights.len())
 }
 
-// The first word other than x, with its index. Long scans test eight words at a time. By index: of what `position` finds the word is read once more, and
-// a walk over a bitmap of few notes takes 1.3 times as long.
+// The first word other than x, with its index. Long scans test eight words at a time. By index: where `position` finds it, the word is read once more.
 fn first_other(words: &[u64], x: u64) -> Option<(usize, u64)>
     ensures { result ≡ word_found words.now (first_other x words.now) }
 {

@@ -64,7 +64,7 @@ pub fn move_down(words: &mut [u64], whole: usize)
     }
 }
 
-// The m words before index b change places with as many that end at `end`.
+// The m words from index a on and the m from index b on change places.
 fn swap_words(words: &mut [u64], a: usize, b: usize, m: usize)
     requires { (a + m ≤ b) × (b + m ≤ length words.old) }
     ensures { Swapped a b m words.old words.new }
